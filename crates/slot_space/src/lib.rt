@@ -1,0 +1,7 @@
+//! Names of nodes, slots and threads, the geometry of the slots, and sets of slots.
+//! A layer above uses that a set of slots means the ascending list of its members.
+#![tactic(auto)]
+
+mod names;
+
+pub use names::{NodeNo, Reply, SlotNo, Tid};
