@@ -1,6 +1,7 @@
 //! The bytes of one slot.
 
-ghost use Rattle.std.specs.Prelude.{◌≡◌, ℕ, List, length, All, IfOk, slice_get, slice_set, Some};
+ghost use Rattle.std.specs.Prelude.{◌≡◌, ℕ, List, length, All, IfOk, slice_get, slice_set, Some, ◌+◌, ◌≤◌};
+ghost use Rattle.std.specs.List.{splice};
 
 use basics::NoMemory;
 use std::alloc::{AllocError, Global};
@@ -59,4 +60,13 @@ pub(crate) fn set_slot_byte(block: &mut SlotMem, at: u16, byte: u8)
     ensures { block.new ≡ slice_set block.old at byte }
 {
     block.bytes[at as usize] = byte;
+}
+
+/// Writes over the bytes from a place of the slot on.
+pub(crate) fn set_slot_bytes(block: &mut SlotMem, at: usize, from: &[u8])
+    requires { at + length from.now ≤ 65536 }
+    ensures bytes { block.new ≡ splice block.old at (at + length from.now) from.now }
+    ensures len { length block.old ≡ 65536 }
+{
+    block.bytes[at..at + from.len()].copy_from_slice(from);
 }
