@@ -1,5 +1,5 @@
 -- The image of a program: bytes from 0x10000 on, and services by their numbers.
-use Rattle.std.specs.Prelude.{ℕ, ◌+◌, ◌-◌, ◌%◌, ◌^◌, ◌≡◌, ◌<◌, ◌≤◌, ◌==◌, ◌&&◌, nat_le, List, [], ◌∷◌, length, slice_get, slice_index, find, All, Option, Some, None, if◌then◌else◌}
+use Rattle.std.specs.Prelude.{ℕ, ◌+◌, ◌-◌, ◌%◌, ◌^◌, ◌≡◌, ◌<◌, ◌≤◌, ◌==◌, ◌&&◌, nat_le, List, [], ◌∷◌, length, slice_get, slice_range, find, All, Option, Some, None, if◌then◌else◌}
 use Rattle.std.specs.Option.{option_map}
 use Rattle.std.specs.List.{AllPairs}
 use Rattle.std.specs.Int.{from_le_bytes, w32}
@@ -18,8 +18,7 @@ image_byte image address =
 abbrev pub image_word : List ℕ → ℕ → Option ℕ
 image_word image address =
     if nat_le image_start address && nat_le (address + 4) (image_start + length image)
-    then Some (from_le_bytes w32 (slice_index image (address - image_start) ∷ slice_index image (address - image_start + 1)
-    ∷ slice_index image (address - image_start + 2) ∷ slice_index image (address - image_start + 3) ∷ []))
+    then Some (from_le_bytes w32 (slice_range image (address - image_start) (address - image_start + 4)))
     else None
 
 -- where the service of a number starts, None where there is no such service

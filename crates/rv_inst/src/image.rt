@@ -85,5 +85,7 @@ fn word_in(bytes: &[u8], address: u64) -> Option<u32>
         return None;
     }
     let at = at as usize;
-    Some(u32::from_le_bytes([bytes[at], bytes[at + 1], bytes[at + 2], bytes[at + 3]]))
+    let mut word = [0; 4];
+    word.copy_from_slice(&bytes[at..at + 4]);
+    Some(u32::from_le_bytes(word))
 }
