@@ -1,0 +1,6 @@
+pub mod Ascending
+mod Ones
+pub mod Runs
+mod Search
+pub mod Sets
+mod Words

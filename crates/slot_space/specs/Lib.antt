@@ -1,0 +1,5 @@
+pub mod Places
+pub mod Replies
+pub mod Sets
+pub mod Words
+pub mod WordsBack

@@ -2,6 +2,12 @@
 //! A layer above uses that a set of slots means the ascending list of its members.
 #![tactic(auto)]
 
+mod bits;
+mod geometry;
 mod names;
+mod slot_set;
+mod word;
 
+pub use geometry::Geometry;
 pub use names::{NodeNo, Reply, SlotNo, Tid};
+pub use slot_set::SlotSet;

@@ -1,5 +1,8 @@
 //! The names by which nodes, slots and threads are told apart, and the replies of the library.
 
+ghost use Rattle.std.specs.Prelude.{◌≡◌};
+ghost use Rattle.slot_space.specs.Replies.{reply_code, tid_value};
+
 use std::marker::Model;
 
 /// A node's number, from 0 to 7. Contracts see the number.
@@ -43,6 +46,15 @@ pub struct Tid {
     pub seq: u32,
 }
 
+impl Tid {
+    /// The name as a guest has it: home * 2^32 + seq.
+    pub fn value(self) -> u64
+        ensures { result ≡ tid_value self }
+    {
+        self.home.0 as u64 * 0x1_0000_0000 + self.seq as u64
+    }
+}
+
 /// What the library answers to a call.
 #[derive(Clone, Copy, Debug, PartialEq, Eq)]
 pub enum Reply {
@@ -54,4 +66,22 @@ pub enum Reply {
     Taken,
     NoService,
     TooLong,
+}
+
+impl Reply {
+    /// The reply as a0 has it: the value, or the two's complement of -1 for `BadArgument` to -7 for `TooLong`.
+    pub fn code(&self) -> u64
+        ensures { result ≡ reply_code self.now }
+    {
+        match self {
+            Reply::Value(value) => *value,
+            Reply::BadArgument => u64::MAX,
+            Reply::NoSuch => u64::MAX - 1,
+            Reply::NotHere => u64::MAX - 2,
+            Reply::Full => u64::MAX - 3,
+            Reply::Taken => u64::MAX - 4,
+            Reply::NoService => u64::MAX - 5,
+            Reply::TooLong => u64::MAX - 6,
+        }
+    }
 }
