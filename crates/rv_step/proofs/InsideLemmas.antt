@@ -1,6 +1,7 @@
 -- An access inside one held slot is an access to that slot's bytes.
 use Rattle.std.proofs.Common.{◌≡◌, ℕ, zero, suc, ◌+◌, ◌-◌, ◌*◌, ◌/◌, ◌%◌, ◌<◌, ◌≤◌, ◌^◌, Bool, true, false, List, [], ◌∷◌, ◌++◌, take, drop, length, get_or, set, Option, Some, None, refl, sym, ap, ◌∙◌, inl, inr, arith, add-one}
 use lib.Seq.{paste}
+use Rattle.std.proofs.Math.Seq.{map-set_same}
 use Rattle.std.specs.Prelude.{is_some, slice_get, slice_set, slice_index, slice_range, ◌&&◌, ◌==◌, ◌||◌, nat_lt, nat_le, unwrap_or, if◌then◌else◌}
 use Rattle.std.specs.Option.{option_and_then, option_map_or, option_or}
 use Rattle.std.specs.List.{position, position_or_len, splice}
@@ -12,7 +13,7 @@ use Rattle.std.proofs.lemmas.List.Folds.{position_or_len-set}
 use Rattle.std.proofs.lemmas.List.Quantifiers.{position-Some}
 use Rattle.std.proofs.lemmas.Option.{slice_get-get_or}
 use Rattle.rv_step.specs.declared.memory.Held.{Held}
-use Rattle.rv_step.specs.Memory.{Memory, held_byte, byte_in, place_of, slot_place, slot_of, slots_start, slots_end}
+use Rattle.rv_step.specs.Memory.{Memory, held_byte, byte_in, place_of, slots_of, slot_place, slot_of, slots_start, slots_end}
 use Rattle.rv_step.specs.Access.{byte_at, readable, writable, bytes_from, stored, with_byte, changed_in, read, written}
 
 -- an address of a slot lies between the first and the last of them
@@ -147,3 +148,8 @@ written_inside m a p bytes held e there fits len =
       writable_inside m a p (length bytes) held e (held_at m a p held e there) fits len,
       stored_inside m a p (length bytes) bytes held e inside (sym there) fits (omega arith) len,
     ) (ap (λ (b : List ℕ). Some (block b)) all)
+
+-- a write of a block keeps the slots
+pub slots_set : (m : Memory) (p : ℕ) (held new : Held) → held ≡ get_or m p held → new.slot ≡ held.slot → slots_of (set m p new) ≡ slots_of m
+slots_set m p held new there same =
+    map-set_same (λ (h : Held). h.slot) m p new held (same ∙ ap (λ (h : Held). h.slot) there)
