@@ -1,0 +1,4 @@
+mod Crosses
+mod Lodging
+mod Values
+pub mod Zeros

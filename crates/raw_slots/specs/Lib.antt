@@ -1,0 +1,4 @@
+pub mod Bytes
+pub mod Chained
+pub mod Lending
+pub mod Zeros

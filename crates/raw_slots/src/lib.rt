@@ -1,0 +1,14 @@
+//! Raw blocks of 65,536 bytes, the memory of slots, and a pool of spare ones.
+//! A layer above uses that a block is its bytes, and that a pool with a spare block can't fail to give one, of zeros.
+#![tactic(auto)]
+
+mod chain;
+mod memory;
+mod pool;
+mod shell;
+mod slot_mem;
+#[cfg(test)]
+mod tests;
+
+pub use pool::Pool;
+pub use slot_mem::SlotMem;

@@ -1,0 +1,115 @@
+//! A pool of spare blocks.
+
+ghost use Rattle.std.specs.Prelude.{◌≡◌, ◌+◌, ◌-◌, ◌^◌, ◌<◌, ◌≤◌, max, min, IfOk, IsOk, OnOk, OnErr};
+ghost use Rattle.raw_slots.specs.Zeros.{zeros};
+
+use crate::chain::{Chain, SIZE};
+use crate::memory::Memory;
+use crate::slot_mem::SlotMem;
+use basics::NoMemory;
+use std::alloc::Global;
+use std::marker::Model;
+use std::mem::replace;
+
+/// Spare blocks, each of which points to the next. Contracts see how many they are.
+pub struct Pool {
+    chain: Chain<Global>,
+    spare: u32,
+    alloc: Global,
+}
+
+impl Model for Pool {
+    ghost use Rattle.std.specs.Prelude.{◌≡◌, ℕ};
+
+    ghost Value = { ℕ };
+
+    ghost view = { λ p. p.spare };
+
+    ghost invariant = { λ p. (p.chain.count ≡ p.spare) × (p.chain.alloc ≡ p.alloc) };
+}
+
+impl Pool {
+    /// No spare block. Later calls use this allocator.
+    pub fn new(alloc: Global) -> Pool
+        ensures { result ≡ 0 }
+    {
+        Pool {
+            chain: Chain::empty(&alloc),
+            spare: 0,
+            alloc,
+        }
+    }
+
+    /// How many blocks are spare.
+    pub fn spare(&self) -> u32
+        ensures value { result ≡ self.now }
+        ensures range { self.now < 2 ^ 32 }
+    {
+        self.spare
+    }
+
+    /// Makes blocks until at least `n` are spare. Where there is no memory for all, those that were made stay.
+    pub fn reserve(&mut self, n: u32) -> Result<(), NoMemory>
+        ensures ok { OnOk result (self.new ≡ max self.old n) }
+        ensures err { OnErr result ((self.old ≤ self.new) × (self.new < n)) }
+    {
+        while self.spare < n {
+            let Some((memory, lease)) = Memory::new(&self.alloc, SIZE) else {
+                return Err(NoMemory);
+            };
+            let empty = Chain::empty(&self.alloc);
+            let chain = replace(&mut self.chain, empty);
+            self.chain = chain.push(memory, lease);
+            self.spare += 1;
+        }
+        Ok(())
+    }
+
+    /// A block of zeros. It can't fail where a block is spare; where none is, it asks for memory.
+    pub fn take(&mut self) -> Result<SlotMem, NoMemory>
+        ensures zeroed { IfOk result (λ block. block ≡ zeros 65536) }
+        ensures spare { 0 < self.old → IsOk result × (self.new + 1 ≡ self.old) }
+        ensures none { self.old ≡ 0 → self.new ≡ 0 }
+    {
+        if self.spare == 0 {
+            return SlotMem::new(self.alloc);
+        }
+        let empty = Chain::empty(&self.alloc);
+        let chain = replace(&mut self.chain, empty);
+        let ((memory, lease), rest) = chain.pop(SIZE);
+        self.chain = rest;
+        self.spare -= 1;
+        Ok(SlotMem::zeroed(memory, lease, self.alloc))
+    }
+
+    /// Takes a block back as a spare one, without memory. A pool of `u32::MAX` spare blocks gives it up instead.
+    pub fn put(&mut self, block: SlotMem)
+        ensures spare { self.new ≡ min (self.old + 1) (2 ^ 32 - 1) }
+    {
+        if self.spare == u32::MAX {
+            return;
+        }
+        let (memory, lease) = block.into_block(self.alloc);
+        let empty = Chain::empty(&self.alloc);
+        let chain = replace(&mut self.chain, empty);
+        self.chain = chain.push(memory, lease);
+        self.spare += 1;
+    }
+}
+
+/// Gives the memory of each spare block up.
+impl Drop for Pool {
+    fn drop(self) {
+        let Pool {
+            chain,
+            spare,
+            alloc,
+        } = self;
+        let mut chain = chain;
+        for _n in 0..spare {
+            let ((memory, lease), rest) = chain.pop(SIZE);
+            chain = rest;
+            memory.free(lease, &alloc);
+        }
+    }
+}
