@@ -1,0 +1,11 @@
+pub mod Fit
+pub mod Edits
+pub mod Parts
+pub mod Rows
+pub mod LiveBlocks
+pub mod SlotBytes
+pub mod FreeBytes
+pub mod Lengths
+pub mod KeptBy
+pub mod Beside
+pub mod Placing

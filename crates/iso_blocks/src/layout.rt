@@ -1,0 +1,125 @@
+//! The parts of the block layer, and what each step does to all of them.
+
+ghost use Rattle.std.specs.Prelude.{◌≡◌, ℕ, ◌+◌, ◌-◌, ◌*◌, ◌%◌, ◌<◌, ◌≤◌, ◌^◌, true, false, List, [], ◌∷◌, Some, None, OnOk, OnErr, IfOk, IfSome, MatchOption, length, slice_index_or, vec_len, vec_capacity};
+ghost use Rattle.slot_space.specs.Sets.{has, insert, union, minus, run};
+ghost use Rattle.iso_blocks.specs.Bytes.{is_met};
+ghost use Rattle.iso_blocks.specs.Heap.{Heap, Fits, IsLowestFit, placed, with_slots, without, starts_at, emptied, freed};
+ghost use Rattle.iso_blocks.specs.Kept.{heap_of, holes_to_be, IsKept};
+
+use crate::holes;
+use crate::live;
+use crate::space;
+use basics::NoMemory;
+use slot_space::{SlotNo, SlotSet};
+use std::alloc::Global;
+
+/// The live blocks, the holes between them, the heap slots, those of them that a block meets, and how many heap slots there are.
+#[derive(Drop)]
+pub struct Layout {
+    pub live: Vec<(u64, u64)>,
+    pub holes: Vec<(u64, u64)>,
+    pub heap: SlotSet,
+    pub met: SlotSet,
+    pub slots: usize,
+}
+
+impl Layout {
+    /// No slot and no block.
+    pub fn new(alloc: Global) -> Layout
+        ensures kept { IsKept result }
+        ensures empty { heap_of result ≡ record { live = []; slots = [] } }
+    {
+        Layout {
+            live: Vec::new(alloc),
+            holes: Vec::new(alloc),
+            heap: SlotSet::empty(),
+            met: SlotSet::empty(),
+            slots: 0,
+        }
+    }
+
+    /// Makes room for `more` holes beyond those that frees can make.
+    fn reserve(&mut self, more: usize) -> Result<(), NoMemory>
+        requires kept { IsKept self.old }
+        requires few { more ≤ 2 ^ 14 }
+        ensures kept { IsKept self.new }
+        ensures same { heap_of self.new ≡ heap_of self.old }
+        ensures room { OnOk result (holes_to_be self.new + more ≤ vec_capacity self.new.holes) }
+    {
+        self.holes.reserve(self.live.len() + self.slots + more)?;
+        Ok(())
+    }
+
+    /// Makes the free bytes from `address` on a live block.
+    pub fn settle(&mut self, address: u64, size: u64) -> Result<(), NoMemory>
+        requires kept { IsKept self.old }
+        requires some { 16 ≤ size }
+        requires whole { size % 16 ≡ 0 }
+        requires fits { Fits (heap_of self.old) size address }
+        ensures kept { IsKept self.new }
+        ensures ok { OnOk result (heap_of self.new ≡ placed (heap_of self.old) size (Some address)) }
+        ensures err { OnErr result (heap_of self.new ≡ heap_of self.old) }
+    {
+        self.reserve(2)?;
+        let k = live::starting_before(&self.live, address);
+        self.live.insert(k, (address, size))?;
+        let end = address + size;
+        holes::occupy(&mut self.holes, address, end);
+        let (first, count) = space::slots_of(address, size);
+        self.met.insert_run(SlotNo(first), count);
+        Ok(())
+    }
+
+    /// Places a block at the lowest address at which it fits.
+    pub fn place(&mut self, size: u64) -> Result<Option<u64>, NoMemory>
+        requires kept { IsKept self.old }
+        requires some { 16 ≤ size }
+        requires whole { size % 16 ≡ 0 }
+        ensures kept { IsKept self.new }
+        ensures lowest { IfOk result (IsLowestFit (heap_of self.old) size) }
+        ensures ok { IfOk result (λ place. heap_of self.new ≡ placed (heap_of self.old) size place) }
+        ensures err { OnErr result (heap_of self.new ≡ heap_of self.old) }
+    {
+        match holes::first_fit(&self.holes, size) {
+            None => Ok(None),
+            Some(k) => {
+                let address = self.holes[k].0;
+                self.settle(address, size)?;
+                Ok(Some(address))
+            }
+        }
+    }
+
+    /// Takes the slot into the heap, where it isn't there yet. There is room for two holes more.
+    fn add_slot(&mut self, slot: u16)
+        requires kept { IsKept self.old }
+        requires small { slot < 4096 }
+        requires room { holes_to_be self.old + 2 ≤ vec_capacity self.old.holes }
+        ensures kept { IsKept self.new }
+        ensures heap { heap_of self.new ≡ record { live = self.old.live.items; slots = insert slot self.old.heap } }
+        ensures added { holes_to_be self.new ≤ holes_to_be self.old + 2 }
+        ensures capacity { vec_capacity self.old.holes ≤ vec_capacity self.new.holes }
+    {
+        if self.heap.contains(SlotNo(slot)) {
+            return;
+        }
+        let start = space::base(slot);
+        holes::release(&mut self.holes, start, start + space::SIZE);
+        self.heap.insert(SlotNo(slot));
+        self.slots += 1;
+    }
+
+    /// Gives up a heap slot that no block meets.
+    fn drop_slot(&mut self, slot: u16)
+        requires kept { IsKept self.old }
+        requires there { has slot self.old.heap ≡ true }
+        requires unmet { is_met self.old.live.items slot ≡ false }
+        ensures kept { IsKept self.new }
+        ensures heap { heap_of self.new ≡ record { live = self.old.live.items; slots = minus self.old.heap (slot ∷ []) } }
+    {
+        let start = space::base(slot);
+        holes::occupy(&mut self.holes, start, start + space::SIZE);
+        self.heap.remove(SlotNo(slot));
+        self.slots -= 1;
+    }
+}
