@@ -7,7 +7,7 @@ use Rattle.slot_space.specs.Places.{slot_base, HoldsAddress}
 use Rattle.slot_space.specs.Sets.{has, run}
 use Rattle.iso_blocks.specs.Bytes.{is_met}
 use Rattle.iso_blocks.specs.Heap.{IsBlock, StandFrom, without}
-use Rattle.iso_blocks.specs.Neighbours.{end_before, start_of}
+use Rattle.iso_blocks.specs.Neighbours.{end_before, start_of, Owns}
 use Rattle.iso_blocks.proofs.LiveBlocks.{meets, or-assoc, or-false, without-behind}
 use Rattle.iso_blocks.proofs.SlotBytes.{meets-run}
 
@@ -107,13 +107,6 @@ outcome false true true false f g h = refl
 outcome false true false false f g h = h refl refl
 outcome false false true false f g h = refl
 outcome false false false false f g h = refl
-
--- the slots of a block that no neighbour shares
-pub record Owns (before after first count from end : ℕ) : Type 0 where
-  pub from_shared : slot_base first < before → from ≡ first + 1
-  pub from_own : before ≤ slot_base first → from ≡ first
-  pub end_shared : after < slot_base (first + count) → end + 1 ≡ first + count
-  pub end_own : slot_base (first + count) ≤ after → end ≡ first + count
 
 -- which slots are met once a block goes: those that were, but the ones that are its own
 pub is_met-gone : (slots : List ℕ) (live : List (ℕ × ℕ)) (k a n first count from end s : ℕ) → StandFrom 0 slots live → k < length live → (a, n) ≡ get_or live k (a, n) → 16 ≤ n

@@ -1,5 +1,5 @@
 -- The parts of the block layer stay in step through each of its four changes.
-use Rattle.std.proofs.Common.{◌⊎◌, refl, subst, sym, ◌∙◌, ap, ◌≡◌, ℕ, ◌+◌, ◌-◌, ◌*◌, ◌%◌, ◌<◌, ◌≤◌, Bool, true, false, List, [], ◌∷◌, length, get_or, arith, ⊎_elim, not, ◌||◌, ◌&&◌, cond, vec_capacity, zero, suc}
+use Rattle.std.proofs.Common.{◌⊎◌, refl, subst, sym, ◌∙◌, ap, ◌≡◌, ℕ, ◌+◌, ◌-◌, ◌*◌, ◌%◌, ◌<◌, ◌≤◌, Bool, true, false, List, [], ◌∷◌, length, get_or, arith, ⊎_elim, not, ◌||◌, ◌&&◌, cond, vec_capacity, zero, suc, drop}
 use Rattle.std.proofs.lemmas.Bool.{false≢true, true≢false, le-leb, lt-ltb, cases_lt, cases_Bool, and_parts, not-true, or_right}
 use Rattle.slot_space.specs.Sets.{has, insert, union, minus, run, IsAscending, IsSlotSet}
 use Rattle.slot_space.specs.Places.{slot_base, HoldsAddress}
@@ -12,9 +12,12 @@ use Rattle.iso_blocks.specs.Holes.{in_holes, StandApart, AreFree, AreTaken, cut,
 use Rattle.iso_blocks.specs.Kept.{heap_of, IsKept}
 use Rattle.iso_blocks.proofs.Fit.{lies_in-true}
 use Rattle.iso_blocks.proofs.Edits.{in_holes-cut, StandApart-cut, length-cut, in_holes-join, StandApart-join, length-join}
-use Rattle.iso_blocks.proofs.LiveBlocks.{meets, StandFrom-with_block, StandFrom-without, StandFrom-slots, is_met-with_block, in_blocks-in_slots}
+use Rattle.iso_blocks.proofs.LiveBlocks.{meets, StandFrom-with_block, StandFrom-without, StandFrom-slots, is_met-with_block, in_blocks-in_slots, block_at}
 use Rattle.iso_blocks.proofs.SlotBytes.{in_slots-has, in_slots-some, in_slots-insert, in_slots-minus, is_met-false, meets-run}
 use Rattle.iso_blocks.proofs.FreeBytes.{is_free-with_block, is_free-without, is_free-insert, is_free-minus, slot_is_free, slot_is_taken, block_is_taken}
+use Rattle.std.specs.Prelude.{nat_lt, nat_le}
+use Rattle.iso_blocks.specs.Neighbours.{end_before, start_of, Owns}
+use Rattle.iso_blocks.proofs.Beside.{is_met-gone}
 use Rattle.iso_blocks.proofs.Lengths.{length-with_block, length-without, length-insert, length-minus}
 
 -- bytes that fit lie in holes
@@ -27,17 +30,25 @@ fits_block l size a f some whole =
     record { aligned = f.aligned; rounded = whole; some = some;
         inside = λ x lo hi. (and_parts (in_slots l.heap x) (not (in_blocks l.live.items x)) (f.free x lo hi)).0 }
 
+-- bytes in slots lie within the memory of all slots
+slots_within : (slots : List ℕ) (a n : ℕ) → IsSlotSet slots → 0 < n → ((x : ℕ) → a ≤ x → x < a + n → in_slots slots x ≡ true) → (slot_base 0 ≤ a) × (a + n ≤ slot_base 4096)
+slots_within slots a n proper some inside =
+    let first = in_slots-some slots a (inside a (omega arith) (omega arith)) in
+    let last = in_slots-some slots (a + n - 1) (inside (a + n - 1) (omega arith) (omega arith)) in
+    let small = proper.small last.0 last.1 in
+    (omega (arith, first.2.0), omega (arith, last.2.1, small))
+
 -- what fits lies within the memory of all slots
 pub fits_within : (l : Layout) (size a : ℕ) → IsKept l → Fits (heap_of l) size a → 16 ≤ size → (slot_base 0 ≤ a) × (a + size ≤ slot_base 4096)
 fits_within l size a k f some =
-    let block = fits_block_inside l size a f in
-    let first = in_slots-some l.heap a (block a (omega arith) (omega arith)) in
-    let last = in_slots-some l.heap (a + size - 1) (block (a + size - 1) (omega arith) (omega arith)) in
-    let small = k.proper.small last.0 last.1 in
-    (omega (arith, first.2.0), omega (arith, last.2.1, small))
-  where
-    fits_block_inside : (l : Layout) (size a : ℕ) → Fits (heap_of l) size a → (x : ℕ) → a ≤ x → x < a + size → in_slots l.heap x ≡ true
-    fits_block_inside l size a f x lo hi = (and_parts (in_slots l.heap x) (not (in_blocks l.live.items x)) (f.free x lo hi)).0
+    slots_within l.heap a size k.proper (omega arith) (λ x lo hi. (and_parts (in_slots l.heap x) (not (in_blocks l.live.items x)) (f.free x lo hi)).0)
+
+-- a live block lies within the memory of all slots
+pub block_within : (l : Layout) (k : ℕ) (b : ℕ × ℕ) → IsKept l → k < length l.live.items → b ≡ get_or l.live.items k b → (slot_base 0 ≤ b.0) × (b.0 + b.1 ≤ slot_base 4096) × (16 ≤ b.1)
+block_within l k b kept within read =
+    let block = block_at 0 l.heap l.live.items b k kept.sound within read in
+    let w = slots_within l.heap b.0 b.1 kept.proper (omega (arith, block.some)) block.inside in
+    (w.0, w.1, block.some)
 
 -- a block comes in
 pub record Settles (l m : Layout) (a size first count last : ℕ) : Type 0 where
@@ -138,14 +149,9 @@ pub record Leaves (l m : Layout) (a size k : ℕ) : Type 0 where
   pub slots : m.slots ≡ l.slots
   pub room : vec_capacity l.holes ≤ vec_capacity m.holes
 
-block_at : (low : ℕ) (slots : List ℕ) (live : List (ℕ × ℕ)) (a size k : ℕ) → StandFrom low slots live → k < length live → (a, size) ≡ get_or live k (a, size) → IsBlock slots (a, size)
-block_at low slots [] a size k s l read = absurd (omega arith)
-block_at low slots (b ∷ live) a size zero s l read = let P : ℕ × ℕ → Type 0 = λ b. IsBlock slots b in subst P (sym read) s.0
-block_at low slots (b ∷ live) a size (suc k) s l read = block_at (b.0 + b.1) slots live a size k s.2 (omega arith) read
-
 pub kept-leave : (l m : Layout) (a size k : ℕ) → IsKept l → Leaves l m a size k → IsKept m
 kept-leave l m a size i k g =
-    let block = block_at 0 l.heap l.live.items a size i k.sound g.within g.block in
+    let block = block_at 0 l.heap l.live.items (a, size) i k.sound g.within g.block in
     let some : a < a + size = omega (arith, block.some) in
     let taken : AreTaken l.holes.items a (a + size) = λ x lo hi. k.bytes x ∙ block_is_taken l.heap l.live.items i a size x g.within g.block (rw (le-leb a x lo, lt-ltb x (a + size) hi) refl) in
     record {
@@ -158,3 +164,12 @@ kept-leave l m a size i k g =
         counted = rw (g.slots, g.heap) k.counted;
         room = let n = length-without l.live.items a size i g.within g.block in let c = length-join a (a + size) l.holes.items in
             omega (arith, n, c, k.room, g.room, ap length g.holes, ap length g.live, ap length g.heap) }
+
+-- which slots are met once the block at a place goes
+pub met_gone : (l : Layout) (k : ℕ) (b : ℕ × ℕ) (first count from end s : ℕ) → IsKept l → k < length l.live.items → b ≡ get_or l.live.items k b
+    → HoldsAddress first b.0 → HoldsAddress (first + count - 1) (b.0 + b.1 - 1) → 0 < count → first + count ≤ 4096
+    → Owns (end_before 0 l.live.items k) (start_of (drop (suc k) l.live.items)) first count from end
+    → is_met (without l.live.items b.0) s ≡ (has s l.met && not (nat_le from s && nat_lt s end))
+met_gone l k b first count from end s kept within read f g some small owns =
+    is_met-gone l.heap l.live.items k b.0 b.1 first count from end s kept.sound within read (block_within l k b kept within read).2 f g some small owns
+        ∙ ap (λ m. m && not (nat_le from s && nat_lt s end)) (sym (kept.met s))

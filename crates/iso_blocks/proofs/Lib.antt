@@ -6,6 +6,7 @@ pub mod LiveBlocks
 pub mod SlotBytes
 pub mod FreeBytes
 pub mod Lengths
-pub mod KeptBy
 pub mod Beside
+pub mod KeptBy
 pub mod Placing
+pub mod HeapSets

@@ -103,14 +103,13 @@ without-behind low slots (b ∷ live) a l s =
     rw (ne_eqb b.0 a (λ e. omega (arith, s.1, e)), without-behind (b.0 + b.1) slots live a (omega (arith, s.1)) s.2) refl
 
 -- the row without the block at a place
-pub without-place : (low : ℕ) (slots : List ℕ) (live : List (ℕ × ℕ)) (a k : ℕ) (d : ℕ × ℕ) → StandFrom low slots live → AllWithin (λ (c : ℕ × ℕ). c.0 < a) live 0 k
-    → k < length live → (get_or live k d).0 ≡ a → without live a ≡ remove live k
-without-place low slots [] a k d s before l e = absurd (omega arith)
-without-place low slots (b ∷ live) a zero d s before l e =
+pub without-place : (low : ℕ) (slots : List ℕ) (live : List (ℕ × ℕ)) (a k : ℕ) (d : ℕ × ℕ) → StandFrom low slots live → k < length live → (get_or live k d).0 ≡ a → without live a ≡ remove live k
+without-place low slots [] a k d s l e = absurd (omega arith)
+without-place low slots (b ∷ live) a zero d s l e =
     rw (eq-eqb b.0 a e) (without-behind (b.0 + b.1) slots live a (omega (arith, e, s.0.some)) s.2)
-without-place low slots (b ∷ live) a (suc k) d s before l e =
-    let first : b.0 < a = before 0 b (omega arith) (omega arith) in
-    rw (ne_eqb b.0 a (λ e. omega (arith, e))) (ap (λ t. b ∷ t) (without-place (b.0 + b.1) slots live a k d s.2 (λ j d low high. before (suc j) d (omega arith) (omega arith)) (omega arith) e))
+without-place low slots (b ∷ live) a (suc k) d s l e =
+    let later = starts_from (b.0 + b.1) slots live k d s.2 (omega arith) in
+    rw (ne_eqb b.0 a (λ i. omega (arith, i, e, later, s.0.some))) (ap (λ t. b ∷ t) (without-place (b.0 + b.1) slots live a k d s.2 (omega arith) e))
 
 StandFrom-low : (low high : ℕ) (slots : List ℕ) (live : List (ℕ × ℕ)) → low ≤ high → StandFrom high slots live → StandFrom low slots live
 StandFrom-low low high slots [] le s = tt
@@ -192,3 +191,9 @@ in_blocks-without low slots (b ∷ live) a n (suc k) s l read x =
     let later : b.0 + b.1 ≤ a = rw (ap (λ (p : ℕ × ℕ). p.0) (sym read)) at (starts_from (b.0 + b.1) slots live k (a, n) s.2 (omega arith)) in
     rw (ne_eqb b.0 a (λ e. omega (arith, e, later, s.0.some)), in_blocks-without (b.0 + b.1) slots live a n k s.2 (omega arith) read x)
         (other_stays (lies_in b.0 (b.0 + b.1) x) (in_blocks live x) (lies_in a (a + n) x) (λ i j. let u = lies_in-true b.0 (b.0 + b.1) x i in let v = lies_in-true a (a + n) x j in omega (arith, u.1, v.0, later)))
+
+-- the block at a place is one in the slots
+pub block_at : (low : ℕ) (slots : List ℕ) (live : List (ℕ × ℕ)) (b : ℕ × ℕ) (k : ℕ) → StandFrom low slots live → k < length live → b ≡ get_or live k b → IsBlock slots b
+block_at low slots [] b k s l read = absurd (omega arith)
+block_at low slots (c ∷ live) b zero s l read = let P : ℕ × ℕ → Type 0 = λ b. IsBlock slots b in subst P (sym read) s.0
+block_at low slots (c ∷ live) b (suc k) s l read = block_at (c.0 + c.1) slots live b k s.2 (omega arith) read

@@ -1,5 +1,5 @@
 -- What a thread's block layer is seen as, where a block is placed, and what a free gives back.
-use Rattle.std.specs.Prelude.{◌≡◌, ℕ, ◌+◌, ◌*◌, ◌/◌, ◌%◌, ◌<◌, ◌≤◌, Bool, true, false, not, ◌&&◌, List, [], ◌∷◌, Option, Some, None, nat_le, ◌==◌, filter, if◌then◌else◌}
+use Rattle.std.specs.Prelude.{◌≡◌, ℕ, ◌+◌, ◌*◌, ◌/◌, ◌%◌, ◌<◌, ◌≤◌, Bool, true, false, not, ◌&&◌, List, [], ◌∷◌, Option, Some, None, nat_le, ◌==◌, filter, slice_index_or, if◌then◌else◌}
 use Rattle.slot_space.specs.Sets.{minus, union, run}
 use Rattle.iso_blocks.specs.Bytes.{in_slots, in_blocks, is_met}
 
@@ -44,6 +44,10 @@ with_slots heap first count = record heap { slots = union heap.slots (run first 
 abbrev pub starts_at : List (ℕ × ℕ) → ℕ → Bool
 starts_at [] address = false
 starts_at (b ∷ blocks) address = if b.0 == address then true else starts_at blocks address
+
+-- the block at place k starts at the address
+abbrev pub IsBlockAt : List (ℕ × ℕ) → ℕ → ℕ → Type 0
+IsBlockAt blocks k address = (b : ℕ × ℕ) → b ≡ slice_index_or blocks k b → b.0 ≡ address
 
 -- the blocks but the one at the address
 abbrev pub without : List (ℕ × ℕ) → ℕ → List (ℕ × ℕ)

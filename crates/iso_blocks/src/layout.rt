@@ -1,9 +1,9 @@
 //! The parts of the block layer, and what each step does to all of them.
 
-ghost use Rattle.std.specs.Prelude.{◌≡◌, ℕ, ◌+◌, ◌-◌, ◌*◌, ◌%◌, ◌<◌, ◌≤◌, ◌^◌, true, false, List, [], ◌∷◌, Some, None, OnOk, OnErr, IfOk, IfSome, MatchOption, length, slice_index_or, vec_len, vec_capacity};
+ghost use Rattle.std.specs.Prelude.{◌≡◌, ℕ, ◌+◌, ◌-◌, ◌*◌, ◌%◌, ◌<◌, ◌≤◌, ◌^◌, true, false, List, [], ◌∷◌, Some, None, OnOk, OnErr, IfOk, IfNone, OnSome, MatchOption, length, slice_index_or, vec_len, vec_capacity};
 ghost use Rattle.slot_space.specs.Sets.{has, insert, union, minus, run};
 ghost use Rattle.iso_blocks.specs.Bytes.{is_met};
-ghost use Rattle.iso_blocks.specs.Heap.{Heap, Fits, IsLowestFit, placed, with_slots, without, starts_at, emptied, freed};
+ghost use Rattle.iso_blocks.specs.Heap.{Heap, Fits, IsLowestFit, placed, with_slots, without, starts_at, emptied, freed, IsBlockAt};
 ghost use Rattle.iso_blocks.specs.Kept.{heap_of, holes_to_be, IsKept};
 
 use crate::holes;
@@ -121,5 +121,103 @@ impl Layout {
         holes::occupy(&mut self.holes, start, start + space::SIZE);
         self.heap.remove(SlotNo(slot));
         self.slots -= 1;
+    }
+
+    /// Takes the slots from `first` to `first + count - 1` into the heap.
+    pub fn add_slots(&mut self, first: u16, count: u16) -> Result<(), NoMemory>
+        requires kept { IsKept self.old }
+        requires within { first + count ≤ 4096 }
+        ensures kept { IsKept self.new }
+        ensures ok { OnOk result (heap_of self.new ≡ with_slots (heap_of self.old) first count) }
+        ensures err { OnErr result (heap_of self.new ≡ heap_of self.old) }
+    {
+        self.reserve(2 * count as usize)?;
+        for slot in first..first + count {
+            self.add_slot(slot);
+        }
+        Ok(())
+    }
+
+    /// Gives up heap slots that no block meets.
+    fn drop_slots(&mut self, slots: &SlotSet)
+        requires kept { IsKept self.old }
+        requires there { (s : ℕ) → has s slots.now ≡ true → has s self.old.heap ≡ true }
+        requires unmet { (s : ℕ) → has s slots.now ≡ true → is_met self.old.live.items s ≡ false }
+        ensures kept { IsKept self.new }
+        ensures heap { heap_of self.new ≡ record { live = self.old.live.items; slots = minus self.old.heap slots.now } }
+    {
+        let mut from = 0;
+        while let Some(slot) = slots.next_from(from) {
+            self.drop_slot(slot.0);
+            from = slot.0 + 1;
+        }
+    }
+
+    /// Where the block at the address stands in the row.
+    fn find(&self, address: u64) -> Option<usize>
+        requires { IsKept self.now }
+        ensures { MatchOption result (starts_at self.now.live.items address ≡ false)
+            (λ k. (k < length self.now.live.items) × (starts_at self.now.live.items address ≡ true) × IsBlockAt self.now.live.items k address) }
+    {
+        let k = live::starting_before(&self.live, address);
+        if k < self.live.len() && self.live[k].0 == address { Some(k) } else { None }
+    }
+
+    /// The slots that the blocks but the one at `k` meet.
+    fn met_without(&self, k: usize) -> SlotSet
+        requires kept { IsKept self.now }
+        requires within { k < length self.now.live.items }
+        ensures { (b : ℕ × ℕ) → b ≡ slice_index_or self.now.live.items k b → (s : ℕ) → has s result ≡ is_met (without self.now.live.items b.0) s }
+    {
+        let (address, size) = self.live[k];
+        let (first, count) = space::slots_of(address, size);
+        let (from, end) = space::own_slots(first, count, live::end_before(&self.live, k), live::start_after(&self.live, k));
+        let mut met = self.met;
+        if from < end {
+            met.remove_run(SlotNo(from), end - from);
+        }
+        met
+    }
+
+    /// Makes the bytes of the block at `k` free.
+    fn lift(&mut self, k: usize)
+        requires kept { IsKept self.old }
+        requires within { k < length self.old.live.items }
+        ensures kept { IsKept self.new }
+        ensures heap { (b : ℕ × ℕ) → b ≡ slice_index_or self.old.live.items k b → heap_of self.new ≡ record { live = without self.old.live.items b.0; slots = self.old.heap } }
+    {
+        let met = self.met_without(k);
+        let (address, size) = self.live.remove(k);
+        holes::release(&mut self.holes, address, address + size);
+        self.met = met;
+    }
+
+    /// The slots that a free of the block at the address would give back.
+    pub fn empties(&self, address: u64) -> Option<SlotSet>
+        requires { IsKept self.now }
+        ensures { MatchOption result (starts_at self.now.live.items address ≡ false)
+            (λ slots. (starts_at self.now.live.items address ≡ true) × (slots ≡ emptied (heap_of self.now) address)) }
+    {
+        let k = self.find(address)?;
+        let mut slots = self.heap;
+        slots.remove_all(&self.met_without(k));
+        Some(slots)
+    }
+
+    /// Frees the block at the address, and gives back the slots that no block meets then.
+    pub fn free(&mut self, address: u64) -> Option<SlotSet>
+        requires { IsKept self.old }
+        ensures kept { IsKept self.new }
+        ensures given { MatchOption result (starts_at self.old.live.items address ≡ false)
+            (λ slots. (starts_at self.old.live.items address ≡ true) × (slots ≡ emptied (heap_of self.old) address)) }
+        ensures none { IfNone result (heap_of self.new ≡ heap_of self.old) }
+        ensures some { OnSome result (heap_of self.new ≡ freed (heap_of self.old) address) }
+    {
+        let k = self.find(address)?;
+        self.lift(k);
+        let mut slots = self.heap;
+        slots.remove_all(&self.met);
+        self.drop_slots(&slots);
+        Some(slots)
     }
 }

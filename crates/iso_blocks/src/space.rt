@@ -3,6 +3,7 @@
 ghost use Rattle.std.specs.Prelude.{◌≡◌, ℕ, ◌+◌, ◌-◌, ◌<◌, ◌≤◌, ◌^◌};
 ghost use Rattle.slot_space.specs.Places.{slot_base, HoldsAddress};
 ghost use Rattle.iso_blocks.specs.Heap.{rounded as rounded_size};
+ghost use Rattle.iso_blocks.specs.Neighbours.{Owns};
 
 /// The first address of slot 0.
 pub const FIRST: u64 = 0x1_0000_0000;
@@ -42,6 +43,19 @@ pub fn slots_of(address: u64, size: u64) -> (u16, u16)
     let first = slot_at(address);
     let last = slot_at(address + size - 1);
     (first, last + 1 - first)
+}
+
+/// Of the slots of a block, from the first of `count`, those that no neighbour shares: the first of them, and the one after the last.
+/// The block before ends at `before`, and the one after starts at `after`.
+pub fn own_slots(first: u16, count: u16, before: u64, after: u64) -> (u16, u16)
+    requires some { 0 < count }
+    requires within { first + count ≤ 4096 }
+    ensures { Owns before after first count result.0 result.1 }
+{
+    let from = if base(first) < before { first + 1 } else { first };
+    let end = first + count;
+    let end = if after < base(end) { end - 1 } else { end };
+    (from, end)
 }
 
 /// The size rounded up to a multiple of 16.
