@@ -8,7 +8,7 @@ use crate::formats::{b_word, i_word, j_word, r_word, s_word, u_word};
 use crate::inst::Inst;
 use crate::rows::{branch_funct3, imm_row, load_funct3, reg_row, shift_row, store_funct3};
 
-/// The word of the instruction.
+/// The word of the instruction, whose fields fit their places in the word.
 pub fn encode(inst: &Inst) -> u32
     requires { Fits inst.now }
     ensures { result ≡ word_of inst.now }
