@@ -48,7 +48,7 @@ before_met low slots live zero s h e = absurd (false≢true e)
 before_met low slots [] (suc k) s h e = absurd (false≢true e)
 before_met low slots (b ∷ live) (suc k) s h e =
     ⊎_elim (λ i. let r = stand_end (b.0 + b.1) slots live k h.2 in let m = meets-parts b s i in omega (arith, r, m.1))
-        (λ i. before_met (b.0 + b.1) slots live k s h.2 i) (or_cases (meets b s) (is_met (take k live) s) e)
+    (λ i. before_met (b.0 + b.1) slots live k s h.2 i) (or_cases (meets b s) (is_met (take k live) s) e)
 
 -- the slot in which the blocks before a place end is met by them
 before_last : (low : ℕ) (slots : List ℕ) (live : List (ℕ × ℕ)) (k s : ℕ) → StandFrom low slots live → low ≤ slot_base s → slot_base s < end_before low live k
@@ -57,8 +57,8 @@ before_last low slots live zero s h le less near = absurd (omega arith)
 before_last low slots [] (suc k) s h le less near = absurd (omega arith)
 before_last low slots (b ∷ live) (suc k) s h le less near =
     ⊎_elim (λ i. let r = stand_end (b.0 + b.1) slots live k h.2 in rw (meets-from b s (omega (arith, r, h.0.some)) i) refl)
-        (λ i. or_right (meets b s) (is_met (take k live) s) (before_last (b.0 + b.1) slots live k s h.2 i less near))
-        (cases_lt (slot_base s) (b.0 + b.1))
+    (λ i. or_right (meets b s) (is_met (take k live) s) (before_last (b.0 + b.1) slots live k s h.2 i less near))
+    (cases_lt (slot_base s) (b.0 + b.1))
 
 -- a slot that blocks meet ends behind their start
 after_met : (low : ℕ) (slots : List ℕ) (live : List (ℕ × ℕ)) (s : ℕ) → StandFrom low slots live → is_met live s ≡ true → start_of live < slot_base s + 65536
@@ -95,7 +95,7 @@ is_met-around low slots (b ∷ live) (suc k) a n s h l read =
     let le = stand_at (b.0 + b.1) slots live k a n h.2 (omega arith) read in
     let e = stand_end (b.0 + b.1) slots live k h.2 in
     rw (ne_eqb b.0 a (λ i. omega (arith, le, e, h.0.some, i)), is_met-around (b.0 + b.1) slots live k a n s h.2 (omega arith) read)
-        (or-assoc (meets b s) (is_met (take k live) s) (is_met (drop (suc k) live) s))
+    (or-assoc (meets b s) (is_met (take k live) s) (is_met (drop (suc k) live) s))
 
 outcome : (p m q r : Bool) → (r ≡ true → p ≡ true → ⊥) → (r ≡ true → q ≡ true → ⊥) → (m ≡ true → r ≡ false → (p || q) ≡ true) → (p || q) ≡ ((p || (m || q)) && not r)
 outcome true m q true f g h = absurd (f refl refl)
@@ -120,28 +120,30 @@ is_met-gone slots live k a n first count from end s h l read some f g c small o 
     let before : ℕ = end_before 0 live k in
     let after : ℕ = start_of (drop (suc k) live) in
     rw (is_met-around 0 slots live k a n s h l read, is_met-split live k a n s l read)
-        (outcome (is_met (take k live) s) (meets (a, n) s) (is_met (drop (suc k) live) s) (nat_le from s && nat_lt s end)
-            (λ r p. let w = within from end s r in let b = before_met 0 slots live k s h p in
-                ⊎_elim (λ i. let e = o.from_shared i in omega (arith, w.0, b, near, f.1, e)) (λ i. let e = o.from_own i in omega (arith, w.0, b, i, e)) (cases_lt (slot_base first) before))
-            (λ r q. let w = within from end s r in let b = after_met (a + n) slots (drop (suc k) live) s behind q in
-                ⊎_elim (λ i. let e = o.end_shared i in omega (arith, w.1, b, past, g.0, e)) (λ i. let e = o.end_own i in omega (arith, w.1, b, i, e)) (cases_lt after (slot_base (first + count))))
-            (λ m r. let t = meets-parts (a, n) s m in
-                ⊎_elim (λ i. ⊎_elim
-                        (λ j. let e = o.from_shared j in
-                            or-left (is_met (take k live) s) (is_met (drop (suc k) live) s) (before_last 0 slots live k s h (omega arith) (omega (arith, i, j, e, t.0, t.1, f.0)) (omega (arith, near, f.1, i, e, t.0, f.0))))
-                        (λ j. let e = o.from_own j in absurd (omega (arith, i, e, t.0, f.0)))
-                        (cases_lt (slot_base first) before))
-                    (λ i. ⊎_elim
-                        (λ j. let e = o.end_shared j in
-                            or_right (is_met (take k live) s) (is_met (drop (suc k) live) s) (after_first (a + n) slots (drop (suc k) live) s behind (omega (arith, t.1, g.1, small)) (omega (arith, t.1, past)) (omega (arith, j, i, e))))
-                        (λ j. let e = o.end_own j in absurd (omega (arith, i, e, t.1, g.1)))
-                        (cases_lt after (slot_base (first + count))))
-                    (outside from end s r)))
+    (outcome (is_met (take k live) s) (meets (a, n) s) (is_met (drop (suc k) live) s) (nat_le from s && nat_lt s end)
+    (λ r p. let w = within from end s r in let b = before_met 0 slots live k s h p in
+    ⊎_elim (λ i. let e = o.from_shared i in omega (arith, w.0, b, near, f.1, e)) (λ i. let e = o.from_own i in omega (arith, w.0, b, i, e)) (cases_lt (slot_base first) before))
+    (λ r q. let w = within from end s r in let b = after_met (a + n) slots (drop (suc k) live) s behind q in
+    ⊎_elim (λ i. let e = o.end_shared i in omega (arith, w.1, b, past, g.0, e)) (λ i. let e = o.end_own i in omega (arith, w.1, b, i, e)) (cases_lt after (slot_base (first + count))))
+    (λ m r. let t = meets-parts (a, n) s m in
+    ⊎_elim (λ i. ⊎_elim
+    (λ j. let e = o.from_shared j in
+    or-left (is_met (take k live) s) (is_met (drop (suc k) live) s) (before_last 0 slots live k s h (omega arith) (omega (arith, i, j, e, t.0, t.1, f.0)) (omega (arith, near, f.1, i, e, t.0, f.0))))
+    (λ j. let e = o.from_own j in absurd (omega (arith, i, e, t.0, f.0)))
+    (cases_lt (slot_base first) before))
+    (λ i. ⊎_elim
+    (λ j. let e = o.end_shared j in
+    or_right (is_met (take k live) s) (is_met (drop (suc k) live) s) (after_first (a + n) slots (drop (suc k) live) s behind (omega (arith, t.1, g.1, small)) (omega (arith, t.1, past)) (omega (arith, j, i, e))))
+    (λ j. let e = o.end_own j in absurd (omega (arith, i, e, t.1, g.1)))
+    (cases_lt after (slot_base (first + count))))
+    (outside from end s r)))
   where
     within : (from end s : ℕ) → (nat_le from s && nat_lt s end) ≡ true → (from ≤ s) × (s < end)
     within from end s e = grind (arith, nat_tests)
+
     outside : (from end s : ℕ) → (nat_le from s && nat_lt s end) ≡ false → (s < from) ⊎ (end ≤ s)
     outside from end s e = ⊎_elim (λ i. inl i) (λ i. ⊎_elim (λ j. absurd (false≢true (sym e ∙ rw (le-leb from s i, lt-ltb s end j) refl))) (λ j. inr j) (cases_lt s end)) (cases_lt s from)
+
     or-left : (x y : Bool) → x ≡ true → (x || y) ≡ true
     or-left true y e = refl
     or-left false y e = absurd (false≢true e)

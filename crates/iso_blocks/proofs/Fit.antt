@@ -14,15 +14,15 @@ pub in_holes-from : (from : ℕ) (holes : List (ℕ × ℕ)) (x : ℕ) → Stand
 in_holes-from from [] x s e = absurd (false≢true e)
 in_holes-from from (h ∷ holes) x s e =
     ⊎_elim (λ i. let j = lies_in-true h.0 h.1 x i in omega (arith, j))
-        (λ i. let j = in_holes-from (h.1 + 1) holes x s.3 i in omega (arith, j, s.0, s.1))
-        (or_cases (lies_in h.0 h.1 x) (in_holes holes x) e)
+    (λ i. let j = in_holes-from (h.1 + 1) holes x s.3 i in omega (arith, j, s.0, s.1))
+    (or_cases (lies_in h.0 h.1 x) (in_holes holes x) e)
 
 -- the byte after a hole isn't free
 pub in_holes-end : (from : ℕ) (h : ℕ × ℕ) (holes : List (ℕ × ℕ)) → StandApart from (h ∷ holes) → in_holes (h ∷ holes) h.1 ≡ true → ⊥
 in_holes-end from h holes s e =
     ⊎_elim (λ i. let j = lies_in-true h.0 h.1 h.1 i in omega (arith, j))
-        (λ i. let j = in_holes-from (h.1 + 1) holes h.1 s.3 i in omega (arith, j))
-        (or_cases (lies_in h.0 h.1 h.1) (in_holes holes h.1) e)
+    (λ i. let j = in_holes-from (h.1 + 1) holes h.1 s.3 i in omega (arith, j))
+    (or_cases (lies_in h.0 h.1 h.1) (in_holes holes h.1) e)
 
 -- a byte past a first hole lies in the holes behind it
 pub in_holes-past : (h : ℕ × ℕ) (holes : List (ℕ × ℕ)) (x : ℕ) → h.1 ≤ x → in_holes (h ∷ holes) x ≡ true → in_holes holes x ≡ true
@@ -34,11 +34,11 @@ pub AreFree-in_first : (from : ℕ) (h : ℕ × ℕ) (holes : List (ℕ × ℕ))
     → (h.0 ≤ a) × (b ≤ h.1)
 AreFree-in_first from h holes a b some s before free =
     let low : h.0 ≤ a =
-        ⊎_elim (λ i. let j = lies_in-true h.0 h.1 a i in j.0)
-            (λ i. let j = in_holes-from (h.1 + 1) holes a s.3 i in absurd (omega (arith, j)))
-            (or_cases (lies_in h.0 h.1 a) (in_holes holes a) (free a (omega arith) some)) in
+    ⊎_elim (λ i. let j = lies_in-true h.0 h.1 a i in j.0)
+    (λ i. let j = in_holes-from (h.1 + 1) holes a s.3 i in absurd (omega (arith, j)))
+    (or_cases (lies_in h.0 h.1 a) (in_holes holes a) (free a (omega arith) some)) in
     let high : b ≤ h.1 =
-        ⊎_elim (λ i. absurd (in_holes-end from h holes s (free h.1 (omega arith) i))) (λ i. i) (cases_lt h.1 b) in
+    ⊎_elim (λ i. absurd (in_holes-end from h holes s (free h.1 (omega arith) i))) (λ i. i) (cases_lt h.1 b) in
     (low, high)
 
 -- a free run that begins at or after the end of a first hole lies in the holes behind it
@@ -59,8 +59,8 @@ lowest from (h ∷ holes) zero size a d some s l small free =
     ⊎_elim (λ i. i.0) (λ i. omega (arith, i.0, s.1)) (AreFree-cases from h holes a (a + size) (omega arith) s free)
 lowest from (h ∷ holes) (suc k) size a d some s l small free =
     ⊎_elim (λ i. let e = small 0 (omega arith) in absurd (omega (arith, e, i.0, i.1)))
-        (λ i. lowest (h.1 + 1) holes k size a d some s.3 (omega arith) (λ j m. small (suc j) (omega arith)) i.1)
-        (AreFree-cases from h holes a (a + size) (omega arith) s free)
+    (λ i. lowest (h.1 + 1) holes k size a d some s.3 (omega arith) (λ j m. small (suc j) (omega arith)) i.1)
+    (AreFree-cases from h holes a (a + size) (omega arith) s free)
 
 -- where no hole is large enough, no free run has that size
 pub none_fits : (from : ℕ) (holes : List (ℕ × ℕ)) (size a : ℕ) (d : ℕ × ℕ) → 0 < size → StandApart from holes
@@ -68,8 +68,8 @@ pub none_fits : (from : ℕ) (holes : List (ℕ × ℕ)) (size a : ℕ) (d : ℕ
 none_fits from [] size a d some s small free = false≢true (free a (omega arith) (omega arith))
 none_fits from (h ∷ holes) size a d some s small free =
     ⊎_elim (λ i. let e = small 0 (omega arith) in omega (arith, e, i.0, i.1))
-        (λ i. none_fits (h.1 + 1) holes size a d some s.3 (λ j m. small (suc j) (omega arith)) i.1)
-        (AreFree-cases from h holes a (a + size) (omega arith) s free)
+    (λ i. none_fits (h.1 + 1) holes size a d some s.3 (λ j m. small (suc j) (omega arith)) i.1)
+    (AreFree-cases from h holes a (a + size) (omega arith) s free)
 
 -- a hole starts at a multiple of 16, and its bytes are free
 pub hole_at : (from : ℕ) (holes : List (ℕ × ℕ)) (k : ℕ) (d : ℕ × ℕ) → StandApart from holes → k < length holes

@@ -30,7 +30,7 @@ pub is_free-without : (low : ℕ) (slots : List ℕ) (live : List (ℕ × ℕ)) 
     → is_free (heap (without live a) slots) x ≡ (is_free (heap live slots) x || lies_in a (a + n) x)
 is_free-without low slots live a n k s l read x =
     rw (in_blocks-without low slots live a n k s l read x)
-        (back (in_slots slots x) (in_blocks live x) (lies_in a (a + n) x) (λ e. inside slots low live a n k x s l read e))
+    (back (in_slots slots x) (in_blocks live x) (lies_in a (a + n) x) (λ e. inside slots low live a n k x s l read e))
   where
     back : (i j l : Bool) → (l ≡ true → i ≡ true) → (i && not (j && not l)) ≡ ((i && not j) || l)
     back true true true h = refl
@@ -39,6 +39,7 @@ is_free-without low slots live a n k s l read x =
     back true false false h = refl
     back false j true h = absurd (false≢true (h refl))
     back false j false h = refl
+
     inside : (slots : List ℕ) (low : ℕ) (live : List (ℕ × ℕ)) (a n k x : ℕ) → StandFrom low slots live → k < length live → (a, n) ≡ get_or live k (a, n) → lies_in a (a + n) x ≡ true → in_slots slots x ≡ true
     inside slots low [] a n k x s l read e = absurd (omega arith)
     inside slots low (b ∷ live) a n zero x s l read e =
@@ -53,9 +54,9 @@ pub is_free-insert : (s low : ℕ) (slots : List ℕ) (live : List (ℕ × ℕ))
     → is_free (heap live (insert s slots)) x ≡ (is_free (heap live slots) x || lies_in (slot_base s) (slot_base s + 65536) x)
 is_free-insert s low slots live stand new x =
     rw (in_slots-insert s slots x)
-        (grow (in_slots slots x) (in_blocks live x) (lies_in (slot_base s) (slot_base s + 65536) x)
-            (λ e. let h = lies_in-true (slot_base s) (slot_base s + 65536) x e in in_slots-has slots s x h ∙ new)
-            (λ e. in_blocks-in_slots low slots live x stand e))
+    (grow (in_slots slots x) (in_blocks live x) (lies_in (slot_base s) (slot_base s + 65536) x)
+    (λ e. let h = lies_in-true (slot_base s) (slot_base s + 65536) x e in in_slots-has slots s x h ∙ new)
+    (λ e. in_blocks-in_slots low slots live x stand e))
   where
     grow : (i j l : Bool) → (l ≡ true → i ≡ false) → (j ≡ true → i ≡ true) → ((i || l) && not j) ≡ ((i && not j) || l)
     grow true j true h k = absurd (true≢false (h refl))
@@ -96,6 +97,7 @@ block_is_taken slots live k a n x l read e = rw (lies live k a n x l read e) (an
     and-false : (i : Bool) → (i && false) ≡ false
     and-false true = refl
     and-false false = refl
+
     lies : (live : List (ℕ × ℕ)) (k a n x : ℕ) → k < length live → (a, n) ≡ get_or live k (a, n) → lies_in a (a + n) x ≡ true → in_blocks live x ≡ true
     lies [] k a n x l read e = absurd (omega arith)
     lies (b ∷ live) zero a n x l read e =

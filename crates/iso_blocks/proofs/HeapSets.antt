@@ -39,7 +39,7 @@ union-run_more xs first k up = same_members _ _
     (ascending-insert (first + k) (union xs (run first k)) (ascending-union xs (run first k) (ascending-run first k)))
     (ascending-union xs (run first (k + 1)) (ascending-run first (k + 1)))
     (λ s. rw (has-insert (first + k) s (union xs (run first k)), has-union s xs (run first k), has-union s xs (run first (k + 1)), has-run s first k, has-run s first (k + 1))
-        (tests (has s xs) s first k))
+    (tests (has s xs) s first k))
   where
     tests : (b : Bool) (s first k : ℕ) → cond (eqb (first + k) s) true (cond b true (cond (nat_lt s first) false (nat_lt s (first + k))))
         ≡ cond b true (cond (nat_lt s first) false (nat_lt s (first + (k + 1))))
@@ -67,28 +67,29 @@ unfolding least_from
 least_first from s t [] up e h le = absurd (false≢true h)
 least_first from s t (x ∷ xs) up e h le =
     ⊎_elim (λ i. least_first from s t xs up.1 (rw (lt-ltb x from i) at e) (rw (ne_eqb x t (λ j. omega (arith, i, j, le))) at h) le)
-        (λ i. let f : Some x ≡ Some s = rw (le-ltb x from i) at e in let g : x ≡ s = cc in
-            ⊎_elim (λ j. omega (arith, j, g)) (λ j. let later = up.0 t (rw (ne_eqb x t j) at h) in omega (arith, later, g)) (cases_eq x t))
-        (cases_lt x from)
+    (λ i. let f : Some x ≡ Some s = rw (le-ltb x from i) at e in let g : x ≡ s = cc in
+    ⊎_elim (λ j. omega (arith, j, g)) (λ j. let later = up.0 t (rw (ne_eqb x t j) at h) in omega (arith, later, g)) (cases_eq x t))
+    (cases_lt x from)
 
 least_none : (from t : ℕ) (xs : List ℕ) → least_from from xs ≡ None → has t xs ≡ true → t < from
 unfolding least_from
 least_none from t [] e h = absurd (false≢true h)
 least_none from t (x ∷ xs) e h =
     ⊎_elim (λ i. ⊎_elim (λ j. omega (arith, i, j)) (λ j. least_none from t xs (rw (lt-ltb x from i) at e) (rw (ne_eqb x t j) at h)) (cases_eq x t))
-        (λ i. let f : Some x ≡ None = rw (le-ltb x from i) at e in absurd (cc f))
-        (cases_lt x from)
+    (λ i. let f : Some x ≡ None = rw (le-ltb x from i) at e in absurd (cc f))
+    (cases_lt x from)
 
 pub left_more : (from s : ℕ) (gone old new : List ℕ) → IsAscending gone → least_from from gone ≡ Some s → IsLeft from gone old new → IsLeft (s + 1) gone old (minus new (s ∷ []))
 left_more from s gone old new up e h t =
     rw (has-minus t new (s ∷ []), h t)
-        (⊎_elim (λ i. rw (eq-eqb s t i, sym i, (least_from-found from s gone e).1, lt-ltb s (s + 1) (omega arith)) refl)
-            (λ i. rw (ne_eqb s t i) (same t (has t gone) (has t old) (λ g. below t i g)))
-            (cases_eq s t))
+    (⊎_elim (λ i. rw (eq-eqb s t i, sym i, (least_from-found from s gone e).1, lt-ltb s (s + 1) (omega arith)) refl)
+    (λ i. rw (ne_eqb s t i) (same t (has t gone) (has t old) (λ g. below t i g)))
+    (cases_eq s t))
   where
     same : (t : ℕ) (g b : Bool) → (g ≡ true → nat_lt t from ≡ nat_lt t (s + 1)) → cond (g && nat_lt t from) false b ≡ cond (g && nat_lt t (s + 1)) false b
     same t true b k = rw (k refl) refl
     same t false b k = refl
+
     below : (t : ℕ) → (s ≡ t → ⊥) → has t gone ≡ true → nat_lt t from ≡ nat_lt t (s + 1)
     below t i g = ⊎_elim (λ j. rw (lt-ltb t from j, lt-ltb t (s + 1) (omega (arith, j, (least_from-found from s gone e).0))) refl)
         (λ j. let least = least_first from s t gone up e g j in rw (le-ltb t from j, le-ltb t (s + 1) (omega (arith, least, i))) refl)
@@ -123,3 +124,30 @@ in_minus s xs ys e = both (has s ys) (has s xs) (sym (has-minus s xs ys) ∙ e)
     both : (g b : Bool) → cond g false b ≡ true → (b ≡ true) × (g ≡ false)
     both true b h = absurd (false≢true h)
     both false b h = (h, refl)
+
+-- the set that a loop has made so far: the members of another below a slot
+abbrev pub IsTaken : ℕ → List ℕ → List ℕ → Type 0
+IsTaken from all new = (t : ℕ) → has t new ≡ (has t all && nat_lt t from)
+
+pub taken_none : (all : List ℕ) → IsTaken 0 all []
+taken_none all t = elim (has t all) as (λ b. false ≡ (b && nat_lt t 0)) [ true ↦ sym (le-ltb t 0 (omega arith)) | false ↦ refl ]
+
+pub taken_more : (from s : ℕ) (all new : List ℕ) → IsAscending all → least_from from all ≡ Some s → IsTaken from all new → IsTaken (s + 1) all (union new (run s 1))
+taken_more from s all new up e h t =
+    rw (has-union t new (run s 1), has-run t s 1, h t) (tests (has t all) t from s (least_from-found from s all e).0
+    (λ i. let P : ℕ → Type 0 = λ t. has t all ≡ true in subst P i (least_from-found from s all e).1)
+    (λ g le. least_first from s t all up e g le))
+  where
+    tests : (g : Bool) (t from s : ℕ) → from ≤ s → (s ≡ t → g ≡ true) → (g ≡ true → from ≤ t → s ≤ t)
+        → cond (g && nat_lt t from) true (cond (nat_lt t s) false (nat_lt t (s + 1))) ≡ (g && nat_lt t (s + 1))
+    tests true t from s le m k = ⊎_elim (λ i. rw (lt-ltb t from i, lt-ltb t (s + 1) (omega arith)) refl)
+        (λ i. let least = k refl i in rw (le-ltb t from i, le-ltb t s least) refl) (cases_lt t from)
+    tests false t from s le m k = ⊎_elim (λ i. rw (lt-ltb t s i) refl)
+        (λ i. ⊎_elim (λ j. absurd (false≢true (m (omega arith)))) (λ j. rw (le-ltb t s i, le-ltb t (s + 1) j) refl) (cases_lt t (s + 1))) (cases_lt t s)
+
+pub taken_all : (from : ℕ) (all new : List ℕ) → IsAscending all → IsAscending new → least_from from all ≡ None → IsTaken from all new → new ≡ all
+taken_all from all new upa upn e h = same_members new all upn upa (λ t. h t ∙ whole t (has t all) (λ g. lt-ltb t from (least_none from t all e g)))
+  where
+    whole : (t : ℕ) (g : Bool) → (g ≡ true → nat_lt t from ≡ true) → (g && nat_lt t from) ≡ g
+    whole t true k = k refl
+    whole t false k = refl

@@ -27,11 +27,15 @@ fits_free l size a k f x lo hi = k.bytes x ∙ f.free x lo hi
 -- what fits is a block
 pub fits_block : (l : Layout) (size a : ℕ) → Fits (heap_of l) size a → 16 ≤ size → size % 16 ≡ 0 → IsBlock l.heap (a, size)
 fits_block l size a f some whole =
-    record { aligned = f.aligned; rounded = whole; some = some;
-        inside = λ x lo hi. (and_parts (in_slots l.heap x) (not (in_blocks l.live.items x)) (f.free x lo hi)).0 }
+    record {
+      aligned = f.aligned;
+      rounded = whole;
+      some = some;
+      inside = λ x lo hi. (and_parts (in_slots l.heap x) (not (in_blocks l.live.items x)) (f.free x lo hi)).0;
+    }
 
 -- bytes in slots lie within the memory of all slots
-slots_within : (slots : List ℕ) (a n : ℕ) → IsSlotSet slots → 0 < n → ((x : ℕ) → a ≤ x → x < a + n → in_slots slots x ≡ true) → (slot_base 0 ≤ a) × (a + n ≤ slot_base 4096)
+pub slots_within : (slots : List ℕ) (a n : ℕ) → IsSlotSet slots → 0 < n → ((x : ℕ) → a ≤ x → x < a + n → in_slots slots x ≡ true) → (slot_base 0 ≤ a) × (a + n ≤ slot_base 4096)
 slots_within slots a n proper some inside =
     let first = in_slots-some slots a (inside a (omega arith) (omega arith)) in
     let last = in_slots-some slots (a + n - 1) (inside (a + n - 1) (omega arith) (omega arith)) in
@@ -66,17 +70,18 @@ pub kept-settle : (l m : Layout) (a size first count last : ℕ) → IsKept l �
 kept-settle l m a size first count last k f some whole g =
     let free = fits_free l size a k f in
     record {
-        sound = rw (g.live, g.heap) (StandFrom-with_block 0 l.heap (a, size) l.live.items k.sound (fits_block l size a f some whole) (omega arith)
-            (λ x lo hi. not-true (in_blocks l.live.items x) (and_parts (in_slots l.heap x) (not (in_blocks l.live.items x)) (f.free x lo hi)).1));
-        proper = rw g.heap k.proper;
-        apart = rw g.holes (StandApart-cut 0 a (a + size) l.holes.items (omega arith) (omega (arith, f.aligned, whole)) k.apart free);
-        bytes = λ x. rw (g.holes, g.live, g.heap) (in_holes-cut 0 a (a + size) l.holes.items (omega arith) k.apart free x
-            ∙ ap (λ b. b && not (lies_in a (a + size) x)) (k.bytes x) ∙ sym (is_free-with_block (a, size) l.live.items l.heap x));
-        met = λ s. rw (g.met, g.live) (has-union s l.met (run first count) ∙ either (has s l.met) (has s (run first count))
-            ∙ rw (k.met s, sym (meets-run a size s first last count (omega arith) g.starts g.ends g.counts)) (sym (is_met-with_block (a, size) l.live.items s)));
-        counted = rw (g.slots, g.heap) k.counted;
-        room = let c = length-cut a (a + size) l.holes.items in let n = length-with_block (a, size) l.live.items in
-            omega (arith, c, n, g.room, ap length g.holes, ap length g.live, ap length g.heap) }
+      sound = rw (g.live, g.heap) (StandFrom-with_block 0 l.heap (a, size) l.live.items k.sound (fits_block l size a f some whole) (omega arith)
+          (λ x lo hi. not-true (in_blocks l.live.items x) (and_parts (in_slots l.heap x) (not (in_blocks l.live.items x)) (f.free x lo hi)).1));
+      proper = rw g.heap k.proper;
+      apart = rw g.holes (StandApart-cut 0 a (a + size) l.holes.items (omega arith) (omega (arith, f.aligned, whole)) k.apart free);
+      bytes = λ x. rw (g.holes, g.live, g.heap) (in_holes-cut 0 a (a + size) l.holes.items (omega arith) k.apart free x
+          ∙ ap (λ b. b && not (lies_in a (a + size) x)) (k.bytes x) ∙ sym (is_free-with_block (a, size) l.live.items l.heap x));
+      met = λ s. rw (g.met, g.live) (has-union s l.met (run first count) ∙ either (has s l.met) (has s (run first count))
+          ∙ rw (k.met s, sym (meets-run a size s first last count (omega arith) g.starts g.ends g.counts)) (sym (is_met-with_block (a, size) l.live.items s)));
+      counted = rw (g.slots, g.heap) k.counted;
+      room = let c = length-cut a (a + size) l.holes.items in let n = length-with_block (a, size) l.live.items in
+          omega (arith, c, n, g.room, ap length g.holes, ap length g.live, ap length g.heap);
+    }
   where
     either : (p q : Bool) → cond p true q ≡ (p || q)
     either true q = refl
@@ -95,16 +100,17 @@ pub kept-grow : (l m : Layout) (s : ℕ) → IsKept l → s < 4096 → has s l.h
 kept-grow l m s k small new g =
     let taken : AreTaken l.holes.items (slot_base s) (slot_base s + 65536) = λ x lo hi. k.bytes x ∙ slot_is_taken s l.heap l.live.items x new (lo, hi) in
     record {
-        sound = rw (g.live, g.heap) (StandFrom-slots 0 l.heap (insert s l.heap) l.live.items k.sound
-            (λ x e. rw (in_slots-insert s l.heap x, in_blocks-in_slots 0 l.heap l.live.items x k.sound e) refl));
-        proper = rw g.heap (record { ascending = ascending-insert s l.heap k.proper.ascending; small = below-insert 4096 s l.heap small k.proper.small });
-        apart = rw g.holes (StandApart-join 0 (slot_base s) (slot_base s + 65536) l.holes.items (omega arith) (omega arith) (omega arith) k.apart taken);
-        bytes = λ x. rw (g.holes, g.live, g.heap) (in_holes-join 0 (slot_base s) (slot_base s + 65536) l.holes.items (omega arith) k.apart taken x
-            ∙ ap (λ b. b || lies_in (slot_base s) (slot_base s + 65536) x) (k.bytes x) ∙ sym (is_free-insert s 0 l.heap l.live.items k.sound new x));
-        met = λ t. rw (g.met, g.live) (k.met t);
-        counted = rw (g.slots, g.heap, length-insert s l.heap new, k.counted) refl;
-        room = let c = length-join (slot_base s) (slot_base s + 65536) l.holes.items in let n = length-insert s l.heap new in
-            omega (arith, c, n, g.room, ap length g.holes, ap length g.live, ap length g.heap) }
+      sound = rw (g.live, g.heap) (StandFrom-slots 0 l.heap (insert s l.heap) l.live.items k.sound
+          (λ x e. rw (in_slots-insert s l.heap x, in_blocks-in_slots 0 l.heap l.live.items x k.sound e) refl));
+      proper = rw g.heap (record { ascending = ascending-insert s l.heap k.proper.ascending; small = below-insert 4096 s l.heap small k.proper.small });
+      apart = rw g.holes (StandApart-join 0 (slot_base s) (slot_base s + 65536) l.holes.items (omega arith) (omega arith) (omega arith) k.apart taken);
+      bytes = λ x. rw (g.holes, g.live, g.heap) (in_holes-join 0 (slot_base s) (slot_base s + 65536) l.holes.items (omega arith) k.apart taken x
+          ∙ ap (λ b. b || lies_in (slot_base s) (slot_base s + 65536) x) (k.bytes x) ∙ sym (is_free-insert s 0 l.heap l.live.items k.sound new x));
+      met = λ t. rw (g.met, g.live) (k.met t);
+      counted = rw (g.slots, g.heap, length-insert s l.heap new, k.counted) refl;
+      room = let c = length-join (slot_base s) (slot_base s + 65536) l.holes.items in let n = length-insert s l.heap new in
+          omega (arith, c, n, g.room, ap length g.holes, ap length g.live, ap length g.heap);
+    }
 
 -- a slot that no block meets goes
 pub record Shrinks (l m : Layout) (s : ℕ) : Type 0 where
@@ -122,17 +128,18 @@ pub kept-shrink : (l m : Layout) (s : ℕ) → IsKept l → has s l.heap ≡ tru
 kept-shrink l m s k member none g =
     let free = slot_free l s k member none in
     record {
-        sound = rw (g.live, g.heap) (StandFrom-slots 0 l.heap (minus l.heap (s ∷ [])) l.live.items k.sound
-            (λ x e. rw (in_slots-minus s l.heap x, in_blocks-in_slots 0 l.heap l.live.items x k.sound e)
-                (away (lies_in (slot_base s) (slot_base s + 65536) x) (λ i. true≢false (sym e ∙ is_met-false l.live.items s x none (lies_in-true (slot_base s) (slot_base s + 65536) x i))))));
-        proper = rw g.heap (record { ascending = ascending-minus l.heap (s ∷ []) k.proper.ascending; small = below-minus 4096 l.heap (s ∷ []) k.proper.small });
-        apart = rw g.holes (StandApart-cut 0 (slot_base s) (slot_base s + 65536) l.holes.items (omega arith) (omega arith) k.apart free);
-        bytes = λ x. rw (g.holes, g.live, g.heap) (in_holes-cut 0 (slot_base s) (slot_base s + 65536) l.holes.items (omega arith) k.apart free x
-            ∙ ap (λ b. b && not (lies_in (slot_base s) (slot_base s + 65536) x)) (k.bytes x) ∙ sym (is_free-minus s l.heap l.live.items x));
-        met = λ t. rw (g.met, g.live) (k.met t);
-        counted = rw g.heap (let n = length-minus s l.heap k.proper.ascending member in omega (arith, n, g.slots, k.counted));
-        room = let n = length-minus s l.heap k.proper.ascending member in let c = length-cut (slot_base s) (slot_base s + 65536) l.holes.items in
-            omega (arith, n, c, k.room, g.room, ap length g.holes, ap length g.live, ap length g.heap) }
+      sound = rw (g.live, g.heap) (StandFrom-slots 0 l.heap (minus l.heap (s ∷ [])) l.live.items k.sound
+          (λ x e. rw (in_slots-minus s l.heap x, in_blocks-in_slots 0 l.heap l.live.items x k.sound e)
+          (away (lies_in (slot_base s) (slot_base s + 65536) x) (λ i. true≢false (sym e ∙ is_met-false l.live.items s x none (lies_in-true (slot_base s) (slot_base s + 65536) x i))))));
+      proper = rw g.heap (record { ascending = ascending-minus l.heap (s ∷ []) k.proper.ascending; small = below-minus 4096 l.heap (s ∷ []) k.proper.small });
+      apart = rw g.holes (StandApart-cut 0 (slot_base s) (slot_base s + 65536) l.holes.items (omega arith) (omega arith) k.apart free);
+      bytes = λ x. rw (g.holes, g.live, g.heap) (in_holes-cut 0 (slot_base s) (slot_base s + 65536) l.holes.items (omega arith) k.apart free x
+          ∙ ap (λ b. b && not (lies_in (slot_base s) (slot_base s + 65536) x)) (k.bytes x) ∙ sym (is_free-minus s l.heap l.live.items x));
+      met = λ t. rw (g.met, g.live) (k.met t);
+      counted = rw g.heap (let n = length-minus s l.heap k.proper.ascending member in omega (arith, n, g.slots, k.counted));
+      room = let n = length-minus s l.heap k.proper.ascending member in let c = length-cut (slot_base s) (slot_base s + 65536) l.holes.items in
+          omega (arith, n, c, k.room, g.room, ap length g.holes, ap length g.live, ap length g.heap);
+    }
   where
     away : (i : Bool) → (i ≡ true → ⊥) → (true && not i) ≡ true
     away true h = absurd (h refl)
@@ -155,15 +162,16 @@ kept-leave l m a size i k g =
     let some : a < a + size = omega (arith, block.some) in
     let taken : AreTaken l.holes.items a (a + size) = λ x lo hi. k.bytes x ∙ block_is_taken l.heap l.live.items i a size x g.within g.block (rw (le-leb a x lo, lt-ltb x (a + size) hi) refl) in
     record {
-        sound = rw (g.live, g.heap) (StandFrom-without 0 l.heap l.live.items a k.sound);
-        proper = rw g.heap k.proper;
-        apart = rw g.holes (StandApart-join 0 a (a + size) l.holes.items (omega arith) some block.aligned k.apart taken);
-        bytes = λ x. rw (g.holes, g.live, g.heap) (in_holes-join 0 a (a + size) l.holes.items some k.apart taken x
-            ∙ ap (λ b. b || lies_in a (a + size) x) (k.bytes x) ∙ sym (is_free-without 0 l.heap l.live.items a size i k.sound g.within g.block x));
-        met = λ s. rw g.live (g.met s);
-        counted = rw (g.slots, g.heap) k.counted;
-        room = let n = length-without l.live.items a size i g.within g.block in let c = length-join a (a + size) l.holes.items in
-            omega (arith, n, c, k.room, g.room, ap length g.holes, ap length g.live, ap length g.heap) }
+      sound = rw (g.live, g.heap) (StandFrom-without 0 l.heap l.live.items a k.sound);
+      proper = rw g.heap k.proper;
+      apart = rw g.holes (StandApart-join 0 a (a + size) l.holes.items (omega arith) some block.aligned k.apart taken);
+      bytes = λ x. rw (g.holes, g.live, g.heap) (in_holes-join 0 a (a + size) l.holes.items some k.apart taken x
+          ∙ ap (λ b. b || lies_in a (a + size) x) (k.bytes x) ∙ sym (is_free-without 0 l.heap l.live.items a size i k.sound g.within g.block x));
+      met = λ s. rw g.live (g.met s);
+      counted = rw (g.slots, g.heap) k.counted;
+      room = let n = length-without l.live.items a size i g.within g.block in let c = length-join a (a + size) l.holes.items in
+          omega (arith, n, c, k.room, g.room, ap length g.holes, ap length g.live, ap length g.heap);
+    }
 
 -- which slots are met once the block at a place goes
 pub met_gone : (l : Layout) (k : ℕ) (b : ℕ × ℕ) (first count from end s : ℕ) → IsKept l → k < length l.live.items → b ≡ get_or l.live.items k b
@@ -172,4 +180,4 @@ pub met_gone : (l : Layout) (k : ℕ) (b : ℕ × ℕ) (first count from end s :
     → is_met (without l.live.items b.0) s ≡ (has s l.met && not (nat_le from s && nat_lt s end))
 met_gone l k b first count from end s kept within read f g some small owns =
     is_met-gone l.heap l.live.items k b.0 b.1 first count from end s kept.sound within read (block_within l k b kept within read).2 f g some small owns
-        ∙ ap (λ m. m && not (nat_le from s && nat_lt s end)) (sym (kept.met s))
+    ∙ ap (λ m. m && not (nat_le from s && nat_lt s end)) (sym (kept.met s))

@@ -10,3 +10,4 @@ pub mod Beside
 pub mod KeptBy
 pub mod Placing
 pub mod HeapSets
+pub mod Checks

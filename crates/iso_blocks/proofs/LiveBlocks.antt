@@ -78,16 +78,16 @@ pub starts_at-place : (low : ℕ) (slots : List ℕ) (live : List (ℕ × ℕ)) 
 starts_at-place low slots [] a k d s before behind l = absurd (omega arith)
 starts_at-place low slots (b ∷ live) a zero d s before behind l =
     ⊎_elim (λ e. rw (eq-eqb b.0 a e) refl)
-        (λ (e : b.0 ≡ a → ⊥).
-            let le : a ≤ b.0 = behind 0 b (omega arith) (omega arith) in
-            let past : a < b.0 + b.1 = omega (arith, le, s.0.some) in
-            let none : starts_at live a ≡ false = starts_at-behind (b.0 + b.1) slots live a past s.2 in
-            rw (ne_eqb b.0 a e, none) refl)
-        (cases_eq b.0 a)
+    (λ (e : b.0 ≡ a → ⊥).
+    let le : a ≤ b.0 = behind 0 b (omega arith) (omega arith) in
+    let past : a < b.0 + b.1 = omega (arith, le, s.0.some) in
+    let none : starts_at live a ≡ false = starts_at-behind (b.0 + b.1) slots live a past s.2 in
+    rw (ne_eqb b.0 a e, none) refl)
+    (cases_eq b.0 a)
 starts_at-place low slots (b ∷ live) a (suc k) d s before behind l =
     let first : b.0 < a = before 0 b (omega arith) (omega arith) in
     rw (ne_eqb b.0 a (λ e. omega (arith, e))) (starts_at-place (b.0 + b.1) slots live a k d s.2 (λ j d low high. before (suc j) d (omega arith) (omega arith))
-        (λ j d low high. behind (suc j) d (omega arith) (omega arith)) (omega arith))
+    (λ j d low high. behind (suc j) d (omega arith) (omega arith)) (omega arith))
 
 -- where all blocks start before the address, none starts at it
 pub starts_at-none : (live : List (ℕ × ℕ)) (a k : ℕ) → AllWithin (λ (c : ℕ × ℕ). c.0 < a) live 0 k → length live ≤ k → starts_at live a ≡ false
@@ -120,39 +120,41 @@ pub in_blocks-from : (low : ℕ) (slots : List ℕ) (live : List (ℕ × ℕ)) (
 in_blocks-from low slots [] x s e = absurd (false≢true e)
 in_blocks-from low slots (b ∷ live) x s e =
     ⊎_elim (λ i. let j = lies_in-true b.0 (b.0 + b.1) x i in omega (arith, j.0, s.1))
-        (λ i. let j = in_blocks-from (b.0 + b.1) slots live x s.2 i in omega (arith, j, s.1))
-        (or_cases (lies_in b.0 (b.0 + b.1) x) (in_blocks live x) e)
+    (λ i. let j = in_blocks-from (b.0 + b.1) slots live x s.2 i in omega (arith, j, s.1))
+    (or_cases (lies_in b.0 (b.0 + b.1) x) (in_blocks live x) e)
 
 -- each byte of a live block lies in a slot
 pub in_blocks-in_slots : (low : ℕ) (slots : List ℕ) (live : List (ℕ × ℕ)) (x : ℕ) → StandFrom low slots live → in_blocks live x ≡ true → in_slots slots x ≡ true
 in_blocks-in_slots low slots [] x s e = absurd (false≢true e)
 in_blocks-in_slots low slots (b ∷ live) x s e =
     ⊎_elim (λ i. let j = lies_in-true b.0 (b.0 + b.1) x i in s.0.inside x j.0 j.1)
-        (λ i. in_blocks-in_slots (b.0 + b.1) slots live x s.2 i)
-        (or_cases (lies_in b.0 (b.0 + b.1) x) (in_blocks live x) e)
+    (λ i. in_blocks-in_slots (b.0 + b.1) slots live x s.2 i)
+    (or_cases (lies_in b.0 (b.0 + b.1) x) (in_blocks live x) e)
 
 -- blocks stand in any slots that hold their bytes
 pub StandFrom-slots : (low : ℕ) (slots others : List ℕ) (live : List (ℕ × ℕ)) → StandFrom low slots live → ((x : ℕ) → in_blocks live x ≡ true → in_slots others x ≡ true) → StandFrom low others live
 StandFrom-slots low slots others [] s hold = tt
-StandFrom-slots low slots others (b ∷ live) s hold =
-    (record { aligned = s.0.aligned; rounded = s.0.rounded; some = s.0.some; inside = λ x lo hi. hold x (rw (le-leb b.0 x lo, lt-ltb x (b.0 + b.1) hi) refl) }, s.1,
-        StandFrom-slots (b.0 + b.1) slots others live s.2 (λ x e. hold x (or_right (lies_in b.0 (b.0 + b.1) x) (in_blocks live x) e)))
+StandFrom-slots low slots others (b ∷ live) s hold = (
+  record { aligned = s.0.aligned; rounded = s.0.rounded; some = s.0.some; inside = λ x lo hi. hold x (rw (le-leb b.0 x lo, lt-ltb x (b.0 + b.1) hi) refl) },
+  s.1,
+  StandFrom-slots (b.0 + b.1) slots others live s.2 (λ x e. hold x (or_right (lies_in b.0 (b.0 + b.1) x) (in_blocks live x) e)),
+)
 
 -- the bytes of a row with one more block
 pub in_blocks-with_block : (b : ℕ × ℕ) (live : List (ℕ × ℕ)) (x : ℕ) → in_blocks (with_block b live) x ≡ (in_blocks live x || lies_in b.0 (b.0 + b.1) x)
 in_blocks-with_block b [] x = or-false (lies_in b.0 (b.0 + b.1) x)
 in_blocks-with_block b (c ∷ live) x =
     ⊎_elim (λ (e : leb b.0 c.0 ≡ true). rw e (or-comm (lies_in b.0 (b.0 + b.1) x) (in_blocks (c ∷ live) x)))
-        (λ (e : leb b.0 c.0 ≡ false). rw (e, in_blocks-with_block b live x) (or-assoc (lies_in c.0 (c.0 + c.1) x) (in_blocks live x) (lies_in b.0 (b.0 + b.1) x)))
-        (cases_Bool (leb b.0 c.0))
+    (λ (e : leb b.0 c.0 ≡ false). rw (e, in_blocks-with_block b live x) (or-assoc (lies_in c.0 (c.0 + c.1) x) (in_blocks live x) (lies_in b.0 (b.0 + b.1) x)))
+    (cases_Bool (leb b.0 c.0))
 
 -- the slots that a row with one more block meets
 pub is_met-with_block : (b : ℕ × ℕ) (live : List (ℕ × ℕ)) (s : ℕ) → is_met (with_block b live) s ≡ (is_met live s || meets b s)
 is_met-with_block b [] s = or-false (meets b s)
 is_met-with_block b (c ∷ live) s =
     ⊎_elim (λ (e : leb b.0 c.0 ≡ true). rw e (or-comm (meets b s) (is_met (c ∷ live) s)))
-        (λ (e : leb b.0 c.0 ≡ false). rw (e, is_met-with_block b live s) (or-assoc (meets c s) (is_met live s) (meets b s)))
-        (cases_Bool (leb b.0 c.0))
+    (λ (e : leb b.0 c.0 ≡ false). rw (e, is_met-with_block b live s) (or-assoc (meets c s) (is_met live s) (meets b s)))
+    (cases_Bool (leb b.0 c.0))
 
 -- blocks with one more that meets none of them still stand in order
 pub StandFrom-with_block : (low : ℕ) (slots : List ℕ) (b : ℕ × ℕ) (live : List (ℕ × ℕ)) → StandFrom low slots live → IsBlock slots b → low ≤ b.0
@@ -160,13 +162,18 @@ pub StandFrom-with_block : (low : ℕ) (slots : List ℕ) (b : ℕ × ℕ) (live
 StandFrom-with_block low slots b [] s block le apart = (block, le, tt)
 StandFrom-with_block low slots b (c ∷ live) s block le apart =
     ⊎_elim (λ i. rw (le-leb b.0 c.0 i) (block, le, (s.0, ⊎_elim (λ j. absurd (true≢false (sym (lies c.0 c.1 s.0.some) ∙ (or_parts (lies_in c.0 (c.0 + c.1) c.0) (in_blocks live c.0) (apart c.0 i j)).0))) (λ j. j) (cases_lt c.0 (b.0 + b.1)), s.2)))
-        (λ i. rw (lt-leb b.0 c.0 i) (s.0, s.1, StandFrom-with_block (c.0 + c.1) slots b live s.2 block
-            (⊎_elim (λ j. absurd (true≢false (sym (rw (le-leb c.0 b.0 (omega arith), lt-ltb b.0 (c.0 + c.1) j) refl) ∙ (or_parts (lies_in c.0 (c.0 + c.1) b.0) (in_blocks live b.0) (apart b.0 (omega arith) (omega (arith, block.some)))).0))) (λ j. j) (cases_lt b.0 (c.0 + c.1)))
-            (λ x lo hi. (or_parts (lies_in c.0 (c.0 + c.1) x) (in_blocks live x) (apart x lo hi)).1)))
-        (cases_le b.0 c.0)
+    (λ i. rw (lt-leb b.0 c.0 i) (
+      s.0,
+      s.1,
+      StandFrom-with_block (c.0 + c.1) slots b live s.2 block
+          (⊎_elim (λ j. absurd (true≢false (sym (rw (le-leb c.0 b.0 (omega arith), lt-ltb b.0 (c.0 + c.1) j) refl) ∙ (or_parts (lies_in c.0 (c.0 + c.1) b.0) (in_blocks live b.0) (apart b.0 (omega arith) (omega (arith, block.some)))).0))) (λ j. j) (cases_lt b.0 (c.0 + c.1)))
+          (λ x lo hi. (or_parts (lies_in c.0 (c.0 + c.1) x) (in_blocks live x) (apart x lo hi)).1),
+    ))
+    (cases_le b.0 c.0)
   where
     lies : (a n : ℕ) → 16 ≤ n → lies_in a (a + n) a ≡ true
     lies a n h = rw (le-leb a a (omega arith), lt-ltb a (a + n) (omega arith)) refl
+
     cases_le : (a b : ℕ) → (a ≤ b) ⊎ (b < a)
     cases_le a b = ⊎_elim (λ i. inr i) (λ i. inl i) (cases_lt b a)
 
@@ -175,8 +182,8 @@ pub StandFrom-without : (low : ℕ) (slots : List ℕ) (live : List (ℕ × ℕ)
 StandFrom-without low slots [] a s = tt
 StandFrom-without low slots (b ∷ live) a s =
     ⊎_elim (λ (e : eqb b.0 a ≡ true). rw e (StandFrom-low low (b.0 + b.1) slots (without live a) (omega (arith, s.1)) (StandFrom-without (b.0 + b.1) slots live a s.2)))
-        (λ (e : eqb b.0 a ≡ false). rw e (s.0, s.1, StandFrom-without (b.0 + b.1) slots live a s.2))
-        (cases_Bool (eqb b.0 a))
+    (λ (e : eqb b.0 a ≡ false). rw e (s.0, s.1, StandFrom-without (b.0 + b.1) slots live a s.2))
+    (cases_Bool (eqb b.0 a))
 
 -- the bytes of a row without the block at a place
 pub in_blocks-without : (low : ℕ) (slots : List ℕ) (live : List (ℕ × ℕ)) (a n k : ℕ) → StandFrom low slots live → k < length live → (a, n) ≡ get_or live k (a, n) → (x : ℕ)
@@ -186,11 +193,11 @@ in_blocks-without low slots (b ∷ live) a n zero s l read x =
     let e : b.0 ≡ a = ap (λ (p : ℕ × ℕ). p.0) (sym read) in
     let f : b.1 ≡ n = ap (λ (p : ℕ × ℕ). p.1) (sym read) in
     rw (eq-eqb b.0 a e, without-behind (b.0 + b.1) slots live a (omega (arith, e, s.0.some)) s.2, ← e, ← f)
-        (first_out (lies_in b.0 (b.0 + b.1) x) (in_blocks live x) (λ i j. let u = lies_in-true b.0 (b.0 + b.1) x i in let v = in_blocks-from (b.0 + b.1) slots live x s.2 j in omega (arith, u.1, v)))
+    (first_out (lies_in b.0 (b.0 + b.1) x) (in_blocks live x) (λ i j. let u = lies_in-true b.0 (b.0 + b.1) x i in let v = in_blocks-from (b.0 + b.1) slots live x s.2 j in omega (arith, u.1, v)))
 in_blocks-without low slots (b ∷ live) a n (suc k) s l read x =
     let later : b.0 + b.1 ≤ a = rw (ap (λ (p : ℕ × ℕ). p.0) (sym read)) at (starts_from (b.0 + b.1) slots live k (a, n) s.2 (omega arith)) in
     rw (ne_eqb b.0 a (λ e. omega (arith, e, later, s.0.some)), in_blocks-without (b.0 + b.1) slots live a n k s.2 (omega arith) read x)
-        (other_stays (lies_in b.0 (b.0 + b.1) x) (in_blocks live x) (lies_in a (a + n) x) (λ i j. let u = lies_in-true b.0 (b.0 + b.1) x i in let v = lies_in-true a (a + n) x j in omega (arith, u.1, v.0, later)))
+    (other_stays (lies_in b.0 (b.0 + b.1) x) (in_blocks live x) (lies_in a (a + n) x) (λ i j. let u = lies_in-true b.0 (b.0 + b.1) x i in let v = lies_in-true a (a + n) x j in omega (arith, u.1, v.0, later)))
 
 -- the block at a place is one in the slots
 pub block_at : (low : ℕ) (slots : List ℕ) (live : List (ℕ × ℕ)) (b : ℕ × ℕ) (k : ℕ) → StandFrom low slots live → k < length live → b ≡ get_or live k b → IsBlock slots b

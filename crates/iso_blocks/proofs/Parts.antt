@@ -48,7 +48,7 @@ found low (h ∷ holes) zero from end d some s free before behind le =
 found low (h ∷ holes) (suc k) from end d some s free before behind le =
     let first : h.1 < from + 1 = before 0 h (omega arith) (omega arith) in
     ⊎_elim (λ i. absurd (omega (arith, i.1)))
-        (λ i. let r = found (h.1 + 1) holes k from end d some s.3 i.1 (λ j e low' high. before (suc j) e (omega arith) (omega arith))
-                (λ j e low' high. behind (suc j) e (omega arith) (omega arith)) (omega arith) in
-            (omega (arith, r.0), r.1, r.2))
-        (AreFree-cases low h holes from end some s free)
+    (λ i. let r = found (h.1 + 1) holes k from end d some s.3 i.1 (λ j e low' high. before (suc j) e (omega arith) (omega arith))
+    (λ j e low' high. behind (suc j) e (omega arith) (omega arith)) (omega arith) in
+    (omega (arith, r.0), r.1, r.2))
+    (AreFree-cases low h holes from end some s free)

@@ -23,27 +23,27 @@ pub extend-touching : (xs : List (ℕ × ℕ)) (k n : ℕ) (h q r : ℕ × ℕ) 
     → set (remove xs n) k (h.0, r.1) ≡ take k xs ++ merged (get_or xs k d).0 end (drop n xs)
 extend-touching xs k n h q r end d is l hs qs e rs =
     rw is (extend_at xs k h r end d (rw is at l) hs (rw is at rs) (ap (λ (p : ℕ × ℕ). p.0) (same_read xs n r q l rs qs) ∙ e))
-    where
-      extend_at : (xs : List (ℕ × ℕ)) (k : ℕ) (h r : ℕ × ℕ) (end : ℕ) (d : ℕ × ℕ) → suc k < length xs → h ≡ get_or xs k h → r ≡ get_or xs (suc k) r → r.0 ≡ end
-          → set (remove xs (suc k)) k (h.0, r.1) ≡ take k xs ++ merged (get_or xs k d).0 end (drop (suc k) xs)
-      extend_at [] k h r end d l hs rs e = absurd (omega arith)
-      extend_at (h0 ∷ []) k h r end d l hs rs e = absurd (omega arith)
-      extend_at (h0 ∷ (r0 ∷ xs)) zero h r end d l hs rs e =
-          let f : end ≡ r0.0 = sym e ∙ ap (λ (p : ℕ × ℕ). p.0) rs in rw (eq-eqb end r0.0 f, hs, rs) refl
-      extend_at (h0 ∷ (r0 ∷ xs)) (suc k) h r end d l hs rs e = ap (λ t. h0 ∷ t) (extend_at (r0 ∷ xs) k h r end d (omega arith) hs rs e)
+  where
+    extend_at : (xs : List (ℕ × ℕ)) (k : ℕ) (h r : ℕ × ℕ) (end : ℕ) (d : ℕ × ℕ) → suc k < length xs → h ≡ get_or xs k h → r ≡ get_or xs (suc k) r → r.0 ≡ end
+        → set (remove xs (suc k)) k (h.0, r.1) ≡ take k xs ++ merged (get_or xs k d).0 end (drop (suc k) xs)
+    extend_at [] k h r end d l hs rs e = absurd (omega arith)
+    extend_at (h0 ∷ []) k h r end d l hs rs e = absurd (omega arith)
+    extend_at (h0 ∷ (r0 ∷ xs)) zero h r end d l hs rs e =
+        let f : end ≡ r0.0 = sym e ∙ ap (λ (p : ℕ × ℕ). p.0) rs in rw (eq-eqb end r0.0 f, hs, rs) refl
+    extend_at (h0 ∷ (r0 ∷ xs)) (suc k) h r end d l hs rs e = ap (λ t. h0 ∷ t) (extend_at (r0 ∷ xs) k h r end d (omega arith) hs rs e)
 
 pub extend-apart : (xs : List (ℕ × ℕ)) (k n : ℕ) (h : ℕ × ℕ) (end : ℕ) (d : ℕ × ℕ) → n ≡ suc k → k < length xs → h ≡ get_or xs k h
     → ((e : ℕ × ℕ) → n < length xs → e ≡ get_or xs n e → e.0 ≡ end → ⊥)
     → set xs k (h.0, end) ≡ take k xs ++ merged (get_or xs k d).0 end (drop n xs)
 extend-apart xs k n h end d is l hs apart = rw is (extend_at xs k h end d l hs (let P : ℕ → Type 0 = λ n. (e : ℕ × ℕ) → n < length xs → e ≡ get_or xs n e → e.0 ≡ end → ⊥ in subst P is apart))
-    where
-      extend_at : (xs : List (ℕ × ℕ)) (k : ℕ) (h : ℕ × ℕ) (end : ℕ) (d : ℕ × ℕ) → k < length xs → h ≡ get_or xs k h
-          → ((e : ℕ × ℕ) → suc k < length xs → e ≡ get_or xs (suc k) e → e.0 ≡ end → ⊥)
-          → set xs k (h.0, end) ≡ take k xs ++ merged (get_or xs k d).0 end (drop (suc k) xs)
-      extend_at [] k h end d l hs apart = absurd (omega arith)
-      extend_at (h0 ∷ []) zero h end d l hs apart = rw hs refl
-      extend_at (h0 ∷ (r0 ∷ xs)) zero h end d l hs apart = rw (ne_eqb end r0.0 (λ e. apart r0 (omega arith) refl (sym e)), hs) refl
-      extend_at (h0 ∷ xs) (suc k) h end d l hs apart = ap (λ t. h0 ∷ t) (extend_at xs k h end d (omega arith) hs (λ e m. apart e (omega arith)))
+  where
+    extend_at : (xs : List (ℕ × ℕ)) (k : ℕ) (h : ℕ × ℕ) (end : ℕ) (d : ℕ × ℕ) → k < length xs → h ≡ get_or xs k h
+        → ((e : ℕ × ℕ) → suc k < length xs → e ≡ get_or xs (suc k) e → e.0 ≡ end → ⊥)
+        → set xs k (h.0, end) ≡ take k xs ++ merged (get_or xs k d).0 end (drop (suc k) xs)
+    extend_at [] k h end d l hs apart = absurd (omega arith)
+    extend_at (h0 ∷ []) zero h end d l hs apart = rw hs refl
+    extend_at (h0 ∷ (r0 ∷ xs)) zero h end d l hs apart = rw (ne_eqb end r0.0 (λ e. apart r0 (omega arith) refl (sym e)), hs) refl
+    extend_at (h0 ∷ xs) (suc k) h end d l hs apart = ap (λ t. h0 ∷ t) (extend_at xs k h end d (omega arith) hs (λ e m. apart e (omega arith)))
 
 pub put-touching : (xs : List (ℕ × ℕ)) (k : ℕ) (h : ℕ × ℕ) (from end : ℕ) → k < length xs → h ≡ get_or xs k h → h.0 ≡ end
     → set xs k (from, h.1) ≡ take k xs ++ merged from end (drop k xs)
@@ -72,7 +72,7 @@ join-right (h0 ∷ xs) zero from end l before behind apart =
 join-right (h0 ∷ xs) (suc k) from end l before behind apart =
     let first : h0.1 < from = before 0 h0 (omega arith) (omega arith) in
     rw (lt-ltb h0.1 from first) (ap (λ t. h0 ∷ t) (join-right xs k from end (omega arith) (λ j f low high. before (suc j) f (omega arith) (omega arith))
-        (λ j f low high. behind (suc j) f (omega arith) (omega arith)) (λ e m. apart e (omega arith))))
+    (λ j f low high. behind (suc j) f (omega arith) (omega arith)) (λ e m. apart e (omega arith))))
 
 -- a cut of the hole at k
 pub cut-at : (xs : List (ℕ × ℕ)) (k : ℕ) (h : ℕ × ℕ) (from end : ℕ) → k < length xs → h ≡ get_or xs k h → from < h.1 → AllWithin (λ (h : ℕ × ℕ). h.1 < from + 1) xs 0 k

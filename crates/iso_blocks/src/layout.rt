@@ -3,12 +3,10 @@
 ghost use Rattle.std.specs.Prelude.{◌≡◌, ℕ, ◌+◌, ◌-◌, ◌*◌, ◌%◌, ◌<◌, ◌≤◌, ◌^◌, true, false, List, [], ◌∷◌, Some, None, OnOk, OnErr, IfOk, IfNone, OnSome, MatchOption, length, slice_index_or, vec_len, vec_capacity};
 ghost use Rattle.slot_space.specs.Sets.{has, insert, union, minus, run};
 ghost use Rattle.iso_blocks.specs.Bytes.{is_met};
-ghost use Rattle.iso_blocks.specs.Heap.{Heap, Fits, IsLowestFit, placed, with_slots, without, starts_at, emptied, freed, IsBlockAt};
+ghost use Rattle.iso_blocks.specs.Heap.{Heap, Fits, IsLowestFit, placed, with_slots, without, starts_at, emptied, freed, IsBlockAt, IsSound};
 ghost use Rattle.iso_blocks.specs.Kept.{heap_of, holes_to_be, IsKept};
 
-use crate::holes;
-use crate::live;
-use crate::space;
+use crate::{holes, live, space};
 use basics::NoMemory;
 use slot_space::{SlotNo, SlotSet};
 use std::alloc::Global;
@@ -160,7 +158,11 @@ impl Layout {
             (λ k. (k < length self.now.live.items) × (starts_at self.now.live.items address ≡ true) × IsBlockAt self.now.live.items k address) }
     {
         let k = live::starting_before(&self.live, address);
-        if k < self.live.len() && self.live[k].0 == address { Some(k) } else { None }
+        if k < self.live.len() && self.live[k].0 == address {
+            Some(k)
+        } else {
+            None
+        }
     }
 
     /// The slots that the blocks but the one at `k` meet.
@@ -171,7 +173,12 @@ impl Layout {
     {
         let (address, size) = self.live[k];
         let (first, count) = space::slots_of(address, size);
-        let (from, end) = space::own_slots(first, count, live::end_before(&self.live, k), live::start_after(&self.live, k));
+        let (from, end) = space::own_slots(
+            first,
+            count,
+            live::end_before(&self.live, k),
+            live::start_after(&self.live, k),
+        );
         let mut met = self.met;
         if from < end {
             met.remove_run(SlotNo(from), end - from);
@@ -219,5 +226,35 @@ impl Layout {
         slots.remove_all(&self.met);
         self.drop_slots(&slots);
         Some(slots)
+    }
+
+    /// Takes the slots into the heap, which has none yet.
+    pub fn take_slots(&mut self, slots: &SlotSet) -> Result<(), NoMemory>
+        requires kept { IsKept self.old }
+        requires empty { heap_of self.old ≡ record { live = []; slots = [] } }
+        ensures kept { IsKept self.new }
+        ensures ok { OnOk result (heap_of self.new ≡ record { live = []; slots = slots.now }) }
+    {
+        let mut from = 0;
+        while let Some(slot) = slots.next_from(from) {
+            self.add_slots(slot.0, 1)?;
+            from = slot.0 + 1;
+        }
+        Ok(())
+    }
+
+    /// Makes blocks that can stand in the heap slots live, where none is live yet.
+    pub fn settle_all(&mut self, live: &[(u64, u64)]) -> Result<(), NoMemory>
+        requires kept { IsKept self.old }
+        requires empty { self.old.live.items ≡ [] }
+        requires sound { IsSound (record { live = live.now; slots = self.old.heap }) }
+        ensures kept { IsKept self.new }
+        ensures ok { OnOk result (heap_of self.new ≡ record { live = live.now; slots = self.old.heap }) }
+    {
+        for block in live {
+            let (address, size) = *block;
+            self.settle(address, size)?;
+        }
+        Ok(())
     }
 }

@@ -34,5 +34,9 @@ pub fn start_after(live: &[(u64, u64)], k: usize) -> u64
     requires { k < length live.now }
     ensures { result ≡ beside.start_of (drop (k + 1) live.now) }
 {
-    if k + 1 < live.len() { live[k + 1].0 } else { u64::MAX }
+    if k + 1 < live.len() {
+        live[k + 1].0
+    } else {
+        u64::MAX
+    }
 }

@@ -52,7 +52,11 @@ pub fn own_slots(first: u16, count: u16, before: u64, after: u64) -> (u16, u16)
     requires within { first + count ≤ 4096 }
     ensures { Owns before after first count result.0 result.1 }
 {
-    let from = if base(first) < before { first + 1 } else { first };
+    let from = if base(first) < before {
+        first + 1
+    } else {
+        first
+    };
     let end = first + count;
     let end = if after < base(end) { end - 1 } else { end };
     (from, end)

@@ -18,8 +18,14 @@ pub returns-clause-kept : goal.returns-clause-kept
 returns-clause-kept c =
     let new = sym c.contains.ensures.member ∙ c.if-contains.false in
     kept-grow c.args.self.now _ c.args.slot c.requires.kept c.requires.small new
-        (record { live = refl; holes = rw c.base-start.ensures at c.release.ensures.items; heap = c.insert.ensures; met = refl; slots = refl;
-            room = omega (arith, c.release.ensures.capacity, c.requires.room) })
+    (record {
+      live = refl;
+      holes = rw c.base-start.ensures at c.release.ensures.items;
+      heap = c.insert.ensures;
+      met = refl;
+      slots = refl;
+      room = omega (arith, c.release.ensures.capacity, c.requires.room);
+    })
 
 pub returns-clause-added : goal.returns-clause-added
 returns-clause-added c =

@@ -7,4 +7,5 @@ abbrev pub invariant-loop-slot : goal.invariant-loop-slot
 invariant-loop-slot l = record {
   kept : IsKept l.self;
   heap : heap_of l.self ≡ with_slots (heap_of l.initial.self) l.first (l.slot - l.first);
-  room : holes_to_be l.self + 2 * (l.slot-end - l.slot) ≤ vec_capacity l.self.holes }
+  room : holes_to_be l.self + 2 * (l.slot-end - l.slot) ≤ vec_capacity l.self.holes;
+}

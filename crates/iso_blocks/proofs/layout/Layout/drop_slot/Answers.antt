@@ -10,5 +10,11 @@ pub returns-clause-kept : goal.returns-clause-kept
 returns-clause-kept c =
     let n = length-minus c.args.slot c.args.self.now.heap c.requires.kept.proper.ascending c.requires.there in
     kept-shrink c.args.self.now _ c.args.slot c.requires.kept c.requires.there c.requires.unmet
-        (record { live = refl; holes = rw c.base-start.ensures at c.occupy.ensures.items; heap = c.remove.ensures; met = refl; slots = omega (arith, n, c.requires.kept.counted);
-            room = c.occupy.ensures.capacity })
+    (record {
+      live = refl;
+      holes = rw c.base-start.ensures at c.occupy.ensures.items;
+      heap = c.remove.ensures;
+      met = refl;
+      slots = omega (arith, n, c.requires.kept.counted);
+      room = c.occupy.ensures.capacity;
+    })

@@ -39,11 +39,12 @@ loop-slot-preserved c =
     let inv = c.loop-slot.invariant in
     let small = proper.small c.slot.inside.0 (least_from-found c.loop-slot.from c.slot.inside.0 c.args.slots.now step).1 in
     record {
-        kept = c.drop_slot.ensures.kept;
-        live = ap (λ (h : Heap). h.live) c.drop_slot.ensures.heap ∙ inv.live;
-        heap = λ t. ap (λ (h : Heap). has t h.slots) c.drop_slot.ensures.heap
-            ∙ left_more c.loop-slot.from c.slot.inside.0 c.args.slots.now c.args.self.now.heap c.loop-slot.self.heap proper.ascending step inv.heap t;
-        small = omega (arith, small) }
+      kept = c.drop_slot.ensures.kept;
+      live = ap (λ (h : Heap). h.live) c.drop_slot.ensures.heap ∙ inv.live;
+      heap = λ t. ap (λ (h : Heap). has t h.slots) c.drop_slot.ensures.heap
+          ∙ left_more c.loop-slot.from c.slot.inside.0 c.args.slots.now c.args.self.now.heap c.loop-slot.self.heap proper.ascending step inv.heap t;
+      small = omega (arith, small);
+    }
 
 pub returns-clause-heap : goal.returns-clause-heap
 returns-clause-heap c =

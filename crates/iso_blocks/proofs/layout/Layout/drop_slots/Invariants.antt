@@ -8,7 +8,8 @@ invariant-loop-slot l = record {
   kept : IsKept l.self;
   live : l.self.live.items ≡ l.initial.self.live.items;
   heap : IsLeft l.from l.slots l.initial.self.heap l.self.heap;
-  small : l.from ≤ 4096 }
+  small : l.from ≤ 4096;
+}
 
 abbrev pub decreases-loop-slot : goal.decreases-loop-slot
 decreases-loop-slot l = 4096 - l.from

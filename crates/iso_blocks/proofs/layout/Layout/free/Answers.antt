@@ -14,7 +14,7 @@ use Rattle.iso_blocks.proofs.layout.Layout.free.Goals as goal
 given_of : (l m : Layout) (a : ℕ) → IsKept m → heap_of m ≡ heap (without l.live.items a) l.heap → minus m.heap m.met ≡ emptied (heap_of l) a
 given_of l m a kept e =
     minus-filter (is_met (without l.live.items a)) m.heap m.met (λ s. kept.met s ∙ ap (λ (h : Heap). is_met h.live s) e)
-        ∙ ap (λ (h : Heap). filter (λ (s : ℕ). not (is_met (without l.live.items a) s)) h.slots) e
+    ∙ ap (λ (h : Heap). filter (λ (s : ℕ). not (is_met (without l.live.items a) s)) h.slots) e
 
 pub drop_slots-requires-clause-there : goal.drop_slots-requires-clause-there
 drop_slots-requires-clause-there c s e = (in_minus s c.lift.new.self.heap c.lift.new.self.met (rw c.remove_all.ensures at e)).0
@@ -42,4 +42,4 @@ returns-clause-some c =
     let lifted = subst P (found.2 b read) (c.lift.ensures.heap b read) in
     let given = c.remove_all.ensures ∙ given_of l c.lift.new.self c.args.address c.lift.ensures.kept lifted in
     c.drop_slots.ensures.heap ∙ ap (λ (h : Heap). heap h.live (minus h.slots c.remove_all.new.self)) lifted
-        ∙ ap (λ (gone : List ℕ). heap (without l.live.items c.args.address) (minus l.heap gone)) given
+    ∙ ap (λ (gone : List ℕ). heap (without l.live.items c.args.address) (minus l.heap gone)) given

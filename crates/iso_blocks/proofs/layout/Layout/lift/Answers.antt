@@ -16,8 +16,16 @@ returns-clause-kept c =
     let read = c.remove-address.ensures.value in
     let gone = without-place 0 c.args.self.now.heap live b.0 c.args.k b c.requires.kept.sound c.requires.within (ap (λ (p : ℕ × ℕ). p.0) (sym read)) in
     kept-leave c.args.self.now _ b.0 b.1 c.args.k c.requires.kept
-        (record { within = c.requires.within; block = read; live = c.remove-address.ensures.items ∙ sym gone; holes = c.release.ensures.items; heap = refl;
-            met = c.met_without-met.ensures b read; slots = refl; room = c.release.ensures.capacity })
+    (record {
+      within = c.requires.within;
+      block = read;
+      live = c.remove-address.ensures.items ∙ sym gone;
+      holes = c.release.ensures.items;
+      heap = refl;
+      met = c.met_without-met.ensures b read;
+      slots = refl;
+      room = c.release.ensures.capacity;
+    })
 
 pub returns-clause-heap : goal.returns-clause-heap
 returns-clause-heap c d other =
@@ -26,4 +34,4 @@ returns-clause-heap c d other =
     let read = c.remove-address.ensures.value in
     let gone = without-place 0 c.args.self.now.heap live b.0 c.args.k b c.requires.kept.sound c.requires.within (ap (λ (p : ℕ × ℕ). p.0) (sym read)) in
     ap (λ (rows : List (ℕ × ℕ)). heap rows c.args.self.now.heap) (c.remove-address.ensures.items ∙ sym gone)
-        ∙ ap (λ (p : ℕ × ℕ). heap (without live p.0) c.args.self.now.heap) (same_read live c.args.k b d c.requires.within read other)
+    ∙ ap (λ (p : ℕ × ℕ). heap (without live p.0) c.args.self.now.heap) (same_read live c.args.k b d c.requires.within read other)

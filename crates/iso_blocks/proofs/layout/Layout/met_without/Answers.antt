@@ -32,8 +32,8 @@ returns-then-from-end c b read =
     let owns = rw (before, after) at c.own_slots-from.ensures in
     let P : ℕ × ℕ → Type 0 = λ b. (s : ℕ) → has s c.remove_run.new.self ≡ is_met (without live b.0) s in
     subst P (same_read live c.args.k r b c.requires.within c.index.ensures read)
-        (λ s. rw (c.remove_run.ensures, has-minus_run s own.0 own.1 c.args.self.now.met c.if-from-end.true)
-            (sym (met_gone c.args.self.now c.args.k r c.slots_of-first.result.0 c.slots_of-first.result.1 own.0 own.1 s c.requires.kept c.requires.within c.index.ensures of.first of.last of.some of.within owns)))
+    (λ s. rw (c.remove_run.ensures, has-minus_run s own.0 own.1 c.args.self.now.met c.if-from-end.true)
+    (sym (met_gone c.args.self.now c.args.k r c.slots_of-first.result.0 c.slots_of-first.result.1 own.0 own.1 s c.requires.kept c.requires.within c.index.ensures of.first of.last of.some of.within owns)))
 
 pub returns-else-from-end : goal.returns-else-from-end
 returns-else-from-end c b read =
@@ -46,8 +46,8 @@ returns-else-from-end c b read =
     let owns = rw (before, after) at c.own_slots-from.ensures in
     let P : ℕ × ℕ → Type 0 = λ b. (s : ℕ) → has s c.args.self.now.met ≡ is_met (without live b.0) s in
     subst P (same_read live c.args.k r b c.requires.within c.index.ensures read)
-        (λ s. sym (met_gone c.args.self.now c.args.k r c.slots_of-first.result.0 c.slots_of-first.result.1 own.0 own.1 s c.requires.kept c.requires.within c.index.ensures of.first of.last of.some of.within owns
-            ∙ rw (none_between s own.0 own.1 c.if-from-end.false) (and-true (has s c.args.self.now.met))))
+    (λ s. sym (met_gone c.args.self.now c.args.k r c.slots_of-first.result.0 c.slots_of-first.result.1 own.0 own.1 s c.requires.kept c.requires.within c.index.ensures of.first of.last of.some of.within owns
+    ∙ rw (none_between s own.0 own.1 c.if-from-end.false) (and-true (has s c.args.self.now.met))))
   where
     and-true : (b : Bool) → (b && true) ≡ b
     and-true true = refl

@@ -21,19 +21,27 @@ pub returns-clause-kept : goal.returns-clause-kept
 returns-clause-kept c =
     let l = c.reserve.new.self in
     let fits : Fits (heap l.live.items l.heap) c.args.size c.args.address =
-        let P : Heap → Type 0 = λ h. Fits h c.args.size c.args.address in subst P (sym c.in_ok-reserve.ensures.same) c.requires.fits in
+    let P : Heap → Type 0 = λ h. Fits h c.args.size c.args.address in subst P (sym c.in_ok-reserve.ensures.same) c.requires.fits in
     let placed = with_block-at (c.args.address, c.args.size) l.live.items c.starting_before-k.result (rw c.deref.ensures.value at c.starting_before-k.ensures.bound)
-        (rw c.deref.ensures.value at c.starting_before-k.ensures.before) (rw c.deref.ensures.value at c.starting_before-k.ensures.behind) in
+    (rw c.deref.ensures.value at c.starting_before-k.ensures.before) (rw c.deref.ensures.value at c.starting_before-k.ensures.behind) in
     kept-settle l _ c.args.address c.args.size c.slots_of-first.result.0 c.slots_of-first.result.1 (c.slots_of-first.result.0 + c.slots_of-first.result.1 - 1)
-        c.in_ok-reserve.ensures.kept fits c.requires.some c.requires.whole
-        (record { live = c.in_ok-insert.ensures.items ∙ sym placed; holes = c.occupy.ensures.items; heap = refl; met = c.insert_run.ensures; slots = refl;
-            room = omega (arith, c.in_ok-reserve.ensures.room, c.occupy.ensures.capacity); starts = c.slots_of-first.ensures.first; ends = c.slots_of-first.ensures.last;
-            counts = omega (arith, c.slots_of-first.ensures.some) })
+    c.in_ok-reserve.ensures.kept fits c.requires.some c.requires.whole
+    (record {
+      live = c.in_ok-insert.ensures.items ∙ sym placed;
+      holes = c.occupy.ensures.items;
+      heap = refl;
+      met = c.insert_run.ensures;
+      slots = refl;
+      room = omega (arith, c.in_ok-reserve.ensures.room, c.occupy.ensures.capacity);
+      starts = c.slots_of-first.ensures.first;
+      ends = c.slots_of-first.ensures.last;
+      counts = omega (arith, c.slots_of-first.ensures.some);
+    })
 
 pub returns-clause-ok : goal.returns-clause-ok
 returns-clause-ok c =
     let l = c.reserve.new.self in
     let placed = with_block-at (c.args.address, c.args.size) l.live.items c.starting_before-k.result (rw c.deref.ensures.value at c.starting_before-k.ensures.bound)
-        (rw c.deref.ensures.value at c.starting_before-k.ensures.before) (rw c.deref.ensures.value at c.starting_before-k.ensures.behind) in
+    (rw c.deref.ensures.value at c.starting_before-k.ensures.before) (rw c.deref.ensures.value at c.starting_before-k.ensures.behind) in
     ap (λ (live : List (ℕ × ℕ)). heap live l.heap) (c.in_ok-insert.ensures.items ∙ sym placed)
-        ∙ ap (λ (h : Heap). heap (with_block (c.args.address, c.args.size) h.live) h.slots) c.in_ok-reserve.ensures.same
+    ∙ ap (λ (h : Heap). heap (with_block (c.args.address, c.args.size) h.live) h.slots) c.in_ok-reserve.ensures.same

@@ -1,0 +1,15 @@
+use Rattle.std.proofs.Common.{◌≡◌, ℕ, ◌-◌, ◌≤◌, []}
+use Rattle.iso_blocks.specs.Kept.{IsKept}
+use Rattle.iso_blocks.proofs.HeapSets.{IsTaken}
+use Rattle.iso_blocks.proofs.layout.Layout.take_slots.Given as goal
+
+abbrev pub invariant-loop-slot : goal.invariant-loop-slot
+invariant-loop-slot l = record {
+  kept : IsKept l.self;
+  live : l.self.live.items ≡ [];
+  heap : IsTaken l.from l.slots l.self.heap;
+  small : l.from ≤ 4096;
+}
+
+abbrev pub decreases-loop-slot : goal.decreases-loop-slot
+decreases-loop-slot l = 4096 - l.from
