@@ -17,10 +17,10 @@ use Rattle.rv_step.specs.Memory.{Memory, held_byte, byte_in, place_of, slots_of,
 use Rattle.rv_step.specs.Access.{byte_at, readable, writable, bytes_from, stored, with_byte, changed_in, read, written}
 
 -- an address of a slot lies between the first and the last of them
-in_range : (m : Memory) (a p : ℕ) → place_of m a ≡ Some p → (slots_start ≤ a) × (a < slots_end)
+pub in_range : (m : Memory) (a p : ℕ) → place_of m a ≡ Some p → (slots_start ≤ a) × (a < slots_end)
 in_range m a p e = grind (arith, nat_tests)
 
-place_in_range : (m : Memory) (a : ℕ) → slots_start ≤ a → a < slots_end → place_of m a ≡ slot_place m (slot_of a)
+pub place_in_range : (m : Memory) (a : ℕ) → slots_start ≤ a → a < slots_end → place_of m a ≡ slot_place m (slot_of a)
 place_in_range m a low high = grind (arith, nat_tests)
 
 same_slot : (a k : ℕ) → slots_start ≤ a → a % 65536 + k < 65536 → slot_of (a + k) ≡ slot_of a
@@ -97,20 +97,20 @@ place_set m s p held new inside there same =
     let test : (new.slot == s) ≡ ((get_or m p held).slot == s) = rw (there, same) refl in
     rw (position_or_len-set (λ (h : Held). h.slot == s) m p new held test, length-set m p new) refl
 
-address_set : (m : Memory) (a p : ℕ) (held new : Held) → p < length m → get_or m p held ≡ held → new.slot ≡ held.slot
+pub address_set : (m : Memory) (a p : ℕ) (held new : Held) → p < length m → get_or m p held ≡ held → new.slot ≡ held.slot
     → place_of (set m p new) a ≡ place_of m a
 address_set m a p held new inside there same = rw (place_set m (slot_of a) p held new inside there same) refl
 
-get_set : (m : Memory) (p : ℕ) (new : Held) → p < length m → slice_get (set m p new) p ≡ Some new
+pub get_set : (m : Memory) (p : ℕ) (new : Held) → p < length m → slice_get (set m p new) p ≡ Some new
 get_set m p new inside =
     let more : p < length (set m p new) = rw (length-set m p new) inside in
     slice_get-get_or (set m p new) p new more ∙ ap Some (get_or-set_at m p p new new refl inside)
 
 -- the list with a held slot's block changed
-abbrev with_block_at : Memory → ℕ → Held → List ℕ → Memory
+abbrev pub with_block_at : Memory → ℕ → Held → List ℕ → Memory
 with_block_at m p held block = slice_set m p (record held { block = block })
 
-with_byte_inside : (m : Memory) (a p at byte : ℕ) (held : Held) → place_of m a ≡ Some p → slice_get m p ≡ Some held → a % 65536 ≡ at
+pub with_byte_inside : (m : Memory) (a p at byte : ℕ) (held : Held) → place_of m a ≡ Some p → slice_get m p ≡ Some held → a % 65536 ≡ at
     → with_byte m a byte ≡ with_block_at m p held (slice_set held.block at byte)
 unfolding with_byte
 with_byte_inside m a p at byte held e there off = rw (e, there, off) refl
