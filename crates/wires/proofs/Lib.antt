@@ -1,0 +1,8 @@
+pub mod Gets
+pub mod Order
+pub mod Rings
+pub mod Changed
+pub mod Pairs
+pub mod Walk
+pub mod Build
+pub mod Above

@@ -1,0 +1,9 @@
+use Rattle.wires.specs.Link.{IsSettled}
+use Rattle.wires.proofs.Walk.{Going, Done, DoneRow}
+use Rattle.wires.proofs.all.settle_all.Given as goal
+
+abbrev pub invariant-loop-j : goal.invariant-loop-j
+invariant-loop-j g l = record { going : Going l.fn.nodes l.nodes; done : Done IsSettled l.j l.nodes }
+
+abbrev pub invariant-loop-i : goal.invariant-loop-i
+invariant-loop-i g l = record { going : Going l.fn.nodes l.nodes; done : Done IsSettled l.j l.nodes; row : DoneRow IsSettled l.i l.j l.nodes }

@@ -1,0 +1,13 @@
+use Rattle.std.proofs.Common.{refl}
+use Rattle.wires.specs.Link.{IsInOrder, OwnBecomes}
+use Rattle.wires.proofs.Changed.{Wrote, wrote_at, changed, stays_wired, own_paired}
+use Rattle.wires.proofs.ends.Ends.look_own.Goals as goal
+
+pub returns : goal.returns
+returns g c =
+    let w : Wrote c.args.self.now.me c.args.self.now _ c.index_mut.result.now c.look_own.new.self = wrote_at c.args.self.now.me c.me.inside.0 c.args.self.now _ c.index_mut.result.now c.look_own.new.self c.me.view_is c.index_mut.ensures.value c.requires.there refl refl in
+    record {
+      looked = changed c.args.self.now.me (OwnBecomes IsInOrder) c.args.self.now _ c.index_mut.result.now c.look_own.new.self w c.look_own.ensures.looked;
+      paired = own_paired c.args.self.now _ c.index_mut.result.now c.look_own.new.self w c.look_own.ensures.rings c.requires;
+      wired = stays_wired c.args.self.now.me c.args.self.now _ c.index_mut.result.now c.look_own.new.self w c.look_own.ensures.rings;
+    }
