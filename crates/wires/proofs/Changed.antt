@@ -1,15 +1,15 @@
 -- One link of a node's changed.
-use Rattle.std.proofs.Common.{Some, ◌≡◌, ℕ, ◌<◌, ◌≤◌, List, length, set, get_or, refl, sym, ap, ◌∙◌, subst, arith, vec_len, length-set}
+use Rattle.std.proofs.Common.{Some, ◌≡◌, ℕ, ◌<◌, ◌≤◌, length, set, get_or, refl, sym, ap, ◌∙◌, subst, arith, vec_len, length-set}
 use Rattle.std.specs.Prelude.{slice_get}
-use Rattle.std.proofs.lemmas.Option.{slice_get_read, slice_get_within}
+use Rattle.std.proofs.lemmas.Option.{slice_get_read}
 use Rattle.rtrb.specs.Ring.{IsPair}
 use Rattle.wires.specs.declared.link.Link.{Link}
 use Rattle.wires.specs.declared.ends.Ends.{Ends}
 use Rattle.wires.specs.Link.{link_spare, SameRings, SameLink}
-use Rattle.wires.specs.Ends.{node_of, width, link_of, of_link, count_of_link, spare_to, SameOthers, LinkChanged, SameEnds, ArePaired, BothChanged}
+use Rattle.wires.specs.Ends.{node_of, width, link_of, count_of_link, spare_to, SameOthers, LinkChanged, SameEnds, ArePaired, BothChanged}
 use Rattle.wires.specs.Wires.{StaysWired}
-use Rattle.wires.proofs.Gets.{by_eq, same_some, some_at, get_set_same, get_set_other}
-use Rattle.wires.proofs.Rings.{rings_refl, pair_kept, KeepsRings, keeps_wired}
+use Rattle.wires.proofs.Gets.{by_eq, same_some, get_set_same, get_set_other}
+use Rattle.wires.proofs.Rings.{rings_refl, pair_kept, keeps_wired}
 
 module _ {P : Type 0} where
   -- b is a with another link at k

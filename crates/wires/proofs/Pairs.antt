@@ -1,12 +1,11 @@
 -- The links of a list of nodes, where those of one node or of two changed.
-use Rattle.std.proofs.Common.{Option, Some, None, ◌≡◌, ℕ, ◌-◌, ◌<◌, ◌≤◌, List, ◌++◌, length, set, get_or, refl, sym, ap, ◌∙◌, subst, arith, length-append, length-set}
+use Rattle.std.proofs.Common.{Some, None, ◌≡◌, ℕ, ◌-◌, ◌<◌, List, ◌++◌, length, set, get_or, refl, sym, ap, ◌∙◌, subst, arith, length-append, length-set}
 use Rattle.std.specs.Prelude.{slice_get}
 use Rattle.std.proofs.lemmas.List.{set-append_left, set-append_right, get_or_append_left, get_or-append_right}
 use Rattle.std.proofs.lemmas.Option.{slice_get_within, slice_get-get_or, slice_get_past}
-use Rattle.rtrb.specs.Ring.{IsPair}
 use Rattle.wires.specs.declared.link.Link.{Link}
 use Rattle.wires.specs.declared.ends.Ends.{Ends}
-use Rattle.wires.specs.Ends.{node_of, width, link_of, SameOthers, LinkChanged, BothChanged, ArePaired}
+use Rattle.wires.specs.Ends.{node_of, link_of, SameOthers, LinkChanged, BothChanged, ArePaired}
 use Rattle.wires.specs.Wires.{row_link, link_at, AreWired, StaysWired}
 use Rattle.wires.specs.Pairs.{PairChanged, SelfChanged}
 use Rattle.wires.proofs.Gets.{by_eq, by_less, some_at, get_set_same, get_set_other}

@@ -1,5 +1,5 @@
 -- A node that keeps its rings stays wired.
-use Rattle.std.proofs.Common.{Option, Some, ◌≡◌, ℕ, ◌<◌, List, length, set, refl, sym, ap, ◌∙◌, subst, arith, length-set}
+use Rattle.std.proofs.Common.{Option, Some, ◌≡◌, ℕ, List, length, set, refl, sym, ap, ◌∙◌, subst, arith, length-set}
 use Rattle.std.specs.Prelude.{slice_get}
 use Rattle.std.proofs.lemmas.Option.{slice_get_within}
 use Rattle.rtrb.specs.Ring.{IsPair}

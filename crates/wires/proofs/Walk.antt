@@ -1,13 +1,12 @@
 -- A walk over all links, pair by pair, after which Q holds of each.
 use Rattle.std.proofs.Common.{Option, Some, None, ◌≡◌, ℕ, ◌+◌, ◌<◌, ◌≤◌, List, [], ◌++◌, length, refl, sym, ap, ◌∙◌, subst, arith}
 use mathlib.Core.List.{IsPrefix}
-use Rattle.std.specs.Prelude.{slice_get}
 use Rattle.std.proofs.lemmas.Option.{slice_get_past}
 use Rattle.wires.specs.declared.link.Link.{Link}
 use Rattle.wires.specs.declared.ends.Ends.{Ends}
 use Rattle.wires.specs.Link.{link_sent, link_received, link_known, link_waiting, link_spare, KeptLink, IsInOrder, IsSettled, BothBecome, OwnBecomes}
-use Rattle.wires.specs.Ends.{width, link_of, of_link, count_of_link}
-use Rattle.wires.specs.Wires.{row_link, link_at, sent_on, received_on, known_on, waiting_on, spare_on, AreWired, AreInOrder, AreSettled, CarriedNoMore}
+use Rattle.wires.specs.Ends.{of_link, count_of_link}
+use Rattle.wires.specs.Wires.{row_link, link_at, AreWired, AreInOrder, AreSettled, CarriedNoMore}
 use Rattle.wires.specs.Pairs.{PairChanged, SelfChanged}
 use Rattle.wires.proofs.Gets.{by_eq, by_less, by_pair, same_some, some_at}
 use Rattle.wires.proofs.Order.{prefix_refl, prefix_trans}

@@ -4,7 +4,7 @@ use Rattle.rtrb.specs.Ring.{IsPair}
 use Rattle.wires.specs.declared.link.Link.{Link}
 use Rattle.wires.specs.declared.ends.Ends.{Ends}
 use Rattle.wires.specs.Link.{link_sent, link_received, link_known}
-use Rattle.wires.specs.Ends.{node_of, width, link_of, ArePaired}
+use Rattle.wires.specs.Ends.{node_of, width, link_of}
 
 module _ {P : Type 0} where
   -- nothing was sent or received, and nothing is known

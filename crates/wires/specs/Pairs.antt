@@ -1,8 +1,7 @@
 -- What one step of a walk over all links does.
-use Rattle.std.specs.Prelude.{◌≡◌, ℕ, List, length, Some, slice_get}
+use Rattle.std.specs.Prelude.{◌≡◌, ℕ, List, length, Some}
 use Rattle.wires.specs.declared.link.Link.{Link}
 use Rattle.wires.specs.declared.ends.Ends.{Ends}
-use Rattle.wires.specs.Ends.{node_of, width}
 use Rattle.wires.specs.Wires.{link_at, AreWired}
 
 module _ {P : Type 0} where

@@ -1,4 +1,4 @@
-ghost use Rattle.std.specs.Prelude.{◌<◌, length, vec_len, IfOk, OnOk};
+ghost use Rattle.std.specs.Prelude.{◌≡◌, ◌<◌, length, vec_len, IfOk, OnOk};
 ghost use Rattle.wires.specs.Ends.{width};
 ghost use Rattle.wires.specs.Wires.{AreWired, StaysWired};
 
@@ -119,17 +119,29 @@ fn ten_thousand_packets_come_in_order(rt: HostRuntime) -> Result<(), Fail> {
     Ok(())
 }
 
-// Node 1 sends back what node 0's ring shows, each plus 1000; node 0 goes on with its outbox.
+// Sends back a packet of node 0, if its ring shows one, plus 1000.
+#[tactic(auto, using(crate::proofs::Rings::stays_trans))]
+fn answer_one(ends: &mut Ends<u32>) -> Result<(), NoMemory>
+    requires { 0 < width ends.old }
+    ensures wired { StaysWired ends.old ends.new }
+    ensures width { width ends.new ≡ width ends.old }
+{
+    if let Some(packet) = ends.take(NodeNo(0)) {
+        ends.reserve(NodeNo(0), 1)?;
+        ends.send(NodeNo(0), packet.wrapping_add(1000));
+    }
+    Ok(())
+}
+
+// Node 1 answers what node 0's ring shows, and each node goes on with its outbox.
+#[tactic(auto, using(crate::proofs::Rings::stays_trans))]
 fn answer(ends: &mut Ends<u32>) -> Result<(), NoMemory>
-    requires { 1 < width ends.old }
+    requires { 0 < width ends.old }
     ensures { StaysWired ends.old ends.new }
 {
     if ends.me() == NodeNo(1) {
         for _n in 0..64 {
-            if let Some(packet) = ends.take(NodeNo(0)) {
-                ends.reserve(NodeNo(0), 1)?;
-                ends.send(NodeNo(0), packet.wrapping_add(1000));
-            }
+            answer_one(ends)?;
         }
     }
     ends.flush();
@@ -154,14 +166,15 @@ fn answer_beside<R: Threads + Sync>(
     ensures { IfOk result (λ back. (vec_len back ≡ vec_len nodes) × AreWired back.items) }
 {
     let each = |ends: Ends<u32>| -> Ends<u32>
-        requires { 1 < width ends }
+        requires { 0 < width ends }
         ensures { StaysWired ends result }
     {
         let mut ends = ends;
         let _done = answer(&mut ends);
         ends
     };
-    thread::map_vec(rt, nodes, &each)
+    let back = thread::map_vec(rt, nodes, &each)?;
+    Ok(back)
 }
 
 #[test]

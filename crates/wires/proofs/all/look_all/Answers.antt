@@ -1,4 +1,4 @@
-use Rattle.std.proofs.Common.{refl, arith}
+use Rattle.std.proofs.Common.{arith}
 use Rattle.wires.specs.Link.{IsInOrder}
 use Rattle.wires.proofs.Walk.{going_on, pair_going, self_going, done_none, row_none, pair_done, pair_row, self_done, carried_no_more, all_in_order}
 use Rattle.wires.proofs.all.look_all.Goals as goal
