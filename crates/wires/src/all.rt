@@ -10,7 +10,7 @@ use crate::ends::Ends;
 use basics::NoMemory;
 
 /// Settles all links, as `settle` does those between two nodes. It takes no memory and always succeeds.
-pub fn settle_all<P>(nodes: &mut [Ends<P>]) -> Result<(), NoMemory>
+pub fn settle_all<P: Drop>(nodes: &mut [Ends<P>]) -> Result<(), NoMemory>
     requires { AreWired nodes.old }
     ensures ok { IsOk result }
     ensures wired { AreWired nodes.new }
@@ -27,7 +27,11 @@ pub fn settle_all<P>(nodes: &mut [Ends<P>]) -> Result<(), NoMemory>
     Ok(())
 }
 
-pub(crate) fn settle_pair<P>(nodes: &mut [Ends<P>], i: usize, j: usize) -> Result<(), NoMemory>
+pub(crate) fn settle_pair<P: Drop>(
+    nodes: &mut [Ends<P>],
+    i: usize,
+    j: usize,
+) -> Result<(), NoMemory>
     requires places { (i < j) × (j < length nodes.old) }
     requires wired { AreWired nodes.old }
     ensures ok { IsOk result }
@@ -37,7 +41,7 @@ pub(crate) fn settle_pair<P>(nodes: &mut [Ends<P>], i: usize, j: usize) -> Resul
     ends::settle(&mut front[i], &mut back[0])
 }
 
-pub(crate) fn settle_self<P>(nodes: &mut [Ends<P>], i: usize) -> Result<(), NoMemory>
+pub(crate) fn settle_self<P: Drop>(nodes: &mut [Ends<P>], i: usize) -> Result<(), NoMemory>
     requires place { i < length nodes.old }
     requires wired { AreWired nodes.old }
     ensures ok { IsOk result }
@@ -47,7 +51,7 @@ pub(crate) fn settle_self<P>(nodes: &mut [Ends<P>], i: usize) -> Result<(), NoMe
 }
 
 /// Looks at all links, as `look` does at those between two nodes.
-pub fn look_all<P>(nodes: &mut [Ends<P>])
+pub fn look_all<P: Drop>(nodes: &mut [Ends<P>])
     requires { AreWired nodes.old }
     ensures wired { AreWired nodes.new }
     ensures same { CarriedNoMore nodes.old nodes.new }
@@ -62,7 +66,7 @@ pub fn look_all<P>(nodes: &mut [Ends<P>])
     }
 }
 
-fn look_pair<P>(nodes: &mut [Ends<P>], i: usize, j: usize)
+fn look_pair<P: Drop>(nodes: &mut [Ends<P>], i: usize, j: usize)
     requires places { (i < j) × (j < length nodes.old) }
     requires wired { AreWired nodes.old }
     ensures { PairChanged i j (BothBecome IsInOrder) nodes.old nodes.new }
@@ -71,7 +75,7 @@ fn look_pair<P>(nodes: &mut [Ends<P>], i: usize, j: usize)
     ends::look(&mut front[i], &mut back[0]);
 }
 
-fn look_self<P>(nodes: &mut [Ends<P>], i: usize)
+fn look_self<P: Drop>(nodes: &mut [Ends<P>], i: usize)
     requires place { i < length nodes.old }
     requires wired { AreWired nodes.old }
     ensures { SelfChanged i (OwnBecomes IsInOrder) nodes.old nodes.new }

@@ -17,7 +17,7 @@ pub struct Ends<P> {
     pub(crate) links: Vec<Link<P>>,
 }
 
-impl<P> Ends<P> {
+impl<P: Drop> Ends<P> {
     /// The node whose ends these are.
     pub fn me(&self) -> NodeNo
         ensures { result ≡ node_of self.now }
@@ -114,7 +114,7 @@ impl<P> Ends<P> {
 
 /// Settles both links between two nodes: moves packets from the outboxes into the rings until the rings are full,
 /// and makes all that the rings hold known. It takes no memory and always succeeds.
-pub fn settle<P>(a: &mut Ends<P>, b: &mut Ends<P>) -> Result<(), NoMemory>
+pub fn settle<P: Drop>(a: &mut Ends<P>, b: &mut Ends<P>) -> Result<(), NoMemory>
     requires { ArePaired a.old b.old }
     ensures ok { IsOk result }
     ensures settled { BothChanged (BothBecome IsSettled) a.old b.old a.new b.new }
@@ -128,7 +128,7 @@ pub fn settle<P>(a: &mut Ends<P>, b: &mut Ends<P>) -> Result<(), NoMemory>
 }
 
 /// Looks at both ends of both links between two nodes, which tells that what was received is a prefix of what was sent.
-pub fn look<P>(a: &mut Ends<P>, b: &mut Ends<P>)
+pub fn look<P: Drop>(a: &mut Ends<P>, b: &mut Ends<P>)
     requires { ArePaired a.old b.old }
     ensures looked { BothChanged (BothBecome IsInOrder) a.old b.old a.new b.new }
     ensures paired { ArePaired a.new b.new }

@@ -17,7 +17,7 @@ pub struct Link<P> {
     ghost room: { producer_capacity to ≡ 64 },
 }
 
-impl<P> Link<P> {
+impl<P: Drop> Link<P> {
     ghost use Rattle.std.specs.Prelude.{◌<◌, ◌≤◌, OnOk};
     ghost use Rattle.rtrb.specs.Ring.{IsPair};
     ghost use Rattle.wires.specs.Link.{link_spare, SameRings, HasSent, HasTaken, SameLink, IsInOrder, IsSettled, BothBecome, OwnBecomes};

@@ -8,7 +8,7 @@ use rtrb::{Consumer, Producer};
 use std::collections::VecDeque;
 
 // Moves packets from the outbox into the ring while the ring takes them.
-pub(crate) fn flush<P>(to: &mut Producer<P>, outbox: &mut VecDeque<P>)
+pub(crate) fn flush<P: Drop>(to: &mut Producer<P>, outbox: &mut VecDeque<P>)
     ensures { Flushed to.old outbox.old to.new outbox.new }
 {
     for _n in 0..outbox.len() {
@@ -23,7 +23,7 @@ pub(crate) fn flush<P>(to: &mut Producer<P>, outbox: &mut VecDeque<P>)
 }
 
 // Looks at a ring from both ends.
-pub(crate) fn look<P>(to: &mut Producer<P>, from: &mut Consumer<P>)
+pub(crate) fn look<P: Drop>(to: &mut Producer<P>, from: &mut Consumer<P>)
     requires { IsPair to.old from.old }
     ensures { Seen to.old from.old to.new from.new }
 {
@@ -32,7 +32,11 @@ pub(crate) fn look<P>(to: &mut Producer<P>, from: &mut Consumer<P>)
 
 // Moves packets into the ring until it is full, and makes all that it holds known.
 // The producer looks first: then all free slots are known to it, 64 where the ring is empty, so an empty ring never refuses.
-pub(crate) fn settle<P>(to: &mut Producer<P>, outbox: &mut VecDeque<P>, from: &mut Consumer<P>)
+pub(crate) fn settle<P: Drop>(
+    to: &mut Producer<P>,
+    outbox: &mut VecDeque<P>,
+    from: &mut Consumer<P>,
+)
     requires paired { IsPair to.old from.old }
     requires room { 0 < producer_capacity to.old }
     ensures { Settled to.old outbox.old from.old to.new outbox.new from.new }

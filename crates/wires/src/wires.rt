@@ -40,9 +40,7 @@ impl<P: Drop> Wires<P> {
         }
         Ok(Wires { ends })
     }
-}
 
-impl<P> Wires<P> {
     /// Wires of no nodes, which have no links.
     pub fn none(alloc: Global) -> Wires<P>
         ensures { result ≡ [] }
