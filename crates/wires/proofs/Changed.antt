@@ -5,8 +5,8 @@ use Rattle.std.proofs.lemmas.Option.{slice_get_read}
 use Rattle.rtrb.specs.Ring.{IsPair}
 use Rattle.wires.specs.declared.link.Link.{Link}
 use Rattle.wires.specs.declared.ends.Ends.{Ends}
-use Rattle.wires.specs.Link.{link_spare, SameRings, SameLink}
-use Rattle.wires.specs.Ends.{node_of, width, link_of, count_of_link, spare_to, SameOthers, LinkChanged, SameEnds, ArePaired, BothChanged}
+use Rattle.wires.specs.Link.{link_spare, SameRings}
+use Rattle.wires.specs.Ends.{node_of, width, link_of, count_of_link, spare_to, SameOthers, LinkChanged, ArePaired, BothChanged}
 use Rattle.wires.specs.Wires.{StaysWired}
 use Rattle.wires.proofs.Gets.{by_eq, same_some, get_set_same, get_set_other}
 use Rattle.wires.proofs.Rings.{rings_refl, pair_kept, keeps_wired}
@@ -85,30 +85,3 @@ module _ {P : Type 0} where
   -- a node that keeps its rings still pairs with itself
   pub own_paired : (a b : Ends P) (before after : Link P) → Wrote (node_of a) a b before after → SameRings before after → ArePaired a a → ArePaired b b
   own_paired a b before after w r h = still_paired a a b b before before after after w w r r h
-
-  same_refl : (a : Link P) → SameLink a a
-  same_refl a = record { same_sent = refl; same_received = refl; same_known = refl; spare = omega arith }
-
-  same_trans : (a b c : Link P) → SameLink a b → SameLink b c → SameLink a c
-  same_trans a b c h k = record {
-    same_sent = k.same_sent ∙ h.same_sent;
-    same_received = k.same_received ∙ h.same_received;
-    same_known = k.same_known ∙ h.same_known;
-    spare = omega arith;
-  }
-
-  pub ends_refl : (a : Ends P) → SameEnds a a
-  ends_refl a = record { node = refl; width = refl; each = λ k x y p q. subst (λ u. SameLink x u) (same_some x y (sym p ∙ q)) (same_refl x) }
-
-  -- one link more is the same
-  pub same_step : (k : ℕ) (a b c : Ends P) → SameEnds a b → LinkChanged k SameLink b c → SameEnds a c
-  same_step k a b c h l = record {
-    node = l.others.node ∙ h.node;
-    width = l.others.width ∙ h.width;
-    each = λ i x z p r. by_eq i k
-        (λ e.
-        let p' : link_of a k ≡ Some x = subst (λ j. link_of a j ≡ Some x) e p in
-        let ze : l.after ≡ z = same_some l.after z (sym l.is ∙ subst (λ j. link_of c j ≡ Some z) e r) in
-        subst (λ u. SameLink x u) ze (same_trans x l.before l.after (h.each k x l.before p' l.was) l.changed))
-        (λ ne. h.each i x z p (sym (l.others.links i ne) ∙ r));
-  }

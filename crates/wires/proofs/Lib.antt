@@ -2,6 +2,7 @@ pub mod Gets
 pub mod Order
 pub mod Rings
 pub mod Changed
+pub mod Flushing
 pub mod Pairs
 pub mod Walk
 pub mod Build

@@ -1,7 +1,7 @@
 -- What is seen of one node's ends.
 use Rattle.std.specs.Prelude.{◌≡◌, ◌≢◌, ℕ, ◌<◌, List, [], Option, Some, None, vec_len, slice_get}
 use Rattle.rtrb.specs.Ring.{IsPair}
-use Rattle.wires.specs.Link.{link_sent, link_waiting, link_received, link_known, link_spare, SameLink}
+use Rattle.wires.specs.Link.{link_sent, link_waiting, link_received, link_known, link_spare, HasFlushed}
 use Rattle.wires.specs.declared.link.Link.{Link}
 use Rattle.wires.specs.declared.ends.Ends.{Ends}
 
@@ -62,11 +62,11 @@ module _ {P : Type 0} where
     pub changed : R before after
     pub others : SameOthers k a b
 
-  -- nothing was sent, received or learned on any link, and no spare place is lost
-  pub record SameEnds (a b : Ends P) : Type 0 where
+  -- each link was flushed: nothing was sent, received or learned
+  pub record AreFlushed (a b : Ends P) : Type 0 where
     pub node : node_of b ≡ node_of a
     pub width : width b ≡ width a
-    pub each : (k : ℕ) (x y : Link P) → link_of a k ≡ Some x → link_of b k ≡ Some y → SameLink x y
+    pub each : (k : ℕ) (x y : Link P) → link_of a k ≡ Some x → link_of b k ≡ Some y → HasFlushed x y
 
   -- nothing was sent or received on any link, and nothing is known
   pub record AreUnused (a : Ends P) : Type 0 where

@@ -1,8 +1,8 @@
 -- What is seen of one node's side of the two links between it and another node.
-use Rattle.std.specs.Prelude.{◌≡◌, ℕ, ◌+◌, ◌-◌, ◌≤◌, List, [], ◌∷◌, ◌++◌, Option, Some, None}
+use Rattle.std.specs.Prelude.{◌≡◌, ◌⊎◌, ℕ, ◌+◌, ◌-◌, ◌≤◌, List, [], ◌∷◌, ◌++◌, Option, Some, None}
 use mathlib.Core.List.{IsPrefix}
 use Rattle.std.specs.VecDeque.{deque_len, deque_capacity}
-use Rattle.rtrb.specs.Ring.{sent, received, known_items, SameProducer, SameConsumer}
+use Rattle.rtrb.specs.Ring.{sent, received, known_free, known_items, SameProducer, SameConsumer}
 use Rattle.wires.specs.declared.link.Link.{Link}
 
 module _ {P : Type 0} where
@@ -25,6 +25,10 @@ module _ {P : Type 0} where
   -- how many packets can be sent without more memory
   abbrev pub link_spare : Link P → ℕ
   link_spare l = deque_capacity l.outbox - deque_len l.outbox
+
+  -- how many packets the ring is known to have room for
+  abbrev pub link_room : Link P → ℕ
+  link_room l = known_free l.to
 
   -- the two hold the same ends of the same rings
   pub record SameRings (a b : Link P) : Type 0 where
@@ -55,6 +59,11 @@ module _ {P : Type 0} where
     pub same_received : link_received b ≡ link_received a
     pub same_known : link_known b ≡ link_known a
     pub spare : link_spare a ≤ link_spare b
+
+  -- nothing waits any more, or the ring was seen to be full
+  pub record HasFlushed (a b : Link P) : Type 0 where
+    pub same : SameLink a b
+    pub done : (link_waiting b ≡ []) ⊎ (link_room b ≡ 0)
 
   -- nothing was sent or received, more may be known, and no spare place is lost
   pub record KeptLink (a b : Link P) : Type 0 where

@@ -1,8 +1,8 @@
 //! One node's ends of its links.
 
 ghost use Rattle.std.specs.Prelude.{◌≡◌, ◌<◌, ◌≤◌, ◌↔◌, length, IsTrue, IsOk, OnOk};
-ghost use Rattle.wires.specs.Link.{HasSent, HasTaken, SameLink, IsInOrder, IsSettled, BothBecome, OwnBecomes};
-ghost use Rattle.wires.specs.Ends.{node_of, width, known_from, spare_to, LinkChanged, SameEnds, ArePaired, BothChanged};
+ghost use Rattle.wires.specs.Link.{HasSent, HasTaken, SameLink, HasFlushed, IsInOrder, IsSettled, BothBecome, OwnBecomes};
+ghost use Rattle.wires.specs.Ends.{node_of, width, known_from, spare_to, LinkChanged, AreFlushed, ArePaired, BothChanged};
 ghost use Rattle.wires.specs.Wires.{StaysWired};
 
 use crate::link::Link;
@@ -54,7 +54,7 @@ impl<P: Drop> Ends<P> {
 
     /// Moves packets from the outboxes into the rings while the rings take them.
     pub fn flush(&mut self)
-        ensures same { SameEnds self.old self.new }
+        ensures flushed { AreFlushed self.old self.new }
         ensures wired { StaysWired self.old self.new }
     {
         for k in 0..self.links.len() {
@@ -64,7 +64,7 @@ impl<P: Drop> Ends<P> {
 
     fn flush_link(&mut self, at: usize)
         requires { at < width self.old }
-        ensures same { LinkChanged at SameLink self.old self.new }
+        ensures flushed { LinkChanged at HasFlushed self.old self.new }
         ensures wired { StaysWired self.old self.new }
     {
         self.links[at].flush();

@@ -20,7 +20,7 @@ pub struct Link<P> {
 impl<P: Drop> Link<P> {
     ghost use Rattle.std.specs.Prelude.{◌<◌, ◌≤◌, OnOk};
     ghost use Rattle.rtrb.specs.Ring.{IsPair};
-    ghost use Rattle.wires.specs.Link.{link_spare, SameRings, HasSent, HasTaken, SameLink, IsInOrder, IsSettled, BothBecome, OwnBecomes};
+    ghost use Rattle.wires.specs.Link.{link_spare, SameRings, HasSent, HasTaken, SameLink, HasFlushed, IsInOrder, IsSettled, BothBecome, OwnBecomes};
 
     pub(crate) fn reserve(&mut self, count: usize) -> Result<(), AllocError>
         ensures same { SameLink self.old self.new }
@@ -39,7 +39,7 @@ impl<P: Drop> Link<P> {
     }
 
     pub(crate) fn flush(&mut self)
-        ensures same { SameLink self.old self.new }
+        ensures flushed { HasFlushed self.old self.new }
         ensures rings { SameRings self.old self.new }
     {
         ring::flush(&mut self.to, &mut self.outbox);
