@@ -1,5 +1,5 @@
 -- What a layer above reads from the clauses.
-use Rattle.std.proofs.Common.{Option, Some, None, ◌≡◌, ◌≢◌, ℕ, zero, suc, ◌<◌, ◌≤◌, List, [], ◌∷◌, ◌++◌, length, set, refl, sym, ap, ◌∙◌, subst, arith}
+use Rattle.std.proofs.Common.{inl, Option, Some, None, ◌≡◌, ◌≢◌, ℕ, zero, suc, ◌<◌, ◌≤◌, List, [], ◌∷◌, ◌++◌, length, set, refl, sym, ap, ◌∙◌, subst, arith}
 use Rattle.std.specs.Prelude.{slice_get}
 use Rattle.std.proofs.lemmas.Option.{slice_get_past, slice_get_within}
 use Rattle.rtrb.specs.Ring.{sent}
@@ -121,5 +121,6 @@ module _ {P : Type 0} where
   fresh_settled n es h = record {
     content = λ i j. let w = none_waiting (link_at es i j) (h.none_sent i j) in
         rw (h.none_received i j, h.none_known i j, w, h.none_sent i j) refl;
+    full = λ i j. inl (none_waiting (link_at es i j) (h.none_sent i j));
     shows = λ i j k. h.none_received i j ∙ sym (h.none_sent i j);
   }

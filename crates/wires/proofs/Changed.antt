@@ -1,5 +1,5 @@
 -- One link of a node's changed.
-use Rattle.std.proofs.Common.{Some, ◌≡◌, ℕ, ◌<◌, ◌≤◌, length, set, get_or, refl, sym, ap, ◌∙◌, subst, arith, vec_len, length-set}
+use Rattle.std.proofs.Common.{Some, ◌≡◌, ℕ, ◌<◌, ◌≤◌, length, set, get_or, sym, ap, ◌∙◌, subst, arith, vec_len, length-set}
 use Rattle.std.specs.Prelude.{slice_get}
 use Rattle.std.proofs.lemmas.Option.{slice_get_read}
 use Rattle.rtrb.specs.Ring.{IsPair}

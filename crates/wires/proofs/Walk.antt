@@ -1,5 +1,5 @@
 -- A walk over all links, pair by pair, after which Q holds of each.
-use Rattle.std.proofs.Common.{Option, Some, None, ◌≡◌, ℕ, ◌+◌, ◌<◌, ◌≤◌, List, [], ◌++◌, length, refl, sym, ap, ◌∙◌, subst, arith}
+use Rattle.std.proofs.Common.{◌⊎◌, inl, Option, Some, None, ◌≡◌, ℕ, ◌+◌, ◌<◌, ◌≤◌, List, [], ◌++◌, length, refl, sym, ap, ◌∙◌, subst, arith}
 use mathlib.Core.List.{IsPrefix}
 use Rattle.std.proofs.lemmas.Option.{slice_get_past}
 use Rattle.wires.specs.declared.link.Link.{Link}
@@ -175,6 +175,8 @@ module _ {P : Type 0} where
   all_settled fs w d = record {
     content = on_sides (λ u v. of_link link_received v ++ (of_link link_known v ++ of_link link_waiting u) ≡ of_link link_sent u) fs w
         (λ i j x y li lj r s. (d.each i j x y li lj r s).content) refl;
+    full = on_sides (λ u v. (of_link link_waiting u ≡ []) ⊎ (64 ≤ length (of_link link_known v))) fs w
+        (λ i j x y li lj r s. (d.each i j x y li lj r s).full) (inl refl);
     shows = on_sides (λ u v. of_link link_known v ≡ [] → of_link link_received v ≡ of_link link_sent u) fs w
         (λ i j x y li lj r s. (d.each i j x y li lj r s).shows) (λ _. refl);
   }

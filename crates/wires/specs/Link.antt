@@ -1,5 +1,5 @@
 -- What is seen of one node's side of the two links between it and another node.
-use Rattle.std.specs.Prelude.{◌≡◌, ◌⊎◌, ℕ, ◌+◌, ◌-◌, ◌≤◌, List, [], ◌∷◌, ◌++◌, Option, Some, None}
+use Rattle.std.specs.Prelude.{◌≡◌, ◌⊎◌, ℕ, ◌+◌, ◌-◌, ◌≤◌, List, [], ◌∷◌, ◌++◌, length, Option, Some, None}
 use mathlib.Core.List.{IsPrefix}
 use Rattle.std.specs.VecDeque.{deque_len, deque_capacity}
 use Rattle.rtrb.specs.Ring.{sent, received, known_free, known_items, SameProducer, SameConsumer}
@@ -76,9 +76,10 @@ module _ {P : Type 0} where
   abbrev pub IsInOrder : Link P → Link P → Type 0
   IsInOrder l m = IsPrefix (link_received m) (link_sent l)
 
-  -- m knows all that l sent, but for what was received or waits in the outbox, and knows something unless all was received
+  -- m knows all that l sent, but for what was received or waits in the outbox; nothing waits unless the ring of 64 is full
   pub record IsSettled (l m : Link P) : Type 0 where
     pub content : link_received m ++ (link_known m ++ link_waiting l) ≡ link_sent l
+    pub full : (link_waiting l ≡ []) ⊎ (64 ≤ length (link_known m))
     pub shows : link_known m ≡ [] → link_received m ≡ link_sent l
 
   -- the two sides of two links carried no more, and Q now holds of each link

@@ -7,7 +7,7 @@ use Rattle.std.specs.declared.collections.VecDeque.{VecDeque}
 use Rattle.rtrb.specs.declared.AnyItems.{AnyItems}
 use Rattle.rtrb.specs.declared.producer.Producer.{Producer}
 use Rattle.rtrb.specs.declared.consumer.Consumer.{Consumer}
-use Rattle.rtrb.specs.Ring.{sent, received, known_free, known_items, SameProducer, SameConsumer, ProducerLooked, ConsumerLooked}
+use Rattle.rtrb.specs.Ring.{sent, received, known_free, known_items, producer_capacity, SameProducer, SameConsumer, ProducerLooked, ConsumerLooked}
 
 module _ {P : Type 0} where
   -- packets went from the outbox into the ring, in order, until one of the two could do no more
@@ -25,7 +25,7 @@ module _ {P : Type 0} where
     pub from : ConsumerLooked c c'
     pub fifo : received c' ++ known_items c' ≡ sent p'
 
-  -- all that the ring holds is known, and it holds something unless the outbox is empty
+  -- all that the ring holds is known, and it is full unless the outbox is empty
   pub record Settled (p : Producer P Global AnyItems) (o : VecDeque P Global) (c : Consumer P Global AnyItems) (p' : Producer P Global AnyItems) (o' : VecDeque P Global) (c' : Consumer P Global AnyItems) : Type 0 where
     pub to : SameProducer p p'
     pub from : SameConsumer c c'
@@ -35,4 +35,5 @@ module _ {P : Type 0} where
     pub same_received : received c' ≡ received c
     pub more_known : IsPrefix (known_items c) (known_items c')
     pub fifo : received c' ++ known_items c' ≡ sent p'
+    pub full : (o'.items ≡ []) ⊎ (producer_capacity p ≤ length (known_items c'))
     pub shows : known_items c' ≡ [] → o'.items ≡ []

@@ -1,5 +1,5 @@
 -- What is seen of the ends of all nodes: each link by its sender and its receiver.
-use Rattle.std.specs.Prelude.{◌≡◌, ℕ, ◌≤◌, List, [], ◌++◌, length, Option, Some, None, slice_get, slice_set}
+use Rattle.std.specs.Prelude.{◌≡◌, ◌⊎◌, ℕ, ◌≤◌, List, [], ◌++◌, length, Option, Some, None, slice_get, slice_set}
 use mathlib.Core.List.{IsPrefix}
 use Rattle.rtrb.specs.Ring.{IsPair}
 use Rattle.wires.specs.declared.link.Link.{Link}
@@ -50,9 +50,11 @@ module _ {P : Type 0} where
   abbrev pub AreInOrder : List (Ends P) → Type 0
   AreInOrder es = (i j : ℕ) → IsPrefix (received_on es i j) (sent_on es i j)
 
-  -- on each link all is known but what was received or waits in the outbox, and something is known unless all was received
+  -- on each link all is known but what was received or waits in the outbox; nothing waits unless the ring of 64 is full,
+  -- so something is known unless all was received
   pub record AreSettled (es : List (Ends P)) : Type 0 where
     pub content : (i j : ℕ) → received_on es i j ++ (known_on es i j ++ waiting_on es i j) ≡ sent_on es i j
+    pub full : (i j : ℕ) → (waiting_on es i j ≡ []) ⊎ (64 ≤ length (known_on es i j))
     pub shows : (i j : ℕ) → known_on es i j ≡ [] → received_on es i j ≡ sent_on es i j
 
   -- on no link anything was sent or received, more may be known, and no spare place is lost
