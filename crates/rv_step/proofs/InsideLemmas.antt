@@ -1,10 +1,9 @@
 -- An access inside one held slot is an access to that slot's bytes.
-use Rattle.std.proofs.Common.{◌≡◌, ℕ, zero, suc, ◌+◌, ◌-◌, ◌*◌, ◌/◌, ◌%◌, ◌<◌, ◌≤◌, ◌^◌, Bool, true, false, List, [], ◌∷◌, ◌++◌, take, drop, length, get_or, set, Option, Some, None, refl, sym, ap, ◌∙◌, inl, inr, arith, add-one}
+use Rattle.std.proofs.Common.{◌≡◌, ℕ, zero, suc, ◌+◌, ◌%◌, ◌<◌, ◌≤◌, true, List, [], length, get_or, set, Some, refl, sym, ap, ◌∙◌, arith}
 use lib.Seq.{paste}
 use Rattle.std.proofs.Math.Seq.{map-set_same}
-use Rattle.std.specs.Prelude.{is_some, slice_get, slice_set, slice_index, slice_range, ◌&&◌, ◌==◌, ◌||◌, nat_lt, nat_le, unwrap_or, if◌then◌else◌}
-use Rattle.std.specs.Option.{option_and_then, option_map_or, option_or}
-use Rattle.std.specs.List.{position, position_or_len, splice}
+use Rattle.std.specs.Prelude.{slice_get, slice_set, slice_index, slice_range, ◌==◌}
+use Rattle.std.specs.List.{splice}
 use Rattle.std.proofs.lemmas.Bool.Decides.{nat_tests}
 use Rattle.std.proofs.lemmas.Grind.{get_or-set_at}
 use Rattle.std.proofs.lemmas.List.{set-set, set-get_or, length-set}
@@ -13,8 +12,8 @@ use Rattle.std.proofs.lemmas.List.Folds.{position_or_len-set}
 use Rattle.std.proofs.lemmas.List.Quantifiers.{position-Some}
 use Rattle.std.proofs.lemmas.Option.{slice_get-get_or}
 use Rattle.rv_step.specs.declared.memory.Held.{Held}
-use Rattle.rv_step.specs.Memory.{Memory, held_byte, byte_in, place_of, slots_of, slot_place, slot_of, slots_start, slots_end}
-use Rattle.rv_step.specs.Access.{byte_at, readable, writable, bytes_from, stored, with_byte, changed_in, read, written}
+use Rattle.rv_step.specs.Memory.{Memory, held_byte, place_of, slots_of, slot_place, slot_of, slots_start, slots_end}
+use Rattle.rv_step.specs.Access.{byte_at, readable, writable, bytes_from, stored, with_byte, read, written}
 
 -- an address of a slot lies between the first and the last of them
 pub in_range : (m : Memory) (a p : ℕ) → place_of m a ≡ Some p → (slots_start ≤ a) × (a < slots_end)

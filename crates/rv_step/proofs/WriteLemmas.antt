@@ -1,19 +1,18 @@
 -- What a write changes, byte by byte.
-use Rattle.std.proofs.Common.{◌≡◌, ℕ, zero, suc, ◌+◌, ◌-◌, ◌/◌, ◌%◌, ◌<◌, ◌≤◌, ◌^◌, ◌≢◌, Bool, true, false, List, [], ◌∷◌, length, get_or, set, Option, Some, None, refl, sym, ap, ◌∙◌, inl, inr, arith}
+use Rattle.std.proofs.Common.{◌≡◌, ℕ, zero, suc, ◌+◌, ◌-◌, ◌%◌, ◌<◌, ◌≤◌, ◌≢◌, Bool, true, false, List, [], length, get_or, set, Option, Some, None, refl, sym, ap, ◌∙◌, inl, inr, arith}
 use Rattle.std.specs.Prelude.{is_some, slice_get, slice_set, slice_index, ◌&&◌, ◌==◌, nat_lt, nat_le, if◌then◌else◌}
 use Rattle.std.specs.Option.{option_and_then}
-use Rattle.std.specs.List.{position}
-use Rattle.std.proofs.lemmas.Bool.{cases_lt, cases_order, eqb-true, eq-eqb, ne_eqb}
+use Rattle.std.proofs.lemmas.Bool.{cases_lt, cases_order, eqb-true}
 use Rattle.std.proofs.lemmas.Bool.Decides.{nat_tests, eqb_tells}
 use Rattle.std.proofs.lemmas.Grind.{get_or-set_at}
-use Rattle.std.proofs.lemmas.List.{length-set, get_or-set_other, get_or_default}
+use Rattle.std.proofs.lemmas.List.{length-set, get_or-set_other}
 use Rattle.std.proofs.lemmas.List.Quantifiers.{position-Some}
 use Rattle.std.proofs.lemmas.Option.{slice_get-get_or, slice_get_past, slice_get_within, get_or_from_slice_get}
 use Rattle.rv_step.specs.declared.memory.Held.{Held}
-use Rattle.rv_step.specs.Memory.{Memory, block_len, byte_in, held_byte, place_of, slot_place, slot_of, slots_start, slots_end}
+use Rattle.rv_step.specs.Memory.{Memory, block_len, byte_in, held_byte, place_of, slot_of, slots_start}
 use Rattle.rv_step.specs.Access.{stored, with_byte, writable, written}
 use Rattle.rv_step.proofs.AccessLemmas.{writable_before}
-use Rattle.rv_step.proofs.InsideLemmas.{in_range, place_in_range, placed, held_at, address_set, get_set, with_byte_inside, with_block_at}
+use Rattle.rv_step.proofs.InsideLemmas.{in_range, place_in_range, address_set, get_set, with_byte_inside, with_block_at}
 
 -- who holds a byte
 record Holder (m : Memory) (a : ℕ) : Type 0 where

@@ -1,4 +1,4 @@
-use Rattle.std.proofs.Common.{◌≡◌, ℕ, ◌+◌, ◌-◌, ◌/◌, ◌<◌, ◌≤◌, length, get_or, ap, sym, arith}
+use Rattle.std.proofs.Common.{◌≡◌, ℕ, ◌+◌, ◌-◌, ◌/◌, get_or, ap, sym, arith}
 use Rattle.rv_step.specs.declared.memory.Held.{Held}
 use Rattle.rv_step.proofs.AscendingLemmas.{place_at, below_mid, above_mid, no_place_between}
 use Rattle.rv_step.proofs.memory.place_in.Goals as goal
