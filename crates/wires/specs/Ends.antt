@@ -18,11 +18,12 @@ module _ {P : Type 0} where
   abbrev pub link_of : Ends P → ℕ → Option (Link P)
   link_of e k = slice_get e.links.items k
 
-  -- what a link has, and nothing where there is no link
+  -- the packets that a link has, and none where there is no link
   abbrev pub of_link : (Link P → List P) → Option (Link P) → List P
   of_link f None = []
   of_link f (Some l) = f l
 
+  -- a number that a link has, and 0 where there is no link
   abbrev pub count_of_link : (Link P → ℕ) → Option (Link P) → ℕ
   count_of_link f None = 0
   count_of_link f (Some l) = f l

@@ -8,6 +8,7 @@ use Rattle.wires.specs.Link.{link_sent, link_waiting, link_received, link_known,
 use Rattle.wires.specs.Ends.{node_of, width, of_link, count_of_link}
 
 module _ {P : Type 0} where
+  -- a node's side of its links with node k, and nothing where the node isn't there
   abbrev pub row_link : Option (Ends P) → ℕ → Option (Link P)
   row_link None k = None
   row_link (Some a) k = slice_get a.links.items k

@@ -94,14 +94,16 @@ fn gain<P: Drop>(ends: &mut Ends<P>, link: Link<P>) -> Result<(), NoMemory>
 
 fn ring<P: Drop>(alloc: Global) -> Result<(Producer<P>, Consumer<P>), NoMemory>
     ensures pair { IfOk result (λ r. IsPair r.0 r.1) }
-    ensures empty { IfOk result (λ r. (producer_capacity r.0 ≡ 64) × (sent r.0 ≡ []) × (received r.1 ≡ []) × (known_items r.1 ≡ [])) }
+    ensures size { IfOk result (λ r. producer_capacity r.0 ≡ 64) }
+    ensures empty { IfOk result (λ r. (sent r.0 ≡ []) × (received r.1 ≡ []) × (known_items r.1 ≡ [])) }
 {
     let ends = RingBuffer::new(alloc, 64)?;
     Ok(ends)
 }
 
 fn link<P>(alloc: Global, to: Producer<P>, from: Consumer<P>) -> Link<P>
-    requires { (producer_capacity to ≡ 64) × (sent to ≡ []) × (received from ≡ []) × (known_items from ≡ []) }
+    requires size { producer_capacity to ≡ 64 }
+    requires empty { (sent to ≡ []) × (received from ≡ []) × (known_items from ≡ []) }
     ensures ends { (result.to ≡ to) × (result.from ≡ from) }
     ensures fresh { IsFresh result }
 {
