@@ -4,7 +4,7 @@ ghost use Rattle.std.specs.Prelude.{◌≡◌, ◌+◌, ◌-◌, ◌^◌, ◌<�
 ghost use Rattle.raw_slots.specs.Zeros.{zeros};
 
 use crate::chain::{Chain, SIZE};
-use crate::memory::Memory;
+use crate::memory::{Lease, Memory};
 use crate::slot_mem::SlotMem;
 use basics::NoMemory;
 use std::alloc::Global;
@@ -57,10 +57,7 @@ impl Pool {
             let Some((memory, lease)) = Memory::new(&self.alloc, SIZE) else {
                 return Err(NoMemory);
             };
-            let empty = Chain::empty(&self.alloc);
-            let chain = replace(&mut self.chain, empty);
-            self.chain = chain.push(memory, lease);
-            self.spare += 1;
+            self.add(memory, lease);
         }
         Ok(())
     }
@@ -84,12 +81,21 @@ impl Pool {
 
     /// Takes a block back as a spare one, without memory. A pool of `u32::MAX` spare blocks gives it up instead.
     pub fn put(&mut self, block: SlotMem)
-        ensures spare { self.new ≡ min (self.old + 1) (2 ^ 32 - 1) }
+        ensures { self.new ≡ min (self.old + 1) (2 ^ 32 - 1) }
     {
         if self.spare == u32::MAX {
             return;
         }
         let (memory, lease) = block.into_block(self.alloc);
+        self.add(memory, lease);
+    }
+
+    /// Links one block more in.
+    fn add(&mut self, memory: Memory, lease: Lease<Global>)
+        requires room { self.old + 1 < 2 ^ 32 }
+        requires block { (memory.size ≡ 65536) × (lease.ptr ≡ memory.ptr) × (lease.size ≡ 65536) }
+        ensures { self.new ≡ self.old + 1 }
+    {
         let empty = Chain::empty(&self.alloc);
         let chain = replace(&mut self.chain, empty);
         self.chain = chain.push(memory, lease);

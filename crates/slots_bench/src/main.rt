@@ -5,8 +5,7 @@
 ghost use Rattle.std.specs.Prelude.{◌<◌};
 
 use slot_space::{SlotNo, SlotSet};
-use std::env;
-use std::io;
+use std::{env, io};
 
 /// All slots that the test tells to take.
 fn chosen(name: &str) -> Option<SlotSet> {
@@ -57,7 +56,11 @@ fn main(rt: HostRuntime) -> io::Result<()> {
     let (Some(name), Some(count), Some(rounds)) = (words.next(), words.next(), words.next()) else {
         return println!(rt; "usage: slots_bench SET COUNT ROUNDS");
     };
-    let (Some(set), Ok(count), Ok(rounds)) = (chosen(name.as_str()), count.as_str().parse::<u16>(), rounds.as_str().parse::<u32>()) else {
+    let (Some(set), Ok(count), Ok(rounds)) = (
+        chosen(name.as_str()),
+        count.as_str().parse::<u16>(),
+        rounds.as_str().parse::<u32>(),
+    ) else {
         return println!(rt; "usage: slots_bench SET COUNT ROUNDS");
     };
     if count == 0 {
