@@ -1,6 +1,6 @@
 -- What a thread's block layer is seen as, where a block is placed, and what a free gives back.
 use Rattle.std.specs.Prelude.{◌≡◌, ℕ, ◌+◌, ◌*◌, ◌/◌, ◌%◌, ◌<◌, ◌≤◌, Bool, true, false, not, ◌&&◌, List, [], ◌∷◌, Option, Some, None, nat_le, ◌==◌, filter, slice_index_or, if◌then◌else◌}
-use Rattle.slot_space.specs.Sets.{minus, union, run}
+use Rattle.slot_space.specs.Sets.{minus, union, run, IsSlotSet}
 use Rattle.iso_blocks.specs.Bytes.{in_slots, in_blocks, is_met}
 
 -- the live blocks, ascending by address, and the heap slots, ascending
@@ -76,3 +76,7 @@ StandFrom from slots (b ∷ blocks) = IsBlock slots b × (from ≤ b.0) × Stand
 -- the live blocks lie in the heap slots, and none meets another
 abbrev pub IsSound : Heap → Type 0
 IsSound heap = StandFrom 0 heap.slots heap.live
+
+-- the blocks can stand in some set of slots
+abbrev pub IsRow : List (ℕ × ℕ) → Type 0
+IsRow blocks = (slots : List ℕ) × IsSlotSet slots × StandFrom 0 slots blocks

@@ -3,7 +3,7 @@
 ghost use Rattle.std.specs.Prelude.{◌≡◌, ℕ, ◌+◌, ◌-◌, ◌*◌, ◌%◌, ◌<◌, ◌≤◌, ◌^◌, true, false, List, [], ◌∷◌, Some, None, OnOk, OnErr, IfOk, IfNone, OnSome, MatchOption, length, slice_index_or, vec_len, vec_capacity};
 ghost use Rattle.slot_space.specs.Sets.{has, insert, union, minus, run};
 ghost use Rattle.iso_blocks.specs.Bytes.{is_met};
-ghost use Rattle.iso_blocks.specs.Heap.{Heap, Fits, IsLowestFit, placed, with_slots, without, starts_at, emptied, freed, IsBlockAt, IsSound};
+ghost use Rattle.iso_blocks.specs.Heap.{Heap, Fits, IsLowestFit, placed, with_slots, without, starts_at, emptied, freed, IsSound};
 ghost use Rattle.iso_blocks.specs.Kept.{heap_of, holes_to_be, IsKept};
 
 use crate::{holes, live, space};
@@ -151,20 +151,6 @@ impl Layout {
         }
     }
 
-    /// Where the block at the address stands in the row.
-    fn find(&self, address: u64) -> Option<usize>
-        requires { IsKept self.now }
-        ensures { MatchOption result (starts_at self.now.live.items address ≡ false)
-            (λ k. (k < length self.now.live.items) × (starts_at self.now.live.items address ≡ true) × IsBlockAt self.now.live.items k address) }
-    {
-        let k = live::starting_before(&self.live, address);
-        if k < self.live.len() && self.live[k].0 == address {
-            Some(k)
-        } else {
-            None
-        }
-    }
-
     /// The slots that the blocks but the one at `k` meet.
     fn met_without(&self, k: usize) -> SlotSet
         requires kept { IsKept self.now }
@@ -205,7 +191,7 @@ impl Layout {
         ensures { MatchOption result (starts_at self.now.live.items address ≡ false)
             (λ slots. (starts_at self.now.live.items address ≡ true) × (slots ≡ emptied (heap_of self.now) address)) }
     {
-        let k = self.find(address)?;
+        let k = live::find(&self.live, address)?;
         let mut slots = self.heap;
         slots.remove_all(&self.met_without(k));
         Some(slots)
@@ -220,7 +206,7 @@ impl Layout {
         ensures none { IfNone result (heap_of self.new ≡ heap_of self.old) }
         ensures some { OnSome result (heap_of self.new ≡ freed (heap_of self.old) address) }
     {
-        let k = self.find(address)?;
+        let k = live::find(&self.live, address)?;
         self.lift(k);
         let mut slots = self.heap;
         slots.remove_all(&self.met);

@@ -7,6 +7,8 @@ mod check;
 mod holes;
 mod layout;
 mod live;
+mod plain;
 mod space;
 
 pub use blocks::Blocks;
+pub use plain::PlainBlocks;

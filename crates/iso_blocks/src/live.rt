@@ -3,7 +3,7 @@
 ghost use Rattle.std.specs.Prelude.{◌≡◌, ℕ, ◌+◌, ◌<◌, ◌≤◌, ◌^◌, false, true, drop, length, slice_index_or, MatchOption};
 ghost use Rattle.std.specs.List.{AllWithin};
 ghost use Rattle.std.specs.List.Sorted.{IsNonDecreasingBy};
-ghost use Rattle.iso_blocks.specs.Heap.{Heap, StandFrom, IsSound, starts_at};
+ghost use Rattle.iso_blocks.specs.Heap.{starts_at, IsBlockAt, IsRow};
 ghost use Rattle.iso_blocks.specs.Neighbours as beside;
 
 /// How many blocks start before the address.
@@ -38,5 +38,19 @@ pub fn start_after(live: &[(u64, u64)], k: usize) -> u64
         live[k + 1].0
     } else {
         u64::MAX
+    }
+}
+
+/// Where the block at the address stands in the row.
+pub fn find(live: &[(u64, u64)], address: u64) -> Option<usize>
+    requires { IsRow live.now }
+    ensures { MatchOption result (starts_at live.now address ≡ false)
+        (λ k. (k < length live.now) × (starts_at live.now address ≡ true) × IsBlockAt live.now k address) }
+{
+    let k = starting_before(live, address);
+    if k < live.len() && live[k].0 == address {
+        Some(k)
+    } else {
+        None
     }
 }

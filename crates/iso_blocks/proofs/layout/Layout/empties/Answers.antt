@@ -9,7 +9,7 @@ use Rattle.iso_blocks.proofs.layout.Layout.empties.Goals as goal
 pub returns : goal.returns
 returns c =
     let live = c.args.self.now.live.items in
-    let found = c.in_ok-k.ensures in
+    let found = rw c.deref.ensures.value at c.in_ok-k.ensures in
     let b = get_or live c.in_ok-k.k (0, 0) in
     let read = same_default live c.in_ok-k.k (0, 0) found.0 in
     let P : ℕ → Type 0 = λ a. (s : ℕ) → has s c.met_without.result ≡ is_met (without live a) s in

@@ -25,7 +25,7 @@ drop_slots-requires-clause-unmet c s e = sym (c.lift.ensures.kept.met s) ∙ (in
 pub returns-clause-given : goal.returns-clause-given
 returns-clause-given c =
     let l = c.args.self.now in
-    let found = c.in_ok-k.ensures in
+    let found = rw c.deref.ensures.value at c.in_ok-k.ensures in
     let b = get_or l.live.items c.in_ok-k.k (0, 0) in
     let read = same_default l.live.items c.in_ok-k.k (0, 0) found.0 in
     let P : ℕ → Type 0 = λ a. heap_of c.lift.new.self ≡ heap (without l.live.items a) l.heap in
@@ -35,7 +35,7 @@ returns-clause-given c =
 pub returns-clause-some : goal.returns-clause-some
 returns-clause-some c =
     let l = c.args.self.now in
-    let found = c.in_ok-k.ensures in
+    let found = rw c.deref.ensures.value at c.in_ok-k.ensures in
     let b = get_or l.live.items c.in_ok-k.k (0, 0) in
     let read = same_default l.live.items c.in_ok-k.k (0, 0) found.0 in
     let P : ℕ → Type 0 = λ a. heap_of c.lift.new.self ≡ heap (without l.live.items a) l.heap in
