@@ -1,4 +1,5 @@
 use super::*;
+use basics::NoMemory;
 use std::test::Fail;
 use std::thread;
 use std::thread::Threads;
@@ -52,6 +53,21 @@ fn a_block_that_was_used_comes_back_as_zeros(rt: HostRuntime) -> Result<(), Fail
     let again = pool.take()?;
     assert!(rt; again.bytes().iter().all(|byte| *byte == 0));
     Ok(())
+}
+
+#[test]
+fn a_refused_reserve_keeps_what_was_spare(rt: HostRuntime) {
+    let mut pool = Pool::new(rt.alloc());
+    let _ = pool.reserve(2);
+    let before = pool.spare();
+    match pool.reserve(5) {
+        Ok(()) => assert_eq!(rt; pool.spare(), 5),
+        Err(NoMemory) => assert!(rt; before <= pool.spare() && pool.spare() < 5),
+    }
+    for _ in 0..pool.spare() {
+        assert!(rt; pool.take().is_ok());
+    }
+    assert_eq!(rt; pool.spare(), 0);
 }
 
 #[test]
