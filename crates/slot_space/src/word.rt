@@ -33,7 +33,7 @@ fn starts_of_ones(word: u64, count: usize) -> u64
 {
     let mut starts = word;
     let mut known = 1;
-    while known < count {
+    while known < count && starts != 0 {
         let step = known.min(count - known);
         starts &= starts >> step;
         known += step;
