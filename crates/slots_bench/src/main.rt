@@ -7,7 +7,7 @@ ghost use Rattle.std.specs.Prelude.{◌<◌};
 use slot_space::{SlotNo, SlotSet};
 use std::{env, io};
 
-/// All slots that the test tells to take.
+/// The set of this name.
 fn chosen(name: &str) -> Option<SlotSet> {
     let mut set = SlotSet::empty();
     let mut word = 1u32;
