@@ -1,15 +1,13 @@
 -- The neighbours of a block in the row.
-use Rattle.std.proofs.Common.{◌⊎◌, refl, subst, sym, ◌∙◌, ap, ◌≡◌, ℕ, ◌+◌, ◌-◌, ◌^◌, ◌<◌, ◌≤◌, Bool, true, false, List, [], ◌∷◌, length, get_or, take, drop, arith, ⊎_elim, zero, suc, inl, inr, cond, ◌||◌, ◌&&◌, not}
+use Rattle.std.proofs.Common.{◌⊎◌, refl, sym, ◌∙◌, ap, ◌≡◌, ℕ, ◌+◌, ◌-◌, ◌^◌, ◌<◌, ◌≤◌, Bool, true, false, List, [], ◌∷◌, length, get_or, take, drop, arith, ⊎_elim, zero, suc, inl, inr, ◌||◌, ◌&&◌, not}
 use Rattle.std.specs.Prelude.{nat_lt, nat_le}
 use Rattle.std.proofs.lemmas.Bool.Decides.{nat_tests}
-use Rattle.std.proofs.lemmas.Bool.{false≢true, true≢false, le-leb, lt-leb, lt-ltb, le-ltb, eq-eqb, ne_eqb, cases_lt, cases_eq, cases_Bool, or_cases, or_right}
+use Rattle.std.proofs.lemmas.Bool.{false≢true, le-leb, lt-ltb, eq-eqb, ne_eqb, cases_lt, or_cases, or_right}
 use Rattle.slot_space.specs.Places.{slot_base, HoldsAddress}
-use Rattle.slot_space.specs.Sets.{has, run}
 use Rattle.iso_blocks.specs.Bytes.{is_met}
-use Rattle.iso_blocks.specs.Heap.{IsBlock, StandFrom, without}
+use Rattle.iso_blocks.specs.Heap.{StandFrom, without}
 use Rattle.iso_blocks.specs.Neighbours.{end_before, start_of, Owns}
-use Rattle.iso_blocks.proofs.LiveBlocks.{meets, or-assoc, or-false, without-behind}
-use Rattle.iso_blocks.proofs.SlotBytes.{meets-run}
+use Rattle.iso_blocks.proofs.LiveBlocks.{meets, or-assoc, without-behind}
 
 -- the end before a place is the end of the block before it
 pub end_before-read : (low : ℕ) (live : List (ℕ × ℕ)) (j : ℕ) (d : ℕ × ℕ) → j < length live → end_before low live (suc j) ≡ (get_or live j d).0 + (get_or live j d).1

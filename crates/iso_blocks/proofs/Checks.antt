@@ -1,11 +1,11 @@
 -- When a block can stand in slots, and when blocks that stand one after another can be placed in turn.
-use Rattle.std.proofs.Common.{◌⊎◌, refl, subst, sym, ◌∙◌, ap, ◌≡◌, ℕ, ◌+◌, ◌-◌, ◌%◌, ◌<◌, ◌≤◌, Bool, true, false, List, [], ◌∷◌, length, get_or, take, drop, arith, ⊎_elim, zero, suc, not, ◌||◌, ◌&&◌, Option, Some, None}
+use Rattle.std.proofs.Common.{refl, sym, ◌∙◌, ap, ◌≡◌, ℕ, ◌+◌, ◌-◌, ◌%◌, ◌<◌, ◌≤◌, Bool, true, false, List, [], ◌∷◌, length, get_or, take, arith, ⊎_elim, zero, suc, not, Option, Some, None}
 use Rattle.std.specs.Prelude.{IsTrue, is_some, MatchOption}
-use Rattle.std.proofs.lemmas.Bool.{false≢true, true≢false, le-leb, lt-leb, lt-ltb, cases_lt, cases_Bool, or_cases}
-use Rattle.slot_space.specs.Sets.{has, IsSlotSet}
+use Rattle.std.proofs.lemmas.Bool.{false≢true, true≢false, lt-leb, cases_lt, or_cases}
+use Rattle.slot_space.specs.Sets.{has}
 use Rattle.slot_space.specs.Places.{slot_base, HoldsAddress}
 use Rattle.iso_blocks.specs.Bytes.{lies_in, in_slots, in_blocks}
-use Rattle.iso_blocks.specs.Heap.{Heap, IsBlock, StandFrom, is_free, with_block, Fits}
+use Rattle.iso_blocks.specs.Heap.{IsBlock, StandFrom, with_block, Fits}
 use Rattle.iso_blocks.specs.Neighbours.{end_before}
 use Rattle.iso_blocks.proofs.Fit.{lies_in-true}
 use Rattle.iso_blocks.proofs.SlotBytes.{in_slots-has, slot_of, slot_of-holds}

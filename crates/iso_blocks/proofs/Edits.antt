@@ -1,10 +1,10 @@
 -- What the holes hold after some bytes are taken out or put back.
-use Rattle.std.proofs.Common.{◌⊎◌, refl, sym, ◌∙◌, ap, ◌%◌, ◌≡◌, ℕ, ◌+◌, ◌-◌, ◌<◌, ◌≤◌, Bool, true, false, List, [], ◌∷◌, ◌++◌, length, get_or, arith, inl, inr, ⊎_elim, leb, ltb, eqb, zero, suc, cond, ◌||◌, ◌&&◌, not}
+use Rattle.std.proofs.Common.{refl, ◌%◌, ◌≡◌, ℕ, ◌+◌, ◌<◌, ◌≤◌, Bool, true, false, List, [], ◌∷◌, ◌++◌, length, arith, ⊎_elim, leb, ltb, eqb, ◌||◌, ◌&&◌, not}
 use Rattle.std.proofs.lemmas.Bool.Decides.{nat_tests}
-use Rattle.std.proofs.lemmas.Bool.{true≢false, eq-eqb, ne_eqb, cases_eq, or_cases, and_parts, leb-true, ltb-true, leb-false, false≢true, cases_lt, cases_Bool, le-leb, lt-leb, lt-ltb, le-ltb}
+use Rattle.std.proofs.lemmas.Bool.{true≢false, eq-eqb, ne_eqb, cases_eq, cases_lt, cases_Bool, le-leb, lt-leb, lt-ltb, le-ltb}
 use Rattle.iso_blocks.specs.Bytes.{lies_in}
 use Rattle.iso_blocks.specs.Holes.{in_holes, StandApart, AreFree, AreTaken, hole, cut, merged, join}
-use Rattle.iso_blocks.proofs.Fit.{lies_in-true, in_holes-from, AreFree-cases}
+use Rattle.iso_blocks.proofs.Fit.{in_holes-from, AreFree-cases}
 
 or-assoc : (a b c : Bool) → (a || (b || c)) ≡ ((a || b) || c)
 or-assoc true b c = refl

@@ -1,7 +1,7 @@
 -- The first hole that is large enough starts at the lowest address of a free run.
-use Rattle.std.proofs.Common.{◌⊎◌, refl, ◌%◌, ◌≡◌, ℕ, ◌+◌, ◌-◌, ◌<◌, ◌≤◌, Bool, true, false, List, [], ◌∷◌, length, get_or, arith, inl, inr, ⊎_elim, leb, zero, suc, cond}
+use Rattle.std.proofs.Common.{◌⊎◌, refl, ◌%◌, ◌≡◌, ℕ, ◌+◌, ◌-◌, ◌<◌, ◌≤◌, true, List, [], ◌∷◌, length, get_or, arith, inl, inr, ⊎_elim, zero, suc}
 use Rattle.std.proofs.lemmas.Bool.Decides.{nat_tests}
-use Rattle.std.proofs.lemmas.Bool.{or_cases, or_right, le-leb, lt-ltb, and_parts, leb-true, ltb-true, leb-false, false≢true, cases_lt}
+use Rattle.std.proofs.lemmas.Bool.{or_cases, or_right, le-leb, lt-ltb, false≢true, cases_lt}
 use Rattle.iso_blocks.specs.Bytes.{lies_in}
 use Rattle.iso_blocks.specs.Holes.{in_holes, StandApart, AreFree}
 

@@ -1,12 +1,10 @@
 -- What each change of a heap does to its free bytes.
-use Rattle.std.proofs.Common.{◌⊎◌, refl, subst, sym, ◌∙◌, ap, ◌≡◌, ℕ, ◌+◌, ◌-◌, ◌*◌, ◌%◌, ◌/◌, ◌<◌, ◌≤◌, Bool, true, false, List, [], ◌∷◌, ◌++◌, length, get_or, arith, ⊎_elim, leb, ltb, eqb, not, zero, suc, inl, inr, ◌||◌, ◌&&◌, cond}
-use Rattle.std.proofs.lemmas.Bool.{false≢true, true≢false, le-leb, lt-leb, lt-ltb, le-ltb, eq-eqb, ne_eqb, cases_lt, cases_eq, cases_Bool, or_cases, or_right, both_ways, and_parts}
-use Rattle.slot_space.specs.Sets.{has, insert, union, minus, run, IsAscending, IsSlotSet}
+use Rattle.std.proofs.Common.{refl, sym, ◌∙◌, ap, ◌≡◌, ℕ, ◌+◌, ◌<◌, Bool, true, false, List, [], ◌∷◌, length, get_or, arith, not, zero, suc, ◌||◌, ◌&&◌}
+use Rattle.std.proofs.lemmas.Bool.{false≢true, true≢false, or_right}
+use Rattle.slot_space.specs.Sets.{has, insert, minus}
 use Rattle.slot_space.specs.Places.{slot_base, HoldsAddress}
-use Rattle.slot_space.proofs.Sets.{has-insert, has-union, has-minus}
 use Rattle.iso_blocks.specs.Bytes.{lies_in, in_slots, in_blocks, is_met}
-use Rattle.iso_blocks.specs.Heap.{Heap, IsBlock, StandFrom, is_free, with_block, without, Fits, IsLowestFit}
-use Rattle.iso_blocks.specs.Holes.{in_holes, StandApart, AreFree, AreTaken}
+use Rattle.iso_blocks.specs.Heap.{Heap, StandFrom, is_free, with_block, without}
 use Rattle.iso_blocks.proofs.Fit.{lies_in-true}
 use Rattle.iso_blocks.proofs.LiveBlocks.{in_blocks-with_block, in_blocks-without, in_blocks-in_slots}
 use Rattle.iso_blocks.proofs.SlotBytes.{in_slots-has, in_slots-insert, in_slots-minus, is_met-false}

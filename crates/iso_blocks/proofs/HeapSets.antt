@@ -1,10 +1,10 @@
 -- The heap slots and the met ones as sets, through the loops and the calls that change them.
-use Rattle.std.proofs.Common.{◌⊎◌, refl, subst, sym, ◌∙◌, ap, ◌≡◌, ℕ, ◌+◌, ◌-◌, ◌*◌, ◌<◌, ◌≤◌, Bool, true, false, List, [], ◌∷◌, length, arith, ⊎_elim, zero, suc, cond, not, ◌||◌, ◌&&◌, Some, None, Option, eqb}
+use Rattle.std.proofs.Common.{refl, subst, sym, ◌∙◌, ◌≡◌, ℕ, ◌+◌, ◌-◌, ◌<◌, ◌≤◌, Bool, true, false, List, [], ◌∷◌, arith, ⊎_elim, cond, not, ◌&&◌, Some, None, Option, eqb}
 use Rattle.std.specs.Prelude.{nat_lt, nat_le}
 use Rattle.std.specs.List.{filter}
 use Rattle.std.proofs.lemmas.Bool.Decides.{nat_tests}
-use Rattle.std.proofs.lemmas.Bool.{false≢true, true≢false, le-leb, lt-leb, lt-ltb, le-ltb, eq-eqb, ne_eqb, eqb-true, eqb-false, cases_lt, cases_eq, cases_Bool}
-use Rattle.slot_space.specs.Sets.{has, insert, union, minus, run, least_from, IsAscending, IsSlotSet}
+use Rattle.std.proofs.lemmas.Bool.{false≢true, lt-ltb, le-ltb, eq-eqb, ne_eqb, cases_lt, cases_eq}
+use Rattle.slot_space.specs.Sets.{has, insert, union, minus, run, least_from, IsAscending}
 use Rattle.slot_space.specs.WordsBack.{has-run}
 use Rattle.slot_space.proofs.Sets.{has-insert, has-union, has-minus}
 use Rattle.slot_space.proofs.Ascending.{ascending-insert, ascending-union, ascending-run, ascending-minus, same_members, least_from-found}

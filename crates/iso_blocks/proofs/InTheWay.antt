@@ -1,18 +1,17 @@
 -- What the plain search for a place goes past.
-use Rattle.std.proofs.Common.{◌⊎◌, refl, subst, sym, ◌∙◌, ap, ◌≡◌, ℕ, ◌+◌, ◌-◌, ◌%◌, ◌<◌, ◌≤◌, Bool, true, false, List, [], ◌∷◌, ◌++◌, length, get_or, take, drop, arith, ⊎_elim, zero, suc, not, eqb, append-nil, ◌||◌, ◌&&◌, Option, Some, None, cond}
+use Rattle.std.proofs.Common.{refl, sym, ◌∙◌, ap, ◌≡◌, ℕ, ◌+◌, ◌-◌, ◌%◌, ◌<◌, ◌≤◌, Bool, true, false, List, [], ◌∷◌, ◌++◌, length, get_or, take, arith, ⊎_elim, zero, suc, not, eqb, append-nil, ◌||◌, ◌&&◌}
 use Rattle.std.specs.List.{filter}
-use Rattle.std.proofs.lemmas.Bool.{false≢true, true≢false, le-leb, lt-leb, lt-ltb, cases_lt, cases_Bool, or_cases, or_right, and_parts, eq-eqb, ne_eqb}
+use Rattle.std.proofs.lemmas.Bool.{true≢false, le-leb, lt-ltb, cases_lt, cases_Bool, or_right, and_parts, eq-eqb, ne_eqb}
 use Rattle.std.proofs.lemmas.List.Elements.{filter_more, filter_agree}
 use Rattle.slot_space.specs.Sets.{has, minus, run, IsSlotSet}
 use Rattle.slot_space.specs.Places.{slot_base, HoldsAddress}
 use Rattle.iso_blocks.specs.Bytes.{lies_in, in_slots, in_blocks, is_met}
-use Rattle.iso_blocks.specs.Heap.{Heap, IsBlock, StandFrom, IsRow, is_free, without, Fits, IsLowestFit, emptied}
+use Rattle.iso_blocks.specs.Heap.{Heap, IsRow, is_free, without, Fits, emptied}
 use Rattle.iso_blocks.specs.Obstacles.{IsInWay}
 use Rattle.iso_blocks.proofs.LiveBlocks.{block_at, meets, or-assoc, or-false, or_parts}
 use Rattle.iso_blocks.proofs.Fit.{lies_in-true}
 use Rattle.iso_blocks.proofs.SlotBytes.{in_slots-has, meets-run}
 use Rattle.iso_blocks.proofs.KeptBy.{slots_within}
-use Rattle.iso_blocks.proofs.Checks.{inside_run}
 use Rattle.iso_blocks.proofs.FreeBytes.{heap}
 
 -- a byte of the block at a place is a byte of the row

@@ -1,19 +1,19 @@
 -- The parts of the block layer stay in step through each of its four changes.
-use Rattle.std.proofs.Common.{◌⊎◌, refl, subst, sym, ◌∙◌, ap, ◌≡◌, ℕ, ◌+◌, ◌-◌, ◌*◌, ◌%◌, ◌<◌, ◌≤◌, Bool, true, false, List, [], ◌∷◌, length, get_or, arith, ⊎_elim, not, ◌||◌, ◌&&◌, cond, vec_capacity, zero, suc, drop}
-use Rattle.std.proofs.lemmas.Bool.{false≢true, true≢false, le-leb, lt-ltb, cases_lt, cases_Bool, and_parts, not-true, or_right}
-use Rattle.slot_space.specs.Sets.{has, insert, union, minus, run, IsAscending, IsSlotSet}
+use Rattle.std.proofs.Common.{refl, sym, ◌∙◌, ap, ◌≡◌, ℕ, ◌+◌, ◌-◌, ◌%◌, ◌<◌, ◌≤◌, Bool, true, false, List, [], ◌∷◌, length, get_or, arith, not, ◌||◌, ◌&&◌, cond, vec_capacity, suc, drop}
+use Rattle.std.proofs.lemmas.Bool.{true≢false, le-leb, lt-ltb, and_parts, not-true}
+use Rattle.slot_space.specs.Sets.{has, insert, union, minus, run, IsSlotSet}
 use Rattle.slot_space.specs.Places.{slot_base, HoldsAddress}
 use Rattle.slot_space.proofs.Sets.{has-union}
 use Rattle.slot_space.proofs.Ascending.{ascending-insert, ascending-minus, below-insert, below-minus}
 use Rattle.iso_blocks.specs.declared.layout.Layout.{Layout}
 use Rattle.iso_blocks.specs.Bytes.{lies_in, in_slots, in_blocks, is_met}
-use Rattle.iso_blocks.specs.Heap.{Heap, IsBlock, StandFrom, is_free, with_block, without, Fits, IsLowestFit}
-use Rattle.iso_blocks.specs.Holes.{in_holes, StandApart, AreFree, AreTaken, cut, join}
+use Rattle.iso_blocks.specs.Heap.{IsBlock, with_block, without, Fits}
+use Rattle.iso_blocks.specs.Holes.{AreFree, AreTaken, cut, join}
 use Rattle.iso_blocks.specs.Kept.{heap_of, IsKept}
 use Rattle.iso_blocks.proofs.Fit.{lies_in-true}
 use Rattle.iso_blocks.proofs.Edits.{in_holes-cut, StandApart-cut, length-cut, in_holes-join, StandApart-join, length-join}
-use Rattle.iso_blocks.proofs.LiveBlocks.{meets, StandFrom-with_block, StandFrom-without, StandFrom-slots, is_met-with_block, in_blocks-in_slots, block_at}
-use Rattle.iso_blocks.proofs.SlotBytes.{in_slots-has, in_slots-some, in_slots-insert, in_slots-minus, is_met-false, meets-run}
+use Rattle.iso_blocks.proofs.LiveBlocks.{StandFrom-with_block, StandFrom-without, StandFrom-slots, is_met-with_block, in_blocks-in_slots, block_at}
+use Rattle.iso_blocks.proofs.SlotBytes.{in_slots-some, in_slots-insert, in_slots-minus, is_met-false, meets-run}
 use Rattle.iso_blocks.proofs.FreeBytes.{is_free-with_block, is_free-without, is_free-insert, is_free-minus, slot_is_free, slot_is_taken, block_is_taken}
 use Rattle.std.specs.Prelude.{nat_lt, nat_le}
 use Rattle.iso_blocks.specs.Neighbours.{end_before, start_of, Owns}

@@ -1,7 +1,7 @@
 -- How long the rows are after a change.
-use Rattle.std.proofs.Common.{◌⊎◌, refl, subst, sym, ◌∙◌, ap, ◌≡◌, ℕ, ◌+◌, ◌<◌, ◌≤◌, Bool, true, false, List, [], ◌∷◌, length, get_or, arith, ⊎_elim, leb, ltb, eqb, zero, suc, inl, inr, cond}
-use Rattle.std.proofs.lemmas.Bool.{false≢true, true≢false, le-leb, lt-leb, lt-ltb, le-ltb, eq-eqb, ne_eqb, eqb-true, cases_lt, cases_eq, cases_Bool}
-use Rattle.slot_space.specs.Sets.{has, insert, union, minus, run, IsAscending, IsSlotSet}
+use Rattle.std.proofs.Common.{refl, sym, ap, ◌≡◌, ℕ, ◌+◌, ◌<◌, ◌≤◌, true, false, List, [], ◌∷◌, length, get_or, arith, ⊎_elim, leb, eqb, zero, suc}
+use Rattle.std.proofs.lemmas.Bool.{false≢true, true≢false, lt-ltb, le-ltb, eq-eqb, ne_eqb, cases_lt, cases_eq, cases_Bool}
+use Rattle.slot_space.specs.Sets.{has, insert, minus, IsAscending}
 use Rattle.iso_blocks.specs.Heap.{with_block, without}
 
 pub length-with_block : (b : ℕ × ℕ) (live : List (ℕ × ℕ)) → length (with_block b live) ≡ length live + 1

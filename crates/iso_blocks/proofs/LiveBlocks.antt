@@ -1,13 +1,12 @@
 -- The row of live blocks: kept in order, read at a place, with one block more or less.
-use Rattle.std.proofs.Common.{◌⊎◌, refl, subst, sym, ◌∙◌, ap, ◌≡◌, ℕ, ◌+◌, ◌%◌, ◌<◌, ◌≤◌, Bool, true, false, List, [], ◌∷◌, ◌++◌, length, get_or, arith, ⊎_elim, leb, ltb, eqb, not, zero, suc, take, drop, inl, inr, ◌||◌, ◌&&◌}
-use Rattle.std.specs.List.{AllWithin, insert, remove, filter}
+use Rattle.std.proofs.Common.{◌⊎◌, refl, subst, sym, ◌∙◌, ap, ◌≡◌, ℕ, ◌+◌, ◌<◌, ◌≤◌, Bool, true, false, List, [], ◌∷◌, length, get_or, arith, ⊎_elim, leb, eqb, not, zero, suc, inl, inr, ◌||◌, ◌&&◌}
+use Rattle.std.specs.List.{AllWithin, insert, remove}
 use Rattle.std.specs.List.Sorted.{IsNonDecreasingBy}
-use Rattle.std.proofs.lemmas.Bool.Decides.{nat_tests}
-use Rattle.std.proofs.lemmas.Bool.{false≢true, true≢false, le-leb, lt-leb, lt-ltb, le-ltb, eq-eqb, ne_eqb, cases_lt, cases_eq, cases_Bool, or_cases, or_right}
+use Rattle.std.proofs.lemmas.Bool.{false≢true, true≢false, le-leb, lt-leb, lt-ltb, eq-eqb, ne_eqb, cases_lt, cases_eq, cases_Bool, or_cases, or_right}
 use Rattle.std.specs.Prelude.{nat_lt}
 use Rattle.slot_space.specs.Places.{slot_base}
 use Rattle.iso_blocks.specs.Bytes.{lies_in, in_slots, in_blocks, is_met}
-use Rattle.iso_blocks.specs.Heap.{Heap, IsBlock, StandFrom, with_block, without, starts_at}
+use Rattle.iso_blocks.specs.Heap.{IsBlock, StandFrom, with_block, without, starts_at}
 use Rattle.iso_blocks.proofs.Fit.{lies_in-true}
 
 -- a block has a byte in slot s

@@ -1,9 +1,9 @@
 -- A row of holes cut in two parts, at the hole where an edit begins.
-use Rattle.std.proofs.Common.{◌⊎◌, refl, sym, ◌∙◌, ap, ◌≡◌, ℕ, ◌+◌, ◌<◌, ◌≤◌, Bool, true, false, List, [], ◌∷◌, ◌++◌, length, get_or, arith, ⊎_elim, leb, ltb, zero, suc, take, drop}
+use Rattle.std.proofs.Common.{refl, ap, ◌≡◌, ℕ, ◌+◌, ◌<◌, ◌≤◌, List, [], ◌∷◌, ◌++◌, length, get_or, arith, ⊎_elim, zero, suc, take, drop}
 use Rattle.std.specs.List.{AllWithin}
 use Rattle.std.specs.List.Sorted.{IsNonDecreasingBy}
-use Rattle.std.proofs.lemmas.Bool.{false≢true, le-leb, lt-ltb, cases_lt}
-use Rattle.iso_blocks.specs.Holes.{in_holes, StandApart, AreFree, cut, join}
+use Rattle.std.proofs.lemmas.Bool.{false≢true, le-leb, lt-ltb}
+use Rattle.iso_blocks.specs.Holes.{StandApart, AreFree, cut, join}
 use Rattle.iso_blocks.proofs.Fit.{AreFree-cases}
 
 -- the ends of holes rise

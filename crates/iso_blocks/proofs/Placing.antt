@@ -1,14 +1,12 @@
 -- The first hole that is large enough is the lowest place.
-use Rattle.std.proofs.Common.{◌⊎◌, refl, subst, sym, ◌∙◌, ap, ◌≡◌, ℕ, ◌+◌, ◌-◌, ◌%◌, ◌<◌, ◌≤◌, Bool, true, false, List, [], ◌∷◌, length, get_or, arith, ⊎_elim, Option, Some, None, leb, ltb, cond}
+use Rattle.std.proofs.Common.{subst, sym, ◌∙◌, ◌≡◌, ℕ, ◌-◌, ◌<◌, ◌≤◌, Bool, true, List, length, get_or, arith, ⊎_elim, Some, None, leb}
 use Rattle.std.specs.List.{position, position_or_len}
 use Rattle.std.proofs.lemmas.List.Sums.{fails_before_first, passes_at_first}
-use Rattle.std.proofs.lemmas.Bool.{false≢true, leb-true, leb-false, lt-ltb, le-ltb, cases_lt}
+use Rattle.std.proofs.lemmas.Bool.{leb-true, leb-false, lt-ltb, le-ltb, cases_lt}
 use Rattle.iso_blocks.specs.declared.layout.Layout.{Layout}
-use Rattle.iso_blocks.specs.Heap.{Heap, Fits, IsLowestFit}
-use Rattle.iso_blocks.specs.Holes.{in_holes, StandApart, AreFree}
+use Rattle.iso_blocks.specs.Heap.{Fits}
 use Rattle.iso_blocks.specs.Kept.{heap_of, IsKept}
 use Rattle.iso_blocks.proofs.Fit.{lowest, none_fits, hole_at}
-use Rattle.iso_blocks.proofs.Rows.{same_default, same_read}
 use Rattle.iso_blocks.proofs.KeptBy.{fits_free}
 
 -- the test that a hole is large enough

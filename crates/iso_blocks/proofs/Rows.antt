@@ -1,11 +1,9 @@
 -- What an edit of the row of holes at one place leaves.
-use Rattle.std.proofs.Common.{◌⊎◌, refl, subst, sym, ◌∙◌, ap, ◌≡◌, ℕ, ◌+◌, ◌<◌, ◌≤◌, Bool, true, false, List, [], ◌∷◌, ◌++◌, length, get_or, arith, ⊎_elim, leb, ltb, eqb, zero, suc, take, drop}
+use Rattle.std.proofs.Common.{refl, subst, sym, ◌∙◌, ap, ◌≡◌, ℕ, ◌+◌, ◌<◌, ◌≤◌, List, [], ◌∷◌, ◌++◌, length, get_or, arith, zero, suc, take, drop}
 use Rattle.std.proofs.Math.ListN.{set}
-use Rattle.std.proofs.Math.Seq.{drop-cons}
 use Rattle.std.specs.List.{AllWithin, insert, remove}
-use Rattle.std.proofs.lemmas.Bool.{false≢true, le-leb, lt-leb, lt-ltb, le-ltb, eq-eqb, ne_eqb, cases_lt}
-use Rattle.iso_blocks.specs.Holes.{StandApart, hole, merged, cut, join}
-use Rattle.iso_blocks.proofs.Parts.{join-past, cut-past}
+use Rattle.std.proofs.lemmas.Bool.{le-leb, lt-leb, lt-ltb, le-ltb, eq-eqb, ne_eqb}
+use Rattle.iso_blocks.specs.Holes.{hole, merged, cut, join}
 
 -- two reads of one place give the same
 pub same_read : (xs : List (ℕ × ℕ)) (i : ℕ) (a b : ℕ × ℕ) → i < length xs → a ≡ get_or xs i a → b ≡ get_or xs i b → a ≡ b

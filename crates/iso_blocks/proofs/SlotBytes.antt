@@ -1,16 +1,14 @@
 -- Which bytes lie in which slots, and which slots blocks meet.
-use Rattle.std.proofs.Common.{◌⊎◌, refl, subst, sym, ◌∙◌, ap, ◌≡◌, ℕ, ◌+◌, ◌-◌, ◌*◌, ◌%◌, ◌/◌, ◌<◌, ◌≤◌, Bool, true, false, List, [], ◌∷◌, ◌++◌, length, arith, ⊎_elim, leb, ltb, eqb, not, zero, suc, inl, inr, ◌||◌, ◌&&◌, cond}
-use Rattle.std.specs.List.{filter}
+use Rattle.std.proofs.Common.{refl, sym, ◌∙◌, ◌≡◌, ℕ, ◌+◌, ◌-◌, ◌/◌, ◌<◌, ◌≤◌, Bool, true, false, List, [], ◌∷◌, arith, ⊎_elim, eqb, not, ◌||◌, ◌&&◌, cond}
 use Rattle.std.specs.Prelude.{nat_lt}
 use Rattle.std.proofs.lemmas.Bool.Decides.{nat_tests}
-use Rattle.std.proofs.lemmas.Bool.{false≢true, true≢false, le-leb, lt-leb, lt-ltb, le-ltb, eq-eqb, ne_eqb, cases_lt, cases_eq, cases_Bool, or_cases, or_right, both_ways, eqb-true, eqb-false}
-use Rattle.slot_space.specs.Sets.{has, insert, union, minus, run, IsAscending, IsSlotSet}
+use Rattle.std.proofs.lemmas.Bool.{false≢true, le-leb, lt-ltb, eq-eqb, ne_eqb, cases_lt, cases_eq, cases_Bool, or_cases, or_right, both_ways, eqb-true, eqb-false}
+use Rattle.slot_space.specs.Sets.{has, insert, minus, run}
 use Rattle.slot_space.specs.Places.{slot_base, HoldsAddress}
-use Rattle.slot_space.proofs.Sets.{has-insert, has-union, has-minus}
-use Rattle.slot_space.proofs.Ascending.{ascending-minus, ascending-insert, ascending-filter, ascending-union, same_members}
-use Rattle.slot_space.specs.WordsBack.{has-filter, has-run}
+use Rattle.slot_space.proofs.Sets.{has-insert}
+use Rattle.slot_space.specs.WordsBack.{has-run}
 use Rattle.iso_blocks.specs.Bytes.{lies_in, in_slots, in_blocks, is_met}
-use Rattle.iso_blocks.specs.Heap.{Heap, IsBlock, StandFrom, is_free, with_block, without}
+use Rattle.iso_blocks.specs.Heap.{IsBlock, StandFrom}
 use Rattle.iso_blocks.proofs.Fit.{lies_in-true}
 use Rattle.iso_blocks.proofs.LiveBlocks.{meets, or_parts}
 

@@ -1,18 +1,16 @@
 -- Each call leaves the live blocks in the heap slots, and none meeting another.
-use Rattle.std.proofs.Common.{◌⊎◌, refl, subst, sym, ◌∙◌, ap, ◌≡◌, ℕ, ◌+◌, ◌%◌, ◌<◌, ◌≤◌, Bool, true, false, List, [], ◌∷◌, length, get_or, arith, ⊎_elim, zero, suc, not, ◌||◌, ◌&&◌, Some, None, cond}
-use Rattle.std.specs.List.{AllPairs, filter}
-use Rattle.std.proofs.lemmas.Bool.{false≢true, true≢false, cases_lt, cases_Bool, or_cases, and_parts, not-true}
-use Rattle.slot_space.specs.Sets.{has, union, minus, run, IsSlotSet}
+use Rattle.std.proofs.Common.{refl, sym, ◌∙◌, ◌≡◌, ℕ, ◌+◌, ◌%◌, ◌<◌, ◌≤◌, true, List, [], ◌∷◌, length, get_or, arith, ⊎_elim, zero, suc, not, Some}
+use Rattle.std.specs.List.{AllPairs}
+use Rattle.std.proofs.lemmas.Bool.{true≢false, cases_Bool, and_parts, not-true}
+use Rattle.slot_space.specs.Sets.{union, minus, run, IsSlotSet}
 use Rattle.slot_space.specs.Places.{HoldsAddress}
 use Rattle.slot_space.specs.WordsBack.{has-filter}
 use Rattle.slot_space.proofs.Sets.{has-union, has-minus}
 use Rattle.slot_space.proofs.Ascending.{ascending-union, ascending-run, ascending-minus, below-union, below-run, below-minus}
-use Rattle.iso_blocks.specs.Bytes.{lies_in, in_slots, in_blocks, is_met}
-use Rattle.iso_blocks.specs.Heap.{Heap, IsBlock, StandFrom, IsSound, is_free, with_block, without, placed, with_slots, emptied, freed, Fits, IsLowestFit}
-use Rattle.iso_blocks.proofs.Fit.{lies_in-true}
+use Rattle.iso_blocks.specs.Bytes.{in_slots, in_blocks, is_met}
+use Rattle.iso_blocks.specs.Heap.{Heap, StandFrom, IsSound, without, placed, with_slots, emptied, freed, Fits, IsLowestFit}
 use Rattle.iso_blocks.proofs.LiveBlocks.{StandFrom-with_block, StandFrom-without, StandFrom-slots, in_blocks-in_slots}
 use Rattle.iso_blocks.proofs.SlotBytes.{in_slots-has, in_slots-some, is_met-false}
-use Rattle.iso_blocks.proofs.FreeBytes.{heap}
 
 -- live blocks never meet: each ends at or before the start of each later one
 pub never_meet : (low : ℕ) (slots : List ℕ) (live : List (ℕ × ℕ)) → StandFrom low slots live → AllPairs (λ (b c : ℕ × ℕ). b.0 + b.1 ≤ c.0) live

@@ -1,5 +1,5 @@
 -- Which bytes of the guest's memory lie in slots and in blocks. A block is its address and its size.
-use Rattle.std.specs.Prelude.{ℕ, ◌+◌, Bool, true, false, ◌&&◌, ◌||◌, List, [], ◌∷◌, nat_le, nat_lt, ◌==◌, not}
+use Rattle.std.specs.Prelude.{ℕ, ◌+◌, Bool, false, ◌&&◌, ◌||◌, List, [], ◌∷◌, nat_le, nat_lt}
 use Rattle.slot_space.specs.Places.{slot_base}
 
 -- byte x is one of the bytes from `from` to before `end`

@@ -9,6 +9,8 @@ mod layout;
 mod live;
 mod plain;
 mod space;
+#[cfg(test)]
+mod tests;
 
 pub use blocks::Blocks;
 pub use plain::PlainBlocks;

@@ -1,4 +1,4 @@
-use Rattle.std.proofs.Common.{arith, ◌≡◌, ℕ, sym, ap, ◌∙◌, refl}
+use Rattle.std.proofs.Common.{arith}
 use Rattle.iso_blocks.proofs.KeptBy.{slots_within}
 use Rattle.iso_blocks.proofs.check.are_sound.Goals as goal
 

@@ -1,4 +1,4 @@
-use Rattle.std.proofs.Common.{◌≡◌, ℕ, drop}
+use Rattle.std.proofs.Common.{drop}
 use Rattle.iso_blocks.specs.Heap.{StandFrom}
 use Rattle.iso_blocks.proofs.check.are_sound.Given as goal
 

@@ -1,4 +1,4 @@
-use Rattle.std.proofs.Common.{arith, ◌≡◌, ℕ, ◌+◌, sym, ap, ◌∙◌, refl}
+use Rattle.std.proofs.Common.{arith}
 use Rattle.std.proofs.lemmas.Bool.{false≢true}
 use Rattle.iso_blocks.proofs.KeptBy.{slots_within}
 use Rattle.iso_blocks.proofs.Checks.{block_iff}

@@ -1,5 +1,5 @@
 -- The holes' ends rise, so the ones before the limit come first.
-use Rattle.std.proofs.Common.{ltb, ltb-true, ltb-false, arith, rules, ℕ, ◌<◌}
+use Rattle.std.proofs.Common.{ltb, ltb-true, ltb-false, rules, ℕ}
 use Rattle.std.proofs.lemmas.List.Sorted.{IsPartitionPoint-from_clause, IsPartitionedBy-ltb}
 use Rattle.iso_blocks.proofs.Parts.{ends_rise}
 use Rattle.iso_blocks.proofs.holes.ending_before.Goals as goal

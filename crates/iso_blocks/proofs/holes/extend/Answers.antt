@@ -1,4 +1,4 @@
-use Rattle.std.proofs.Common.{arith, ◌≡◌, ℕ, ◌+◌, suc, add-one}
+use Rattle.std.proofs.Common.{arith, ◌+◌}
 use Rattle.iso_blocks.proofs.Rows.{same_read, extend-touching, extend-apart}
 use Rattle.iso_blocks.proofs.holes.extend.Goals as goal
 use Rattle.iso_blocks.proofs.holes.extend.Goals.{else-next-len-via-then-next-len+else-index-end, else-next-len-via-else-next-len}

@@ -1,5 +1,4 @@
-use Rattle.std.proofs.Common.{arith, ◌≡◌, ℕ, ◌+◌, ◌<◌, ◌≤◌, length, get_or, sym, ◌∙◌, add-one, take}
-use Rattle.iso_blocks.specs.Holes.{hole, cut}
+use Rattle.std.proofs.Common.{arith, get_or, sym, ◌∙◌, add-one}
 use Rattle.iso_blocks.proofs.Rows.{cut-at, same_default}
 use Rattle.iso_blocks.proofs.Parts.{found}
 use Rattle.iso_blocks.proofs.holes.occupy.Goals as goal

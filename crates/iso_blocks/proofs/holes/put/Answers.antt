@@ -1,4 +1,4 @@
-use Rattle.std.proofs.Common.{arith, ◌≡◌, ℕ, ap, sym, ◌∙◌}
+use Rattle.std.proofs.Common.{arith}
 use Rattle.iso_blocks.proofs.Rows.{same_read, put-touching}
 use Rattle.iso_blocks.proofs.holes.put.Goals as goal
 

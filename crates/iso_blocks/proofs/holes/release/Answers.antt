@@ -1,4 +1,4 @@
-use Rattle.std.proofs.Common.{arith, ◌≡◌, ℕ, ◌+◌, sym, ◌∙◌, add-one}
+use Rattle.std.proofs.Common.{arith, sym, ◌∙◌, add-one}
 use Rattle.iso_blocks.proofs.Rows.{same_read, join-left, join-right}
 use Rattle.iso_blocks.proofs.holes.release.Goals as goal
 use Rattle.iso_blocks.proofs.holes.release.Goals.{else-k-len-via-then-k-len+else-index-from, else-k-len-via-else-k-len}

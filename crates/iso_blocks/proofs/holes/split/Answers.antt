@@ -1,4 +1,4 @@
-use Rattle.std.proofs.Common.{arith, ◌≡◌, ℕ, ◌+◌, ◌<◌, ◌≤◌, length, get_or, sym, ◌∙◌, add-one}
+use Rattle.std.proofs.Common.{arith, add-one}
 use Rattle.iso_blocks.proofs.Rows.{same_read, parts-left, parts-right}
 use Rattle.iso_blocks.proofs.holes.split.Goals as goal
 

@@ -1,4 +1,4 @@
-use Rattle.std.proofs.Common.{arith, ◌≡◌, ℕ, ◌+◌, ◌-◌, suc, sym, ap, ◌∙◌}
+use Rattle.std.proofs.Common.{arith, ◌≡◌, ◌-◌, suc, sym, ap, ◌∙◌}
 use Rattle.iso_blocks.specs.Neighbours.{end_before}
 use Rattle.iso_blocks.proofs.Beside.{end_before-read}
 use Rattle.iso_blocks.proofs.live.end_before.Goals as goal

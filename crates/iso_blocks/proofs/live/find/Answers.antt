@@ -1,4 +1,4 @@
-use Rattle.std.proofs.Common.{arith, ◌≡◌, ℕ, sym, ap, ◌∙◌, refl, length, eqb, eq-eqb, get_or}
+use Rattle.std.proofs.Common.{ℕ, ap, ◌∙◌, eq-eqb, get_or}
 use Rattle.std.proofs.lemmas.Bool.{ne_eqb}
 use Rattle.iso_blocks.proofs.LiveBlocks.{starts_rise, starts_at-place, starts_at-none}
 use Rattle.iso_blocks.proofs.Rows.{same_read, same_default}

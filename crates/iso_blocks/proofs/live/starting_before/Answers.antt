@@ -1,5 +1,5 @@
 -- The addresses rise, so the blocks before the address come first.
-use Rattle.std.proofs.Common.{ltb, ltb-true, ltb-false, arith, rules, ℕ, ◌<◌}
+use Rattle.std.proofs.Common.{ltb, ltb-true, ltb-false, rules, ℕ}
 use Rattle.std.proofs.lemmas.List.Sorted.{IsPartitionPoint-from_clause, IsPartitionedBy-ltb}
 use Rattle.iso_blocks.proofs.live.starting_before.Goals as goal
 

@@ -1,4 +1,4 @@
-use Rattle.std.proofs.Common.{arith, ◌≡◌, ℕ, ◌+◌, ◌<◌, get_or, add-one, suc}
+use Rattle.std.proofs.Common.{arith, get_or, add-one}
 use Rattle.iso_blocks.proofs.InTheWay.{row_within, block_way, clear_more}
 use Rattle.iso_blocks.proofs.Rows.{same_default}
 use Rattle.iso_blocks.proofs.plain.block_in_way.Goals as goal

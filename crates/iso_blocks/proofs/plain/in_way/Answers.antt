@@ -1,4 +1,4 @@
-use Rattle.std.proofs.Common.{◌≡◌, ℕ, ◌+◌, ◌<◌, ◌≤◌, Option, Some, None, true, false, not, ap, refl, List}
+use Rattle.std.proofs.Common.{◌≡◌, ℕ, ◌+◌, ◌<◌, ◌≤◌, Option, Some, None, true, false, refl, List}
 use Rattle.std.specs.Prelude.{MatchOption}
 use Rattle.iso_blocks.specs.Bytes.{in_slots, in_blocks}
 use Rattle.iso_blocks.specs.Heap.{is_free}

@@ -1,4 +1,4 @@
-use Rattle.std.proofs.Common.{◌≡◌, ℕ, ◌+◌, ◌-◌, ◌%◌, ◌<◌, ◌≤◌}
+use Rattle.std.proofs.Common.{◌≡◌, ℕ, ◌-◌, ◌%◌, ◌≤◌}
 use Rattle.slot_space.specs.Places.{slot_base}
 use Rattle.iso_blocks.specs.Heap.{Fits}
 use Rattle.iso_blocks.proofs.FreeBytes.{heap}

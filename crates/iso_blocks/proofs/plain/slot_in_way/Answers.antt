@@ -1,4 +1,3 @@
-use Rattle.std.proofs.Common.{arith, ◌≡◌, ℕ, ◌+◌, ◌<◌}
 use Rattle.iso_blocks.proofs.InTheWay.{slot_way}
 use Rattle.iso_blocks.proofs.Checks.{inside_run}
 use Rattle.iso_blocks.proofs.plain.slot_in_way.Goals as goal

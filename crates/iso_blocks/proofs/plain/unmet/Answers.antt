@@ -1,4 +1,4 @@
-use Rattle.std.proofs.Common.{arith, ◌≡◌, ℕ, ◌+◌, ◌<◌, List, ap, get_or, sym, ◌∙◌, refl}
+use Rattle.std.proofs.Common.{arith, ℕ, List, ap, get_or, sym, ◌∙◌}
 use Rattle.slot_space.specs.Sets.{minus, run}
 use Rattle.iso_blocks.proofs.InTheWay.{row_within, unmet_start, unmet_same, unmet_more}
 use Rattle.iso_blocks.proofs.Rows.{same_default}

@@ -1,11 +1,8 @@
-use Rattle.std.proofs.Common.{arith, ◌≡◌, ℕ, ◌+◌, List, sym, ap, ◌∙◌, refl, length}
-use Rattle.slot_space.specs.Places.{slot_base}
-use Rattle.slot_space.specs.Sets.{insert}
-use Rattle.iso_blocks.specs.Holes.{join}
+use Rattle.std.proofs.Common.{arith, ◌+◌, sym, ap, ◌∙◌, refl, length}
 use Rattle.iso_blocks.proofs.FreeBytes.{heap}
 use Rattle.iso_blocks.proofs.Edits.{length-join}
 use Rattle.iso_blocks.proofs.Lengths.{insert-same, length-insert}
-use Rattle.iso_blocks.proofs.KeptBy.{kept-grow, Grows}
+use Rattle.iso_blocks.proofs.KeptBy.{kept-grow}
 use Rattle.iso_blocks.proofs.layout.Layout.add_slot.Goals as goal
 
 -- a slot that is there already changes nothing

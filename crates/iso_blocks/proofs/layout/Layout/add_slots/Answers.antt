@@ -1,6 +1,6 @@
-use Rattle.std.proofs.Common.{arith, ◌≡◌, ℕ, ◌+◌, ◌-◌, ◌<◌, List, sym, ap, ◌∙◌, refl, subst}
+use Rattle.std.proofs.Common.{arith, ◌≡◌, ℕ, ◌+◌, ◌-◌, sym, ap, ◌∙◌}
 use Rattle.slot_space.specs.Sets.{insert, union, run}
-use Rattle.iso_blocks.specs.Heap.{Heap, with_slots}
+use Rattle.iso_blocks.specs.Heap.{Heap}
 use Rattle.iso_blocks.proofs.FreeBytes.{heap}
 use Rattle.iso_blocks.proofs.HeapSets.{union-run_more, union-run_none}
 use Rattle.iso_blocks.proofs.layout.Layout.add_slots.Goals as goal

@@ -1,4 +1,4 @@
-use Rattle.std.proofs.Common.{◌≡◌, ℕ, ◌+◌, ◌-◌, ◌*◌, ◌≤◌, vec_capacity}
+use Rattle.std.proofs.Common.{◌≡◌, ◌+◌, ◌-◌, ◌*◌, ◌≤◌, vec_capacity}
 use Rattle.iso_blocks.specs.Heap.{with_slots}
 use Rattle.iso_blocks.specs.Kept.{heap_of, holes_to_be, IsKept}
 use Rattle.iso_blocks.proofs.layout.Layout.add_slots.Given as goal

@@ -1,6 +1,6 @@
-use Rattle.std.proofs.Common.{arith, ◌≡◌, ℕ, ◌+◌, ◌-◌, List, sym, ap, ◌∙◌, refl, length}
+use Rattle.std.proofs.Common.{arith, refl}
 use Rattle.iso_blocks.proofs.Lengths.{length-minus}
-use Rattle.iso_blocks.proofs.KeptBy.{kept-shrink, Shrinks, slot_free}
+use Rattle.iso_blocks.proofs.KeptBy.{kept-shrink, slot_free}
 use Rattle.iso_blocks.proofs.layout.Layout.drop_slot.Goals as goal
 
 pub occupy-requires-clause-free : goal.occupy-requires-clause-free

@@ -1,10 +1,10 @@
-use Rattle.std.proofs.Common.{arith, ◌≡◌, ℕ, ◌+◌, ◌<◌, List, Some, sym, ap, ◌∙◌, refl, true, false}
-use Rattle.slot_space.specs.Sets.{has, minus, least_from}
+use Rattle.std.proofs.Common.{arith, ◌≡◌, ℕ, List, Some, sym, ap, ◌∙◌}
+use Rattle.slot_space.specs.Sets.{has, least_from}
 use Rattle.slot_space.proofs.Ascending.{least_from-found}
 use Rattle.iso_blocks.specs.Heap.{Heap}
 use Rattle.iso_blocks.specs.Bytes.{is_met}
 use Rattle.iso_blocks.proofs.FreeBytes.{heap}
-use Rattle.iso_blocks.proofs.HeapSets.{IsLeft, left_more, left_there, left_all, no_more}
+use Rattle.iso_blocks.proofs.HeapSets.{left_more, left_there, left_all, no_more}
 use Rattle.iso_blocks.proofs.layout.Layout.drop_slots.Goals as goal
 
 pub drop_slot-requires-clause-there : goal.drop_slot-requires-clause-there

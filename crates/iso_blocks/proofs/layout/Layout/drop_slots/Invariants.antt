@@ -1,4 +1,4 @@
-use Rattle.std.proofs.Common.{◌≡◌, ℕ, ◌-◌, ◌≤◌}
+use Rattle.std.proofs.Common.{◌≡◌, ◌-◌, ◌≤◌}
 use Rattle.iso_blocks.specs.Kept.{IsKept}
 use Rattle.iso_blocks.proofs.HeapSets.{IsLeft}
 use Rattle.iso_blocks.proofs.layout.Layout.drop_slots.Given as goal

@@ -1,4 +1,4 @@
-use Rattle.std.proofs.Common.{arith, ◌≡◌, ℕ, sym, ap, ◌∙◌, refl, subst, length, get_or}
+use Rattle.std.proofs.Common.{◌≡◌, ℕ, ◌∙◌, subst, get_or}
 use Rattle.slot_space.specs.Sets.{has}
 use Rattle.iso_blocks.specs.Bytes.{is_met}
 use Rattle.iso_blocks.specs.Heap.{without}

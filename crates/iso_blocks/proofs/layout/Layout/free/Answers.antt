@@ -1,9 +1,9 @@
-use Rattle.std.proofs.Common.{arith, ◌≡◌, ℕ, List, sym, ap, ◌∙◌, refl, subst, length, get_or, not}
+use Rattle.std.proofs.Common.{◌≡◌, ℕ, List, sym, ap, ◌∙◌, subst, get_or, not}
 use Rattle.std.specs.List.{filter}
-use Rattle.slot_space.specs.Sets.{has, minus}
+use Rattle.slot_space.specs.Sets.{minus}
 use Rattle.iso_blocks.specs.declared.layout.Layout.{Layout}
 use Rattle.iso_blocks.specs.Bytes.{is_met}
-use Rattle.iso_blocks.specs.Heap.{Heap, without, emptied, freed}
+use Rattle.iso_blocks.specs.Heap.{Heap, without, emptied}
 use Rattle.iso_blocks.specs.Kept.{heap_of, IsKept}
 use Rattle.iso_blocks.proofs.FreeBytes.{heap}
 use Rattle.iso_blocks.proofs.HeapSets.{minus-filter, in_minus}

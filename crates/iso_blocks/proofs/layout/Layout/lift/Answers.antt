@@ -1,8 +1,8 @@
-use Rattle.std.proofs.Common.{arith, ◌≡◌, ℕ, List, sym, ap, ◌∙◌, refl, subst, length}
-use Rattle.iso_blocks.specs.Heap.{Heap, without}
+use Rattle.std.proofs.Common.{arith, ℕ, List, sym, ap, ◌∙◌, refl}
+use Rattle.iso_blocks.specs.Heap.{without}
 use Rattle.iso_blocks.proofs.FreeBytes.{heap}
 use Rattle.iso_blocks.proofs.LiveBlocks.{without-place}
-use Rattle.iso_blocks.proofs.KeptBy.{block_within, kept-leave, Leaves}
+use Rattle.iso_blocks.proofs.KeptBy.{block_within, kept-leave}
 use Rattle.iso_blocks.proofs.Rows.{same_read}
 use Rattle.iso_blocks.proofs.layout.Layout.lift.Goals as goal
 

@@ -1,9 +1,7 @@
-use Rattle.std.proofs.Common.{arith, ◌≡◌, ℕ, ◌+◌, ◌<◌, sym, ap, ◌∙◌, refl, subst, length, add-one, suc, drop, true, false, ◌&&◌, not, Bool}
-use Rattle.std.specs.Prelude.{nat_lt, nat_le}
-use Rattle.slot_space.specs.Sets.{has, minus}
+use Rattle.std.proofs.Common.{arith, ◌≡◌, ℕ, sym, ◌∙◌, refl, subst, add-one, true, false, ◌&&◌, Bool}
+use Rattle.slot_space.specs.Sets.{has}
 use Rattle.iso_blocks.specs.Bytes.{is_met}
 use Rattle.iso_blocks.specs.Heap.{without}
-use Rattle.iso_blocks.specs.Neighbours.{end_before, start_of, Owns}
 use Rattle.iso_blocks.proofs.HeapSets.{has-minus_run, none_between}
 use Rattle.iso_blocks.proofs.KeptBy.{block_within, met_gone}
 use Rattle.iso_blocks.proofs.Rows.{same_read}

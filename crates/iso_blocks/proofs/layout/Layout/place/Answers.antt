@@ -1,4 +1,4 @@
-use Rattle.std.proofs.Common.{arith, ◌≡◌, ℕ, ◌+◌, ◌-◌, ◌<◌, ◌≤◌, List, sym, ap, ◌∙◌, refl, subst, length}
+use Rattle.std.proofs.Common.{sym, ◌∙◌}
 use Rattle.iso_blocks.proofs.Placing.{first_is_lowest, none_is_lowest}
 use Rattle.iso_blocks.proofs.layout.Layout.place.Goals as goal
 

@@ -1,8 +1,8 @@
-use Rattle.std.proofs.Common.{arith, ◌≡◌, ℕ, ◌+◌, ◌-◌, ◌<◌, ◌≤◌, List, sym, ap, ◌∙◌, refl, subst, length}
+use Rattle.std.proofs.Common.{arith, ℕ, ◌+◌, ◌-◌, List, sym, ap, ◌∙◌, refl, subst}
 use Rattle.iso_blocks.specs.Heap.{Heap, Fits, with_block}
 use Rattle.iso_blocks.proofs.FreeBytes.{heap}
 use Rattle.iso_blocks.proofs.LiveBlocks.{starts_rise, with_block-at}
-use Rattle.iso_blocks.proofs.KeptBy.{kept-settle, Settles, fits_within}
+use Rattle.iso_blocks.proofs.KeptBy.{kept-settle, fits_within}
 use Rattle.iso_blocks.proofs.layout.Layout.settle.Goals as goal
 
 pub starting_before-k-requires : goal.starting_before-k-requires

@@ -1,4 +1,4 @@
-use Rattle.std.proofs.Common.{arith, ◌≡◌, ℕ, ◌+◌, List, sym, ap, ◌∙◌, refl, subst, take, get_or, add-one, suc}
+use Rattle.std.proofs.Common.{ℕ, List, sym, ap, ◌∙◌, subst, get_or, add-one}
 use Rattle.iso_blocks.specs.Heap.{Heap, Fits, with_block}
 use Rattle.iso_blocks.proofs.FreeBytes.{heap}
 use Rattle.iso_blocks.proofs.LiveBlocks.{block_at}

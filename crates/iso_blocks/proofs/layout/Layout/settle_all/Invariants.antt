@@ -1,4 +1,4 @@
-use Rattle.std.proofs.Common.{◌≡◌, ℕ, take}
+use Rattle.std.proofs.Common.{◌≡◌, take}
 use Rattle.iso_blocks.specs.Kept.{heap_of, IsKept}
 use Rattle.iso_blocks.proofs.FreeBytes.{heap}
 use Rattle.iso_blocks.proofs.layout.Layout.settle_all.Given as goal

@@ -1,9 +1,9 @@
-use Rattle.std.proofs.Common.{arith, ◌≡◌, ℕ, ◌+◌, ◌<◌, List, [], Some, sym, ap, ◌∙◌, refl, true, false}
+use Rattle.std.proofs.Common.{arith, ◌≡◌, ℕ, List, [], Some, sym, ap, ◌∙◌}
 use Rattle.slot_space.specs.Sets.{has, least_from}
 use Rattle.slot_space.proofs.Ascending.{least_from-found}
 use Rattle.iso_blocks.specs.Heap.{Heap}
 use Rattle.iso_blocks.proofs.FreeBytes.{heap}
-use Rattle.iso_blocks.proofs.HeapSets.{IsTaken, taken_none, taken_more, taken_all, no_more}
+use Rattle.iso_blocks.proofs.HeapSets.{taken_more, taken_all, no_more}
 use Rattle.iso_blocks.proofs.layout.Layout.take_slots.Goals as goal
 
 pub add_slots-requires-clause-within : goal.add_slots-requires-clause-within

@@ -1,4 +1,3 @@
-use Rattle.std.proofs.Common.{arith, ◌≡◌, ℕ, ◌+◌, sym, ◌∙◌, refl, ap}
 use Rattle.iso_blocks.proofs.Sound.{sound-with_slots, proper-with_slots}
 use Rattle.iso_blocks.proofs.FreeBytes.{heap}
 use Rattle.iso_blocks.proofs.plain.PlainBlocks.add_slots.Goals as goal

@@ -1,6 +1,6 @@
-use Rattle.std.proofs.Common.{arith, ◌≡◌, ℕ, ◌+◌, ◌<◌, ◌≤◌, List, ap, sym, ◌∙◌, refl, subst, get_or}
+use Rattle.std.proofs.Common.{ap, sym, ◌∙◌, get_or}
 use Rattle.slot_space.specs.Sets.{minus}
-use Rattle.iso_blocks.specs.Heap.{Heap, freed, IsSound}
+use Rattle.iso_blocks.specs.Heap.{Heap, freed}
 use Rattle.iso_blocks.proofs.FreeBytes.{heap}
 use Rattle.iso_blocks.proofs.LiveBlocks.{without-place}
 use Rattle.iso_blocks.proofs.Rows.{same_default}

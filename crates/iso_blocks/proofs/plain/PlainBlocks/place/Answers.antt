@@ -1,5 +1,5 @@
-use Rattle.std.proofs.Common.{arith, ◌≡◌, ℕ, ◌+◌, ◌<◌, ◌≤◌, List, ap, sym, ◌∙◌, refl, subst, ◌%◌}
-use Rattle.iso_blocks.specs.Heap.{Heap, with_block, rounded, Fits, IsSound}
+use Rattle.std.proofs.Common.{arith, ℕ, List, ap, sym, ◌∙◌}
+use Rattle.iso_blocks.specs.Heap.{Heap, with_block, rounded}
 use Rattle.iso_blocks.proofs.FreeBytes.{heap}
 use Rattle.iso_blocks.proofs.LiveBlocks.{starts_rise, with_block-at}
 use Rattle.iso_blocks.proofs.Sound.{sound-placed}
