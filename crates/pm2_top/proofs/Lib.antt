@@ -1,0 +1,5 @@
+pub mod Lines
+pub mod Zeros
+pub mod Events
+pub mod Run
+pub mod Ran

@@ -1,0 +1,107 @@
+-- A run under way goes on, or ends.
+use Rattle.std.proofs.Common.{◌≡◌, ℕ, suc, ◌+◌, ◌-◌, ◌≤◌, List, ◌++◌, take, drop, length, Option, Some, None, refl, sym, ap, ◌∙◌, subst, arith, append_assoc}
+use Rattle.std.specs.Prelude.{IsSome, option_map}
+use Rattle.std.proofs.lemmas.List.{take-append-drop, append-nil}
+use Rattle.std.proofs.Math.Seq.{take-append_seam}
+use Rattle.outside.specs.Outside.{Appends, AppendsPrefix}
+use Rattle.outside.proofs.Appending.{appends_twice}
+use Rattle.rv_step.specs.Step.{State, Call, Fault, step_of}
+use Rattle.rv_step.specs.Run.{after}
+use Rattle.rv_step.specs.declared.hart.FaultKind.{FaultKind}
+use Rattle.pm2_top.specs.Alone.{Alone, lives, over, shows, call_effect, events}
+use Rattle.outside.specs.declared.outside.WriteRefusal.{WriteRefusal}
+use Rattle.outside.specs.declared.outside.WriteRefusal.TheVariants as refusal
+use Rattle.pm2_top.specs.Number.{refusal_status}
+use Rattle.pm2_top.specs.Running.{IsUnderway, Ends}
+use Rattle.pm2_top.proofs.Events.{events-none, events-over, events-fault, events-call, events-after, events-shown}
+
+-- steps use up as many events
+pub runs : (image : List ℕ) (end : Alone) (w now : Option (List ℕ)) (left count : ℕ) (s t : State) → count ≤ left
+    → after image s count ≡ Some t → IsUnderway image end w left s now → IsUnderway image end w (left - count) t now
+runs image end w now left count s t within steps u =
+    let all : left ≡ count + (left - count) = omega arith in
+    record {
+      shown = u.shown;
+      leads = u.leads ∙ ap (λ n. events image n (lives s u.shown)) all ∙ events-after image s t count (left - count) u.shown steps;
+      wrote = u.wrote;
+    }
+
+-- no event is left
+pub uses_up : (image : List ℕ) (end : Alone) (w now : Option (List ℕ)) (left : ℕ) (s : State) → left ≡ 0
+    → IsUnderway image end w left s now → IsSome end.thread × Appends w end.shown now
+uses_up image end w now left s none u =
+    let is : lives s u.shown ≡ end = sym (u.leads ∙ ap (λ n. events image n (lives s u.shown)) none ∙ events-none image (lives s u.shown)) in
+    subst (λ (a : Alone). IsSome a.thread × Appends w a.shown now) is (refl, u.wrote)
+
+-- the thread has ended with what it has shown
+stops : (end : Alone) (w now : Option (List ℕ)) (shown : List ℕ) → end ≡ over shown → Appends w shown now
+    → (end.thread ≡ None) × Appends w end.shown now
+stops end w now shown is wrote = subst (λ (a : Alone). (a.thread ≡ None) × Appends w a.shown now) (sym is) (refl, wrote)
+
+pub faults : (image : List ℕ) (end : Alone) (w now : Option (List ℕ)) (left : ℕ) (s : State) (kind : FaultKind) → 1 ≤ left
+    → step_of image s ≡ Fault kind → IsUnderway image end w left s now → (end.thread ≡ None) × Appends w end.shown now
+faults image end w now left s kind some fault u =
+    let all : left ≡ suc (left - 1) = omega arith in
+    stops end w now u.shown
+    (u.leads ∙ ap (λ n. events image n (lives s u.shown)) all ∙ events-fault image (left - 1) s u.shown kind fault) u.wrote
+
+-- what the thread is after its call
+calls : (image : List ℕ) (end : Alone) (w now : Option (List ℕ)) (left : ℕ) (s : State) → 1 ≤ left → step_of image s ≡ Call
+    → (u : IsUnderway image end w left s now) → end ≡ events image (left - 1) (shows u.shown (call_effect image s))
+calls image end w now left s some call u =
+    let all : left ≡ suc (left - 1) = omega arith in
+    u.leads ∙ ap (λ n. events image n (lives s u.shown)) all ∙ events-call image (left - 1) s u.shown call
+
+writes : (w now next : Option (List ℕ)) (shown line : List ℕ) → Appends w shown now → Appends now line next → Appends w (shown ++ line) next
+writes w now next shown line before after =
+    after ∙ ap (option_map (λ b. b ++ line)) before ∙ appends_twice w shown line
+
+pub answered : (image : List ℕ) (end : Alone) (w now next : Option (List ℕ)) (left : ℕ) (s t : State) → 1 ≤ left → step_of image s ≡ Call
+    → (call_effect image s).thread ≡ Some t → Appends now (call_effect image s).line next
+    → IsUnderway image end w left s now → IsUnderway image end w (left - 1) t next
+answered image end w now next left s t some call goes line u = record {
+  shown = u.shown ++ (call_effect image s).line;
+  leads = calls image end w now left s some call u
+      ∙ ap (λ o. events image (left - 1) (record { thread = o; shown = u.shown ++ (call_effect image s).line })) goes;
+  wrote = writes w now next u.shown (call_effect image s).line u.wrote line;
+}
+
+pub exited : (image : List ℕ) (end : Alone) (w now next : Option (List ℕ)) (left : ℕ) (s : State) → 1 ≤ left → step_of image s ≡ Call
+    → (call_effect image s).thread ≡ None → Appends now (call_effect image s).line next
+    → IsUnderway image end w left s now → (end.thread ≡ None) × Appends w end.shown next
+exited image end w now next left s some call ended line u =
+    let shown : List ℕ = u.shown ++ (call_effect image s).line in
+    stops end w next shown
+    (calls image end w now left s some call u
+    ∙ ap (λ o. events image (left - 1) (record { thread = o; shown = shown })) ended ∙ events-over image (left - 1) shown)
+    (writes w now next u.shown (call_effect image s).line u.wrote line)
+
+-- a first part of a line, behind what stands
+parts : (w now next : Option (List ℕ)) (shown line more all : List ℕ) → all ≡ (shown ++ line) ++ more → Appends w shown now
+    → AppendsPrefix now line next → AppendsPrefix w all next
+parts w now next shown line more all is before after =
+    let part : List ℕ = take after.0 line in
+    let whole : all ≡ (shown ++ part) ++ (drop after.0 line ++ more) =
+    is ∙ ap (λ l. (shown ++ l) ++ more) (sym (take-append-drop after.0 line))
+    ∙ ap (λ l. l ++ more) (sym (append_assoc shown part (drop after.0 line)))
+    ∙ append_assoc (shown ++ part) (drop after.0 line) more in
+    let first : take (length (shown ++ part)) all ≡ shown ++ part =
+    ap (take (length (shown ++ part))) whole ∙ take-append_seam (shown ++ part) (drop after.0 line ++ more) in
+    (length (shown ++ part), subst (λ bytes. Appends w bytes next) (sym first) (writes w now next shown part before after.1))
+
+pub refused : (image : List ℕ) (end : Alone) (w now next : Option (List ℕ)) (left : ℕ) (s : State) → 1 ≤ left → step_of image s ≡ Call
+    → AppendsPrefix now (call_effect image s).line next → IsUnderway image end w left s now → AppendsPrefix w end.shown next
+refused image end w now next left s some call part u =
+    let more = events-shown image (left - 1) (shows u.shown (call_effect image s)) in
+    parts w now next u.shown (call_effect image s).line more.0 end.shown
+    (ap (λ (a : Alone). a.shown) (calls image end w now left s some call u) ∙ more.1) u.wrote part
+
+-- the status of a refused write
+pub refusal_ends : (end : Alone) (w next : Option (List ℕ)) (r : WriteRefusal) → AppendsPrefix w end.shown next → Ends end w next (refusal_status r)
+refusal_ends end w next refusal.Failed h = h
+refusal_ends end w next refusal.NoMemory h = h
+
+-- nothing is written yet
+pub none_yet : (w : Option (List ℕ)) (line : List ℕ) → AppendsPrefix w line w
+none_yet None line = (0, refl)
+none_yet (Some b) line = (0, ap Some (sym (append-nil b)))

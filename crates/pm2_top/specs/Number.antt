@@ -1,0 +1,19 @@
+-- The numbers of the statuses, and the status of a refused write.
+use Rattle.std.specs.Prelude.{ℕ}
+use Rattle.outside.specs.declared.outside.WriteRefusal.{WriteRefusal}
+use Rattle.outside.specs.declared.outside.WriteRefusal.TheVariants as refusal
+use Rattle.pm2_top.specs.declared.status.Status.{Status}
+use Rattle.pm2_top.specs.declared.status.Status.TheVariants.{Done, Usage, BadSource, OutOfTurns, ReadFault, WriteFault, NoMemory}
+
+abbrev pub status_number : Status → ℕ
+status_number Done = 0
+status_number Usage = 1
+status_number BadSource = 2
+status_number OutOfTurns = 4
+status_number ReadFault = 5
+status_number WriteFault = 6
+status_number NoMemory = 7
+
+abbrev pub refusal_status : WriteRefusal → Status
+refusal_status refusal.Failed = WriteFault
+refusal_status refusal.NoMemory = NoMemory

@@ -1,0 +1,55 @@
+//! How a command ends.
+
+ghost use Rattle.std.specs.Prelude.{◌≡◌, ◌↔◌};
+ghost use Rattle.pm2_top.specs.Number.{status_number};
+
+use outside::WriteRefusal;
+
+/// How a command ends.
+#[derive(Clone, Copy, Debug, PartialEq, Eq)]
+pub enum Status {
+    /// The program has ended.
+    Done,
+    /// The words ask for nothing that there is.
+    Usage,
+    /// The source is too long or of another form.
+    BadSource,
+    /// The program still lives after all its events.
+    OutOfTurns,
+    /// A file wasn't read.
+    ReadFault,
+    /// An output or a file wasn't written.
+    WriteFault,
+    /// There was not enough memory.
+    NoMemory,
+}
+
+impl Status {
+    /// The number by which the process ends.
+    pub fn number(&self) -> u8
+        ensures { result ≡ status_number self.now }
+    {
+        match self {
+            Status::Done => 0,
+            Status::Usage => 1,
+            Status::BadSource => 2,
+            Status::OutOfTurns => 4,
+            Status::ReadFault => 5,
+            Status::WriteFault => 6,
+            Status::NoMemory => 7,
+        }
+    }
+}
+
+impl From<WriteRefusal> for Status {
+    ghost use Rattle.pm2_top.specs.Number.{refusal_status};
+
+    ghost from_gives = { λ refusal status. status ≡ refusal_status refusal };
+
+    fn from(refusal: WriteRefusal) -> Status {
+        match refusal {
+            WriteRefusal::Failed => Status::WriteFault,
+            WriteRefusal::NoMemory => Status::NoMemory,
+        }
+    }
+}
