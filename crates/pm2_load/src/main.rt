@@ -4,23 +4,14 @@
 use outside::{RealShelf, RealSink};
 use pm2_top::{Status, pm2_main};
 use std::env;
-use std::io::ErrorKind;
+use std::io::{self, ErrorKind};
 use std::process::ExitCode;
 
-/// The words of the command line behind the program's name. A word that isn't text can't be one of ours.
-fn words(rt: &HostRuntime) -> Result<Vec<String>, Status> {
-    let args = match env::args(rt) {
-        Ok(args) => args,
-        Err(error) => return Err(match error.kind() {
-            ErrorKind::OutOfMemory => Status::NoMemory,
-            _ => Status::Usage,
-        }),
-    };
+/// The words of the command line behind the program's name.
+fn words(rt: &HostRuntime) -> io::Result<Vec<String>> {
     let mut words = Vec::new(rt.alloc());
-    for word in args.skip(1) {
-        if words.push(word).is_err() {
-            return Err(Status::NoMemory);
-        }
+    for word in env::args(rt)?.skip(1) {
+        words.push(word)?;
     }
     Ok(words)
 }
@@ -28,10 +19,15 @@ fn words(rt: &HostRuntime) -> Result<Vec<String>, Status> {
 fn main(rt: HostRuntime) -> ExitCode {
     let words = match words(&rt) {
         Ok(words) => words,
-        Err(status) => return ExitCode::from(status.number()),
+        Err(error) if error.kind() == ErrorKind::OutOfMemory => {
+            return ExitCode::from(Status::NoMemory.number());
+        }
+        // A word that isn't text is none of ours, and what it stands with asks for nothing.
+        Err(_) => Vec::new(rt.alloc()),
     };
     let mut shelf = RealShelf::new(&rt);
     let mut out = RealSink::new(rt.stdout());
-    let report = pm2_main(rt.alloc(), &words, &mut shelf, &mut out);
+    let mut err = RealSink::new(rt.stderr());
+    let report = pm2_main(rt.alloc(), &words, &mut shelf, &mut out, &mut err);
     ExitCode::from(report.status.number())
 }

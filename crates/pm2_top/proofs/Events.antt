@@ -5,23 +5,28 @@ use Rattle.std.specs.Option.{option_and_then}
 use Rattle.rv_step.specs.Step.{State, Outcome, Next, Call, Fault, step_of}
 use Rattle.rv_step.specs.Run.{after, next_of}
 use Rattle.rv_step.specs.declared.hart.FaultKind.{FaultKind}
+use Rattle.pm2_top.specs.declared.thread.FaultAt.{FaultAt}
 use Rattle.pm2_top.specs.Alone.{Alone, lives, over, shows, effect_of, event_of, call_effect, event, events}
+
+-- the fault of a thread that is at its instruction
+abbrev pub fault_at : FaultKind → State → Option FaultAt
+fault_at kind s = Some (record { kind = kind; pc = s.pc })
 
 event-next : (image : List ℕ) (s t : State) (shown : List ℕ) → step_of image s ≡ Next t → event image (lives s shown) ≡ lives t shown
 unfolding event
 event-next image s t shown e = ap (λ o. shows shown (effect_of image s o)) e ∙ ap (λ bytes. lives t bytes) (append-nil shown)
 
-event-fault : (image : List ℕ) (s : State) (shown : List ℕ) (kind : FaultKind) → step_of image s ≡ Fault kind → event image (lives s shown) ≡ over shown
+event-fault : (image : List ℕ) (s : State) (shown : List ℕ) (kind : FaultKind) → step_of image s ≡ Fault kind → event image (lives s shown) ≡ over shown (fault_at kind s)
 unfolding event
-event-fault image s shown kind e = ap (λ o. shows shown (effect_of image s o)) e ∙ ap (λ bytes. over bytes) (append-nil shown)
+event-fault image s shown kind e = ap (λ o. shows shown (effect_of image s o)) e ∙ ap (λ bytes. over bytes (fault_at kind s)) (append-nil shown)
 
 event-call : (image : List ℕ) (s : State) (shown : List ℕ) → step_of image s ≡ Call → event image (lives s shown) ≡ shows shown (call_effect image s)
 unfolding event
 event-call image s shown e = ap (λ o. shows shown (effect_of image s o)) e
 
-event-over : (image : List ℕ) (shown : List ℕ) → event image (over shown) ≡ over shown
+event-over : (image : List ℕ) (shown : List ℕ) (fault : Option FaultAt) → event image (over shown fault) ≡ over shown fault
 unfolding event
-event-over image shown = refl
+event-over image shown fault = refl
 
 pub events-none : (image : List ℕ) (a : Alone) → events image 0 a ≡ a
 unfolding events
@@ -32,14 +37,15 @@ unfolding events
 events-one image n a = refl
 
 -- what has ended stays so
-pub events-over : (image : List ℕ) (n : ℕ) (shown : List ℕ) → events image n (over shown) ≡ over shown
-events-over image zero shown = events-none image (over shown)
-events-over image (suc n) shown = events-one image n (over shown) ∙ ap (events image n) (event-over image shown) ∙ events-over image n shown
+pub events-over : (image : List ℕ) (n : ℕ) (shown : List ℕ) (fault : Option FaultAt) → events image n (over shown fault) ≡ over shown fault
+events-over image zero shown fault = events-none image (over shown fault)
+events-over image (suc n) shown fault =
+    events-one image n (over shown fault) ∙ ap (events image n) (event-over image shown fault) ∙ events-over image n shown fault
 
 pub events-fault : (image : List ℕ) (n : ℕ) (s : State) (shown : List ℕ) (kind : FaultKind) → step_of image s ≡ Fault kind
-    → events image (suc n) (lives s shown) ≡ over shown
+    → events image (suc n) (lives s shown) ≡ over shown (fault_at kind s)
 events-fault image n s shown kind e =
-    events-one image n (lives s shown) ∙ ap (events image n) (event-fault image s shown kind e) ∙ events-over image n shown
+    events-one image n (lives s shown) ∙ ap (events image n) (event-fault image s shown kind e) ∙ events-over image n shown (fault_at kind s)
 
 pub events-call : (image : List ℕ) (n : ℕ) (s : State) (shown : List ℕ) → step_of image s ≡ Call
     → events image (suc n) (lives s shown) ≡ events image n (shows shown (call_effect image s))
@@ -83,7 +89,7 @@ event-shown : (image : List ℕ) (a : Alone) → (more : List ℕ) × ((event im
 unfolding event
 event-shown image a = by a.thread refl
   where
-    by : (o : Option State) → a.thread ≡ o → (more : List ℕ) × ((event_of image a.shown a.thread).shown ≡ a.shown ++ more)
+    by : (o : Option State) → a.thread ≡ o → (more : List ℕ) × ((event_of image a a.thread).shown ≡ a.shown ++ more)
     by None is = ([], rw is (sym (append-nil a.shown)))
     by (Some s) is = ((effect_of image s (step_of image s)).line, rw is refl)
 

@@ -1,6 +1,12 @@
 -- A run under way goes on, or ends.
 use Rattle.std.proofs.Common.{◌≡◌, ℕ, suc, ◌+◌, ◌-◌, ◌≤◌, List, ◌++◌, take, drop, length, Option, Some, None, refl, sym, ap, ◌∙◌, subst, arith, append_assoc}
-use Rattle.std.specs.Prelude.{IsSome, option_map}
+use Rattle.std.specs.Prelude.{IsSome, option_map, Bool, true, false, ◌==◌, if◌then◌else◌}
+use Rattle.slot_space.specs.declared.names.Reply.TheVariants.{BadArgument}
+use Rattle.slot_space.specs.Replies.{reply_code}
+use Rattle.rv_step.specs.Birth.{told}
+use Rattle.rv_step.specs.Step.{reg_of}
+use Rattle.pm2_top.specs.declared.thread.Printed.{Printed}
+use Rattle.pm2_top.specs.declared.thread.Printed.TheVariants.{Shows, Refused}
 use Rattle.std.proofs.lemmas.List.{take-append-drop, append-nil}
 use Rattle.std.proofs.Math.Seq.{take-append_seam}
 use Rattle.outside.specs.Outside.{Appends, AppendsPrefix}
@@ -8,12 +14,14 @@ use Rattle.outside.proofs.Appending.{appends_twice}
 use Rattle.rv_step.specs.Step.{State, Call, Fault, step_of}
 use Rattle.rv_step.specs.Run.{after}
 use Rattle.rv_step.specs.declared.hart.FaultKind.{FaultKind}
-use Rattle.pm2_top.specs.Alone.{Alone, lives, over, shows, call_effect, events}
+use Rattle.pm2_top.specs.declared.thread.FaultAt.{FaultAt}
+use Rattle.pm2_top.specs.Alone.{Alone, lives, over, shows, ends, goes_on, print_of, print_effect, call_effect, events}
 use Rattle.outside.specs.declared.outside.WriteRefusal.{WriteRefusal}
 use Rattle.outside.specs.declared.outside.WriteRefusal.TheVariants as refusal
 use Rattle.pm2_top.specs.Number.{refusal_status}
-use Rattle.pm2_top.specs.Running.{IsUnderway, Ends}
-use Rattle.pm2_top.proofs.Events.{events-none, events-over, events-fault, events-call, events-after, events-shown}
+use Rattle.pm2_top.specs.declared.status.Status.TheVariants.{Done, OutOfTurns}
+use Rattle.pm2_top.specs.Running.{IsUnderway, Ends, EndsBy, plainly}
+use Rattle.pm2_top.proofs.Events.{fault_at, events-none, events-over, events-fault, events-call, events-after, events-shown}
 
 -- steps use up as many events
 pub runs : (image : List ℕ) (end : Alone) (w now : Option (List ℕ)) (left count : ℕ) (s t : State) → count ≤ left
@@ -28,22 +36,34 @@ runs image end w now left count s t within steps u =
 
 -- no event is left
 pub uses_up : (image : List ℕ) (end : Alone) (w now : Option (List ℕ)) (left : ℕ) (s : State) → left ≡ 0
-    → IsUnderway image end w left s now → IsSome end.thread × Appends w end.shown now
+    → IsUnderway image end w left s now → EndsBy end w now (plainly OutOfTurns)
 uses_up image end w now left s none u =
     let is : lives s u.shown ≡ end = sym (u.leads ∙ ap (λ n. events image n (lives s u.shown)) none ∙ events-none image (lives s u.shown)) in
-    subst (λ (a : Alone). IsSome a.thread × Appends w a.shown now) is (refl, u.wrote)
+    subst (λ (a : Alone). EndsBy a w now (plainly OutOfTurns)) is (record { lines = (refl, u.wrote); fault = refl })
 
 -- the thread has ended with what it has shown
-stops : (end : Alone) (w now : Option (List ℕ)) (shown : List ℕ) → end ≡ over shown → Appends w shown now
-    → (end.thread ≡ None) × Appends w end.shown now
-stops end w now shown is wrote = subst (λ (a : Alone). (a.thread ≡ None) × Appends w a.shown now) (sym is) (refl, wrote)
+stops : (end : Alone) (w now : Option (List ℕ)) (shown : List ℕ) (fault : Option FaultAt) → end ≡ over shown fault → Appends w shown now
+    → EndsBy end w now (record { status = Done; fault = fault })
+stops end w now shown fault is wrote =
+    subst (λ (a : Alone). EndsBy a w now (record { status = Done; fault = fault })) (sym is) (record { lines = (refl, wrote); fault = refl })
 
 pub faults : (image : List ℕ) (end : Alone) (w now : Option (List ℕ)) (left : ℕ) (s : State) (kind : FaultKind) → 1 ≤ left
-    → step_of image s ≡ Fault kind → IsUnderway image end w left s now → (end.thread ≡ None) × Appends w end.shown now
+    → step_of image s ≡ Fault kind → IsUnderway image end w left s now → EndsBy end w now (record { status = Done; fault = fault_at kind s })
 faults image end w now left s kind some fault u =
     let all : left ≡ suc (left - 1) = omega arith in
-    stops end w now u.shown
+    stops end w now u.shown (fault_at kind s)
     (u.leads ∙ ap (λ n. events image n (lives s u.shown)) all ∙ events-fault image (left - 1) s u.shown kind fault) u.wrote
+
+-- a call ends no thread by a fault
+no_fault : (image : List ℕ) (s : State) → (call_effect image s).fault ≡ None
+no_fault image s = by (reg_of s.regs 17 == 1) (reg_of s.regs 17 == 16) (print_of image s)
+  where
+    by : (exits prints : Bool) (p : Printed)
+        → (if exits then ends None else (if prints then print_effect s p else goes_on (told s (reply_code BadArgument) None))).fault ≡ None
+    by true prints p = refl
+    by false true (Shows bytes) = refl
+    by false true (Refused reply) = refl
+    by false false p = refl
 
 -- what the thread is after its call
 calls : (image : List ℕ) (end : Alone) (w now : Option (List ℕ)) (left : ℕ) (s : State) → 1 ≤ left → step_of image s ≡ Call
@@ -62,18 +82,20 @@ pub answered : (image : List ℕ) (end : Alone) (w now next : Option (List ℕ))
 answered image end w now next left s t some call goes line u = record {
   shown = u.shown ++ (call_effect image s).line;
   leads = calls image end w now left s some call u
-      ∙ ap (λ o. events image (left - 1) (record { thread = o; shown = u.shown ++ (call_effect image s).line })) goes;
+      ∙ ap (λ o. events image (left - 1) (record { thread = o; shown = u.shown ++ (call_effect image s).line; fault = (call_effect image s).fault })) goes
+      ∙ ap (λ f. events image (left - 1) (record { thread = Some t; shown = u.shown ++ (call_effect image s).line; fault = f })) (no_fault image s);
   wrote = writes w now next u.shown (call_effect image s).line u.wrote line;
 }
 
 pub exited : (image : List ℕ) (end : Alone) (w now next : Option (List ℕ)) (left : ℕ) (s : State) → 1 ≤ left → step_of image s ≡ Call
     → (call_effect image s).thread ≡ None → Appends now (call_effect image s).line next
-    → IsUnderway image end w left s now → (end.thread ≡ None) × Appends w end.shown next
+    → IsUnderway image end w left s now → EndsBy end w next (plainly Done)
 exited image end w now next left s some call ended line u =
     let shown : List ℕ = u.shown ++ (call_effect image s).line in
-    stops end w next shown
+    stops end w next shown None
     (calls image end w now left s some call u
-    ∙ ap (λ o. events image (left - 1) (record { thread = o; shown = shown })) ended ∙ events-over image (left - 1) shown)
+    ∙ ap (λ o. events image (left - 1) (record { thread = o; shown = shown; fault = (call_effect image s).fault })) ended
+    ∙ ap (λ f. events image (left - 1) (over shown f)) (no_fault image s) ∙ events-over image (left - 1) shown None)
     (writes w now next u.shown (call_effect image s).line u.wrote line)
 
 -- a first part of a line, behind what stands
@@ -97,9 +119,9 @@ refused image end w now next left s some call part u =
     (ap (λ (a : Alone). a.shown) (calls image end w now left s some call u) ∙ more.1) u.wrote part
 
 -- the status of a refused write
-pub refusal_ends : (end : Alone) (w next : Option (List ℕ)) (r : WriteRefusal) → AppendsPrefix w end.shown next → Ends end w next (refusal_status r)
-refusal_ends end w next refusal.Failed h = h
-refusal_ends end w next refusal.NoMemory h = h
+pub refusal_ends : (end : Alone) (w next : Option (List ℕ)) (r : WriteRefusal) → AppendsPrefix w end.shown next → EndsBy end w next (plainly (refusal_status r))
+refusal_ends end w next refusal.Failed h = record { lines = h; fault = refl }
+refusal_ends end w next refusal.NoMemory h = record { lines = h; fault = refl }
 
 -- nothing is written yet
 pub none_yet : (w : Option (List ℕ)) (line : List ℕ) → AppendsPrefix w line w

@@ -1,6 +1,6 @@
-pub mod Source
 pub mod Words
 pub mod Alone
 pub mod Outcome
 pub mod Number
 pub mod Running
+pub mod Texts

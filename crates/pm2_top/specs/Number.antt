@@ -8,7 +8,7 @@ use Rattle.pm2_top.specs.declared.status.Status.TheVariants.{Done, Usage, BadSou
 abbrev pub status_number : Status → ℕ
 status_number Done = 0
 status_number Usage = 1
-status_number BadSource = 2
+status_number (BadSource error) = 2
 status_number OutOfTurns = 4
 status_number ReadFault = 5
 status_number WriteFault = 6

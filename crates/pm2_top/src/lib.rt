@@ -1,8 +1,8 @@
 //! The top call: the words, the source, the run of the program and its status.
 #![tactic(auto)]
 
-mod source;
 mod status;
+mod texts;
 mod thread;
 mod top;
 mod words;

@@ -4,16 +4,17 @@ ghost use Rattle.std.specs.Prelude.{◌≡◌, ◌↔◌};
 ghost use Rattle.pm2_top.specs.Number.{status_number};
 
 use outside::WriteRefusal;
+use rv_asm::AsmError;
 
 /// How a command ends.
 #[derive(Clone, Copy, Debug, PartialEq, Eq)]
 pub enum Status {
-    /// The program has ended.
+    /// The program has ended, or the listing is written.
     Done,
     /// The words ask for nothing that there is.
     Usage,
-    /// The source is too long or of another form.
-    BadSource,
+    /// The source has no image.
+    BadSource(AsmError),
     /// The program still lives after all its events.
     OutOfTurns,
     /// A file wasn't read.
@@ -32,7 +33,7 @@ impl Status {
         match self {
             Status::Done => 0,
             Status::Usage => 1,
-            Status::BadSource => 2,
+            Status::BadSource(_) => 2,
             Status::OutOfTurns => 4,
             Status::ReadFault => 5,
             Status::WriteFault => 6,

@@ -4,13 +4,13 @@ ghost use Rattle.std.specs.Prelude.{◌≡◌, ◌++◌, ◌∷◌, List, ℕ, [
 ghost use Rattle.rv_step.specs.Step.{state_of};
 ghost use Rattle.outside.specs.Outside.{Rose, Appends, AppendsPrefix};
 ghost use Rattle.pm2_top.specs.Alone.{line_of, print_of, print_effect, call_effect, main_thread, events, lives};
-ghost use Rattle.pm2_top.specs.Running.{Ends, thread_if};
+ghost use Rattle.pm2_top.specs.Running.{EndsBy, plainly, thread_if};
 
 use crate::status::Status;
 use basics::{Items, NoMemory};
 use outside::{Sink, WriteRefusal, write_piece};
 use rv_inst::Image;
-use rv_step::{Hart, SlotMem, Stop};
+use rv_step::{FaultKind, Hart, SlotMem, Stop};
 use slot_space::{Reply, SlotNo};
 use std::alloc::Global;
 
@@ -22,6 +22,32 @@ const STACK_END: u64 = 0x1_0001_0000;
 pub(crate) enum Printed {
     Shows(Items<u8>),
     Refused(Reply),
+}
+
+/// A fault, and the place of the instruction that has it.
+#[derive(Clone, Copy)]
+pub(crate) struct FaultAt {
+    pub kind: FaultKind,
+    pub pc: u64,
+}
+
+/// How a command ends, and the fault that it tells of.
+#[derive(Clone, Copy)]
+pub(crate) struct Ended {
+    pub status: Status,
+    pub fault: Option<FaultAt>,
+}
+
+impl Ended {
+    /// With no fault.
+    pub(crate) fn with(status: Status) -> Ended
+        ensures { result ≡ plainly status }
+    {
+        Ended {
+            status,
+            fault: None,
+        }
+    }
 }
 
 /// The main thread at its birth.
@@ -135,9 +161,9 @@ pub(crate) fn run<K: Sink>(
     hart: &mut Hart,
     out: &mut K,
     limit: u32,
-) -> Status
-    ensures ending { Ends (events image.now.bytes limit (lives (state_of hart.old) [])) (K.written out.old) (K.written out.new) result }
-    ensures failed { result ≡ Status.WriteFault → Rose (K.faults out.old) (K.faults out.new) }
+) -> Ended
+    ensures ending { EndsBy (events image.now.bytes limit (lives (state_of hart.old) [])) (K.written out.old) (K.written out.new) result }
+    ensures failed { result.status ≡ Status.WriteFault → Rose (K.faults out.old) (K.faults out.new) }
     ensures later { K.faults out.old ≤ K.faults out.new }
 {
     let mut left = limit;
@@ -145,14 +171,20 @@ pub(crate) fn run<K: Sink>(
         let ran = hart.run(image, left);
         left -= ran.count;
         match ran.stop {
-            Stop::Quantum => return Status::OutOfTurns,
-            Stop::Fault(_) => return Status::Done,
+            Stop::Quantum => return Ended::with(Status::OutOfTurns),
+            Stop::Fault(kind) => {
+                let fault = FaultAt { kind, pc: hart.pc };
+                return Ended {
+                    status: Status::Done,
+                    fault: Some(fault),
+                };
+            }
             Stop::Call => match answer(alloc, image, hart, out) {
                 Ok(true) => left -= 1,
-                Ok(false) => return Status::Done,
-                Err(refusal) => return Status::from(refusal),
+                Ok(false) => return Ended::with(Status::Done),
+                Err(refusal) => return Ended::with(Status::from(refusal)),
             },
         }
     }
-    Status::OutOfTurns
+    Ended::with(Status::OutOfTurns)
 }

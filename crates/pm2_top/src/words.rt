@@ -2,7 +2,16 @@
 
 ghost use Rattle.std.specs.Prelude.{◌≡◌, map, option_map};
 ghost use Rattle.std.specs.String.{string_bytes};
-ghost use Rattle.pm2_top.specs.Words.{file_of, is_name};
+ghost use Rattle.pm2_top.specs.Words.{command_of, verb_of, is_name};
+
+/// What is done with a file.
+#[derive(Clone, Copy)]
+pub(crate) enum Verb {
+    /// It is assembled, and the image listed.
+    Asm,
+    /// It is assembled, and the program run.
+    Sim,
+}
 
 fn is_name(word: &str) -> bool
     ensures { result ≡ is_name word.now }
@@ -11,17 +20,29 @@ fn is_name(word: &str) -> bool
     bytes.len() > 0 && bytes[0] != b'-'
 }
 
-/// The file of the words `sim FILE`, None for all other words.
-pub(crate) fn file_of(words: &[String]) -> Option<&str>
-    ensures { option_map (λ file. file.now) result ≡ file_of (map string_bytes words.now) }
+fn verb_of(word: &str) -> Option<Verb>
+    ensures { result ≡ verb_of word.now }
+{
+    if word == "asm" {
+        Some(Verb::Asm)
+    } else if word == "sim" {
+        Some(Verb::Sim)
+    } else {
+        None
+    }
+}
+
+/// The command of the words `asm FILE` and `sim FILE`, None for all other words.
+pub(crate) fn command_of(words: &[String]) -> Option<(Verb, &str)>
+    ensures { option_map (λ c. (c.0, c.1.now)) result ≡ command_of (map string_bytes words.now) }
 {
     match words {
-        [command, file] => {
-            if command.as_str() == "sim" && is_name(file.as_str()) {
-                Some(file.as_str())
-            } else {
-                None
+        [word, file] => {
+            if !is_name(file.as_str()) {
+                return None;
             }
+            let verb = verb_of(word.as_str())?;
+            Some((verb, file.as_str()))
         }
         _ => None,
     }

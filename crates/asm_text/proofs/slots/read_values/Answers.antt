@@ -1,0 +1,8 @@
+use Rattle.std.proofs.Common.{arith}
+use Rattle.std.specs.Prelude.{map}
+use Rattle.asm_text.specs.Tokens.{token_of}
+use Rattle.asm_text.proofs.Spans.{count_spans}
+use Rattle.asm_text.proofs.slots.read_values.Goals as goal
+
+pub returns-clause-bulk : goal.returns-clause-bulk
+returns-clause-bulk c = omega (arith, count_spans (map token_of c.args.tokens.now))

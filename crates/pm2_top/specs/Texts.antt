@@ -1,0 +1,71 @@
+-- What stands on the error output.
+use Rattle.std.specs.Prelude.{◌≡◌, ◌⊎◌, ℕ, ◌++◌, List, [], ◌∷◌, codes, false, Option, Some, None}
+use Rattle.std.specs.Fmt.{decimal, digits}
+use Rattle.outside.specs.Outside.{Rose, Appends, AppendsPrefix}
+use Rattle.rv_step.specs.declared.hart.FaultKind.{FaultKind}
+use Rattle.rv_step.specs.declared.hart.FaultKind.TheVariants as kinds
+use Rattle.asm_text.specs.declared.slots.What.{What}
+use Rattle.asm_text.specs.declared.slots.What.TheVariants.{Form, Name, Range, Place}
+use Rattle.rv_asm.specs.declared.error.AsmError.{AsmError}
+use Rattle.rv_asm.specs.declared.error.AsmError.TheVariants as errors
+use Rattle.pm2_top.specs.declared.status.Status.{Status}
+use Rattle.pm2_top.specs.declared.status.Status.TheVariants.{Done, Usage, BadSource, OutOfTurns, ReadFault, WriteFault, NoMemory}
+use Rattle.pm2_top.specs.declared.thread.FaultAt.{FaultAt}
+use Rattle.pm2_top.specs.declared.thread.Ended.{Ended}
+
+-- the word of a fault
+abbrev pub kind_word : FaultKind → List ℕ
+kind_word kinds.Illegal = codes "illegal"
+kind_word kinds.Break = codes "break"
+kind_word kinds.Misaligned = codes "misaligned"
+kind_word kinds.Fetch = codes "fetch"
+kind_word kinds.Load = codes "load"
+kind_word kinds.Store = codes "store"
+
+-- the main thread has ended by a fault
+abbrev pub fault_line : Option FaultAt → List ℕ
+fault_line None = []
+fault_line (Some f) = codes "fault 0.0 " ++ (kind_word f.kind ++ (codes " at 0x" ++ (digits 16 false f.pc ++ 10 ∷ [])))
+
+-- what is wrong on a line
+abbrev pub what_words : What → List ℕ
+what_words Form = codes "bad form"
+what_words Name = codes "bad name"
+what_words Range = codes "out of range"
+what_words Place = codes "bad place"
+
+abbrev pub at_line : ℕ → List ℕ → List ℕ
+at_line line words = codes "pm2: line " ++ (decimal line ++ (codes ": " ++ (words ++ 10 ∷ [])))
+
+-- why a source has no image
+abbrev pub error_line : AsmError → List ℕ
+error_line (errors.BadLine line what) = at_line line (what_words what)
+error_line (errors.Twice line) = at_line line (codes "defined twice")
+error_line (errors.Unknown line) = at_line line (codes "unknown label")
+error_line (errors.FarTarget line) = at_line line (codes "target out of reach")
+error_line errors.NoMain = codes "pm2: no main\n"
+error_line errors.TooLong = codes "pm2: image too long\n"
+error_line errors.NoMemory = codes "pm2: out of memory\n"
+
+-- the line of a status
+abbrev pub status_line : Status → List ℕ
+status_line Done = []
+status_line Usage = codes "usage: pm2 asm FILE / run FILE / sim FILE / replay FILE SCHEDULE / stress N\n"
+status_line (BadSource error) = error_line error
+status_line OutOfTurns = codes "pm2: out of turns\n"
+status_line ReadFault = codes "pm2: cannot read\n"
+status_line WriteFault = codes "pm2: cannot write\n"
+status_line NoMemory = codes "pm2: out of memory\n"
+
+-- the fault's line, and then the line of the status
+abbrev pub error_text : Option FaultAt → Status → List ℕ
+error_text fault status = fault_line fault ++ status_line status
+
+-- the text is on the output, or a first part of it is and the output has counted a fault
+abbrev pub Tells : List ℕ → Option (List ℕ) → Option (List ℕ) → ℕ → ℕ → Type 0
+Tells text written now before after = Appends written text now ⊎ (AppendsPrefix written text now × Rose before after)
+
+-- the status and the text of how a command has ended; want of memory for the text gives a status of its own
+abbrev pub Reports : Ended → Status → Option (List ℕ) → Option (List ℕ) → ℕ → ℕ → Type 0
+Reports ended status written now before after =
+    ((status ≡ ended.status) × Tells (error_text ended.fault ended.status) written now before after) ⊎ (status ≡ NoMemory)
