@@ -2,15 +2,15 @@
 use Rattle.std.proofs.Common.{◌≡◌, ◌<◌, ℕ, List, length, Option, Some, None, Result, Ok, Err, true, inl, inr, refl, sym, ap, ◌∙◌, subst, arith}
 use Rattle.std.specs.Prelude.{◌⊎◌, IfSome, IsSomeAnd, nat_lt}
 use Rattle.std.proofs.lemmas.Bool.Decides.{nat_tests}
-use Rattle.outside.specs.Outside.{Content, Appends, AppendsPrefix, file_at, MayHold, Holds}
+use Rattle.outside.specs.Outside.{Content, file_at, Holds}
 use Rattle.rv_inst.specs.declared.image.Image.{Image}
 use Rattle.rv_asm.specs.declared.error.AsmError.{AsmError}
 use Rattle.rv_asm.specs.declared.error.AsmError.TheVariants as errors
 use Rattle.rv_asm.specs.Images.{image_of}
 use Rattle.asm_list.specs.Listing.{listing}
 use Rattle.pm2_top.specs.Alone.{end_of}
-use Rattle.pm2_top.specs.Running.{Ends, EndsBy, plainly}
-use Rattle.pm2_top.specs.Outcome.{IsUnlessMemory, Lists, MayBeNoSource, MayBeTooLong, DoneWith, HasSourceEnded, HasRun, NotRead, TooLarge, Read, HasEnded, NoCommand, Commanded, source_limit}
+use Rattle.pm2_top.specs.Running.{Ends, plainly}
+use Rattle.pm2_top.specs.Outcome.{IsUnlessMemory, Lists, MayBeNoSource, DoneWith, HasSourceEnded, HasRun, NotRead, TooLarge, Read, HasEnded, NoCommand, Commanded, source_limit}
 use Rattle.pm2_top.specs.declared.status.Status.{Status}
 use Rattle.pm2_top.specs.declared.status.Status.TheVariants.{BadSource, Usage, ReadFault, NoMemory}
 use Rattle.pm2_top.specs.declared.thread.Ended.{Ended}

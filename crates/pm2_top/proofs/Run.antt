@@ -1,6 +1,6 @@
 -- A run under way goes on, or ends.
 use Rattle.std.proofs.Common.{◌≡◌, ℕ, suc, ◌+◌, ◌-◌, ◌≤◌, List, ◌++◌, take, drop, length, Option, Some, None, refl, sym, ap, ◌∙◌, subst, arith, append_assoc}
-use Rattle.std.specs.Prelude.{IsSome, option_map, Bool, true, false, ◌==◌, if◌then◌else◌}
+use Rattle.std.specs.Prelude.{option_map, Bool, true, false, ◌==◌, if◌then◌else◌}
 use Rattle.slot_space.specs.declared.names.Reply.TheVariants.{BadArgument}
 use Rattle.slot_space.specs.Replies.{reply_code}
 use Rattle.rv_step.specs.Birth.{told}
@@ -20,7 +20,7 @@ use Rattle.outside.specs.declared.outside.WriteRefusal.{WriteRefusal}
 use Rattle.outside.specs.declared.outside.WriteRefusal.TheVariants as refusal
 use Rattle.pm2_top.specs.Number.{refusal_status}
 use Rattle.pm2_top.specs.declared.status.Status.TheVariants.{Done, OutOfTurns}
-use Rattle.pm2_top.specs.Running.{IsUnderway, Ends, EndsBy, plainly}
+use Rattle.pm2_top.specs.Running.{IsUnderway, EndsBy, plainly}
 use Rattle.pm2_top.proofs.Events.{fault_at, events-none, events-over, events-fault, events-call, events-after, events-shown}
 
 -- steps use up as many events

@@ -1,5 +1,5 @@
 -- A run under way, and how it ends.
-use Rattle.std.specs.Prelude.{◌≡◌, ◌⊎◌, ℕ, List, Bool, true, false, IsSome, Option, Some, None}
+use Rattle.std.specs.Prelude.{◌≡◌, ℕ, List, Bool, true, false, IsSome, Option, Some, None}
 use Rattle.outside.specs.Outside.{Appends, AppendsPrefix}
 use Rattle.rv_step.specs.Step.{State}
 use Rattle.pm2_top.specs.Alone.{Alone, lives, events}
