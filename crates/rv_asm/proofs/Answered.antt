@@ -1,6 +1,5 @@
 -- An answer is what it is.
-use Rattle.std.proofs.Common.{refl, Result, Ok, Err}
-use Rattle.rv_inst.specs.declared.image.Image.{Image}
+use Rattle.std.proofs.Common.{refl, Err}
 use Rattle.rv_asm.specs.declared.error.AsmError.{AsmError}
 use Rattle.rv_asm.specs.declared.error.AsmError.TheVariants.{BadLine, Twice, Unknown, FarTarget, NoMain, TooLong, NoMemory}
 use Rattle.rv_asm.specs.Images.{Assembles}

@@ -1,5 +1,5 @@
 -- What holds of lines without a fault: they have as many bytes as their sizes say, and each service starts at a multiple of 4.
-use Rattle.std.proofs.Common.{◌≡◌, ℕ, ◌+◌, ◌-◌, ◌*◌, ◌%◌, ◌^◌, ◌<◌, ◌≤◌, Bool, true, false, not, eqb, cond, List, [], ◌∷◌, ◌++◌, length, replicate, Option, Some, None, Result, Ok, Err, refl, sym, ap, ◌∙◌, inl, inr, arith, length-append, eqb-true}
+use Rattle.std.proofs.Common.{◌≡◌, ℕ, ◌+◌, ◌*◌, ◌%◌, Bool, true, false, eqb, cond, List, [], ◌∷◌, length, Option, Some, None, Result, Ok, Err, refl, ap, ◌∙◌, inl, inr, arith, length-append, eqb-true}
 use Rattle.std.proofs.lemmas.List.{length-replicate}
 use Rattle.std.specs.Prelude.{is_none, ℤ, ◌||◌}
 use Rattle.std.specs.Option.{option_map_or, option_or}
@@ -10,7 +10,7 @@ use Rattle.rv_inst.specs.declared.inst.Inst.TheVariants.{Branch, Jal}
 use Rattle.asm_text.specs.declared.slots.What.{What}
 use Rattle.asm_text.specs.declared.statements.Width.{Width}
 use Rattle.asm_text.specs.declared.statements.Width.TheVariants.{Byte, Word, Dword}
-use Rattle.asm_text.specs.Statements.{ValueOf, StatementOf, plain, branch, jump, load_number, load_address, values, bytes, align, service, nothing}
+use Rattle.asm_text.specs.Statements.{StatementOf, plain, branch, jump, load_number, load_address, values, bytes, align, service, nothing}
 use Rattle.asm_text.specs.Lines.{LineOf}
 use Rattle.rv_asm.specs.declared.labels.Mark.{Mark}
 use Rattle.rv_asm.specs.declared.error.AsmError.{AsmError}
@@ -19,7 +19,7 @@ use Rattle.asm_text.specs.declared.slots.What.TheVariants.{Place}
 use Rattle.rv_asm.specs.Labels.{ServiceOf}
 use Rattle.rv_asm.specs.Expansions as expansions
 use Rattle.rv_asm.specs.Expansions.{code, inst_bytes, offset_to, branch_reach, jump_reach}
-use Rattle.rv_asm.specs.Layout.{base, width_len, padding, size_at, line_size, statement_in, service_by, service_among, end_of}
+use Rattle.rv_asm.specs.Layout.{width_len, padding, size_at, line_size, statement_in, service_by, service_among, end_of}
 use Rattle.rv_asm.specs.Faults.{Labels, Services, is_odd_place, is_misplaced, is_unknown, is_beyond, is_far, label_is_given, service_is_given, label_fault, statement_fault, line_fault, first_fault}
 use Rattle.rv_asm.specs.Bytes.{address_of, bytes_of_width, number_of_value, offset_bytes, statement_bytes, line_bytes, all_bytes}
 

@@ -1,16 +1,12 @@
 -- The image of lines without a fault.
-use Rattle.std.proofs.Common.{◌≡◌, ℕ, ◌+◌, ◌-◌, ◌*◌, ◌%◌, ◌^◌, ◌<◌, ◌≤◌, Bool, true, false, List, [], ◌∷◌, ◌++◌, length, replicate, Option, Some, None, Result, Ok, Err, refl, sym, ap, ◌∙◌, arith, length-append, IfSome}
+use Rattle.std.proofs.Common.{◌≡◌, ℕ, ◌+◌, ◌-◌, ◌%◌, ◌^◌, ◌<◌, ◌≤◌, List, length, replicate, Some, None, Result, Ok, Err, refl, sym, ap, ◌∙◌, arith, length-append, IfSome}
 use Rattle.std.specs.Option.{option_map}
 use Rattle.std.specs.List.{All, AllPairs}
 use Rattle.std.proofs.lemmas.List.{length-replicate}
 use Rattle.std.proofs.lemmas.Bool.{lt-ltb, le-ltb}
-use Rattle.rv_inst.specs.declared.image.Image.{Image}
-use Rattle.rv_inst.specs.Image.{IsWellFormed}
 use Rattle.asm_text.specs.declared.slots.What.{What}
 use Rattle.asm_text.specs.Lines.{LineOf}
-use Rattle.rv_asm.specs.declared.error.AsmError.{AsmError}
 use Rattle.rv_asm.specs.declared.error.AsmError.TheVariants.{TooLong}
-use Rattle.rv_asm.specs.Labels.{ServiceOf}
 use Rattle.rv_asm.specs.Layout.{base, limit, end_of, label_among, service_among}
 use Rattle.rv_asm.specs.Faults.{Labels, Services, first_fault}
 use Rattle.rv_asm.specs.Bytes.{all_bytes, address_of}

@@ -1,10 +1,10 @@
 -- The faults of a source, and which of them counts.
-use Rattle.std.specs.Prelude.{ℕ, ◌+◌, ◌%◌, Bool, true, false, ◌||◌, ◌&&◌, not, ◌==◌, List, [], ◌∷◌, Option, Some, None, Result, Ok, Err, is_none, if◌then◌else◌}
+use Rattle.std.specs.Prelude.{ℕ, ◌+◌, ◌%◌, Bool, false, ◌||◌, not, ◌==◌, List, [], ◌∷◌, Option, Some, None, Result, Ok, Err, is_none, if◌then◌else◌}
 use Rattle.std.specs.Option.{option_map_or, option_or}
 use Rattle.std.specs.List.{list_any}
 use Rattle.asm_text.specs.declared.slots.What.{What}
 use Rattle.asm_text.specs.declared.slots.What.TheVariants.{Place}
-use Rattle.asm_text.specs.Statements.{ValueOf, bits, address, StatementOf, plain, branch, jump, load_number, load_address, values, bytes, align, service, nothing}
+use Rattle.asm_text.specs.Statements.{ValueOf, bits, address, StatementOf, branch, jump, load_address, values, bytes, align, service, nothing}
 use Rattle.asm_text.specs.Lines.{LineOf}
 use Rattle.rv_asm.specs.declared.labels.Mark.{Mark}
 use Rattle.rv_asm.specs.declared.error.AsmError.{AsmError}

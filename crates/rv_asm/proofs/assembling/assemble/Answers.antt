@@ -1,4 +1,4 @@
-use Rattle.std.proofs.Common.{◌≡◌, map, arith, rules}
+use Rattle.std.proofs.Common.{arith}
 use Rattle.rv_asm.proofs.Readable.{readable}
 use Rattle.rv_asm.proofs.assembling.assemble.Goals as goal
 

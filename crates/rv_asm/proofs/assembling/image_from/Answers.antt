@@ -1,11 +1,9 @@
-use Rattle.std.proofs.Common.{◌≡◌, ℕ, List, map, arith, rules}
+use Rattle.std.proofs.Common.{◌≡◌, map, arith, rules}
 use Rattle.asm_text.specs.Slots.{seen}
 use Rattle.asm_text.specs.Lines.{line_seen}
 use Rattle.rv_asm.specs.Labels.{mark_in, service_in}
-use Rattle.rv_asm.specs.Images.{filled, image_bytes, services_below}
+use Rattle.rv_asm.specs.Images.{services_below}
 use Rattle.rv_asm.proofs.Imaged.{too_long, is_image, bytes_fit, services_placed, services_ascend, services_short}
-use Rattle.rv_asm.proofs.Reached.{address_reached}
-use Rattle.rv_asm.specs.Layout.{base}
 use Rattle.rv_asm.proofs.assembling.image_from.Goals as goal
 
 pub returns-then-end_of-gt-LIMIT-clause-exact : goal.returns-then-end_of-gt-LIMIT-clause-exact

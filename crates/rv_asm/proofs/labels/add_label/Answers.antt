@@ -1,4 +1,4 @@
-use Rattle.std.proofs.Common.{◌∙◌, sym, refl, Some, rules}
+use Rattle.std.proofs.Common.{◌∙◌, Some, rules}
 use Rattle.std.proofs.lemmas.Map.Text.{btree_map_updates_str}
 use Rattle.rv_asm.specs.Labels.{mark_in}
 use Rattle.rv_asm.proofs.Kept.{added}

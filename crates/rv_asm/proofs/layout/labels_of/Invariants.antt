@@ -1,4 +1,4 @@
-use Rattle.std.proofs.Common.{◌≡◌, ℕ, ◌+◌, ◌*◌, ◌^◌, ◌≤◌, List, drop, map}
+use Rattle.std.proofs.Common.{◌≡◌, ℕ, List, drop, map}
 use Rattle.std.specs.Option.{option_or}
 use Rattle.rv_asm.specs.Labels.{mark_in}
 use Rattle.asm_text.specs.Slots.{seen}
