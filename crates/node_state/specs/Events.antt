@@ -1,0 +1,36 @@
+-- What an event of a node in code is.
+use Rattle.std.specs.Prelude.{◌≡◌, ℕ, [], Option, Some, None, Bool, true, false}
+use Rattle.rv_inst.specs.declared.image.Image.{Image}
+use Rattle.slot_space.specs.Places.{starting_slots}
+use Rattle.run_trace.specs.declared.entry.Setup.{Setup}
+use Rattle.run_trace.specs.Program.{Program}
+use Rattle.run_trace.specs.Local.{Local, Doing}
+use Rattle.node_state.specs.declared.done.Done.{Done}
+
+abbrev pub program : Setup → Image → Program
+program setup image = record { setup = setup; image = image }
+
+-- a node before its first event, whatever the image is
+abbrev pub fresh_in : Setup → ℕ → Local
+fresh_in setup n = record {
+  booted = false;
+  slots = record { own = starting_slots setup.geometry.nodes setup.geometry.slots n };
+  threads = [];
+  places = record { rows = []; next = 0 };
+  names = [];
+  halted = false;
+}
+
+-- the event that leaves this node and has come to this
+abbrev pub event_of : Local → Done → Doing
+event_of node done = record { node = node; labels = done.labels; sends = done.sends; prints = done.prints }
+
+-- where the act isn't possible, nothing has changed
+abbrev pub Answers : Option Doing → Local → Local → Option Done → Type 0
+Answers event old new None = (event ≡ None) × (new ≡ old)
+Answers event old new (Some done) = event ≡ Some (event_of new done)
+
+-- the same in the midst of an event
+abbrev pub Becomes : Option Doing → Doing → Doing → Bool → Type 0
+Becomes event old new false = (event ≡ None) × (new ≡ old)
+Becomes event old new true = event ≡ Some new

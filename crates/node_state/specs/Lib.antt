@@ -1,0 +1,5 @@
+pub mod Views
+pub mod Runs
+pub mod Asking
+pub mod Here
+pub mod Events

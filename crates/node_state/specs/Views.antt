@@ -1,0 +1,35 @@
+-- How the parts in code mean the parts of the definition.
+use Rattle.std.specs.Prelude.{ℕ, List, Bool}
+use Rattle.slot_space.specs.declared.names.Tid.{Tid}
+use Rattle.rv_step.specs.declared.hart.Hart.{Hart}
+use Rattle.rv_step.specs.Step.{state_of}
+use Rattle.marcel_core.specs.declared.birth.Birth.{Birth}
+use Rattle.run_trace.specs.declared.node.Wait.{Wait}
+use Rattle.run_trace.specs.declared.node.Row.{Row}
+use Rattle.run_trace.specs.declared.label.Label.{Label}
+use Rattle.run_trace.specs.declared.packet.Send.{Send}
+use Rattle.run_trace.specs.Guests.{Thread}
+use Rattle.run_trace.specs.Places.{Places}
+use Rattle.run_trace.specs.Local.{Local, Doing}
+
+abbrev pub thread_of : Wait → (priority stack : ℕ) → Hart → Thread
+thread_of wait priority stack hart = record {
+  wait = wait;
+  guest = record { priority = priority; solo = record { state = state_of hart; stack = stack } };
+}
+
+abbrev pub places_of : List Row → ℕ → Places
+places_of rows next = record { rows = rows; next = next }
+
+abbrev pub local_of : Bool → List ℕ → List (Tid × Thread) → Places → List Birth → Bool → Local
+local_of booted own threads places names halted = record {
+  booted = booted;
+  slots = record { own = own };
+  threads = threads;
+  places = places;
+  names = names;
+  halted = halted;
+}
+
+abbrev pub doing_of : Local → List Label → List Send → List ℕ → Doing
+doing_of node labels sends prints = record { node = node; labels = labels; sends = sends; prints = prints }

@@ -1,0 +1,173 @@
+//! The calls, the acts and the packets, composed of the small steps.
+
+ghost use Rattle.std.specs.Prelude.{◌≡◌, ◌<◌, ◌/◌, ◌^◌, IfOk};
+ghost use Rattle.run_trace.specs.Names.{tid_of};
+ghost use Rattle.run_trace.specs.Steps.{thread_at};
+ghost use Rattle.run_trace.specs.Machine.{answer, creates};
+ghost use Rattle.node_state.specs.Asking.{seen, IsSmall, CanBeDone};
+ghost use Rattle.node_state.specs.Events.{program};
+ghost use Rattle.node_state.specs.Here.{does_here, calls_here, stops_found};
+
+use crate::call::{Call, Checked};
+use crate::checks::check;
+use crate::doing::Doing;
+use basics::{Items, NoMemory};
+use marcel_core::End;
+use run_trace::{Setup, Why};
+use rv_inst::Image;
+use rv_step::Stop;
+use slot_space::{NodeNo, Reply, Tid};
+
+impl Doing {
+    /// A thread that is here has its reply at once.
+    fn answer(&mut self, t: &Tid, code: u64) -> Result<(), NoMemory>
+        ensures { IfOk result (λ _. self.new ≡ answer t.now code self.old) }
+    {
+        self.judge(t, code, None)?;
+        self.tell(t, code, None)
+    }
+
+    /// The thread creates another one, where there is a slot for it.
+    fn creates(
+        &mut self,
+        setup: &Setup,
+        me: NodeNo,
+        t: &Tid,
+        entry: u64,
+        argument: u64,
+        priority: u8,
+    ) -> Result<(), NoMemory>
+        ensures { IfOk result (λ _. self.new ≡ creates me t.now entry argument priority self.old) }
+    {
+        match self.free_slot() {
+            None => self.answer(t, Reply::Full.code()),
+            Some(slot) => {
+                let child = self.next_name(me)?;
+                self.birth(setup, me, Why::Create(*t), entry, argument, priority, slot)?;
+                self.answer(t, child.value())
+            }
+        }
+    }
+
+    /// A call past its checks, which names these bytes.
+    fn does(
+        &mut self,
+        setup: &Setup,
+        image: &Image,
+        me: NodeNo,
+        t: &Tid,
+        call: Call,
+        bytes: Items<u8>,
+    ) -> Result<(), NoMemory>
+        requires { IsSmall (seen call) }
+        ensures { IfOk result (λ _. self.new ≡ does_here (program setup.now image.now) me t.now bytes (seen call) self.old) }
+    {
+        match call {
+            Call::Exit(value) => {
+                self.asks(t, call)?;
+                self.end_thread(t, End::Exit(value))
+            }
+            Call::Name => {
+                self.asks(t, call)?;
+                self.answer(t, t.value())
+            }
+            Call::Node => {
+                self.asks(t, call)?;
+                self.answer(t, me.0 as u64)
+            }
+            Call::Nodes => {
+                self.asks(t, call)?;
+                self.answer(t, setup.geometry.nodes() as u64)
+            }
+            Call::Yield => {
+                self.asks(t, call)?;
+                self.answer(t, 0)
+            }
+            Call::Create {
+                entry,
+                argument,
+                priority,
+            } => {
+                self.asks(t, call)?;
+                self.creates(setup, me, t, entry, argument, priority as u8)
+            }
+            Call::Join(name) => self.asks_join(t, call, &tid_of(name)),
+            Call::Print { .. } => self.asks_show(t, call, bytes),
+            Call::Halt => {
+                self.asks(t, call)?;
+                self.halts(t)
+            }
+            Call::Unknown(_) => {
+                self.asks(t, call)?;
+                self.answer(t, Reply::BadArgument.code())
+            }
+        }
+    }
+
+    /// A call after its checks.
+    fn calls(
+        &mut self,
+        setup: &Setup,
+        image: &Image,
+        me: NodeNo,
+        t: &Tid,
+        call: Call,
+        checked: Checked,
+    ) -> Result<(), NoMemory>
+        requires { CanBeDone (seen call) checked }
+        ensures { IfOk result (λ _. self.new ≡ calls_here (program setup.now image.now) me t.now (seen call) checked self.old) }
+    {
+        match checked {
+            Checked::Refused(reply) => {
+                self.asks(t, call)?;
+                self.answer(t, reply.code())
+            }
+            Checked::Passed(bytes) => self.does(setup, image, me, t, call, bytes),
+        }
+    }
+
+    /// What the end of the thread's run leads to.
+    #[tactic(auto, using(crate::proofs::Told::stop_is))]
+    pub(crate) fn stops(
+        &mut self,
+        setup: &Setup,
+        image: &Image,
+        me: NodeNo,
+        t: &Tid,
+        stop: Stop,
+    ) -> Result<(), NoMemory>
+        ensures { IfOk result (λ _. self.new ≡ stops_found (program setup.now image.now) me t.now stop (thread_at t.now self.old) self.old) }
+    {
+        let alloc = self.alloc;
+        let node = &self.node;
+        let Some(thread) = node.threads.get(t) else {
+            return Ok(());
+        };
+        match stop {
+            Stop::Quantum => {
+                let priority = thread.priority();
+                self.arrive(t, priority)
+            }
+            Stop::Call => {
+                let call = thread.call();
+                let checked = check(alloc, setup, image, t, thread, call)?;
+                self.calls(setup, image, me, t, call, checked)
+            }
+            Stop::Fault(kind) => {
+                let pc = thread.pc();
+                self.end_thread(t, End::Fault { kind, pc })
+            }
+        }
+    }
+}
+
+/// The name that a guest's number stands for.
+fn tid_of(name: u64) -> Tid
+    requires { name / 2 ^ 32 < 256 }
+    ensures { result ≡ tid_of name }
+{
+    Tid {
+        home: NodeNo((name / 0x1_0000_0000) as u8),
+        seq: (name % 0x1_0000_0000) as u32,
+    }
+}

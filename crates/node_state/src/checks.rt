@@ -1,0 +1,75 @@
+//! The checks of a call, made before anything is done.
+
+ghost use Rattle.std.specs.Prelude.{◌≡◌, ◌%◌, ◌==◌, ◌&&◌, [], is_some, IfOk};
+ghost use Rattle.rv_inst.specs.Image.{image_word};
+ghost use Rattle.node_state.specs.declared.call.Checked.TheVariants.{Passed};
+ghost use Rattle.node_state.specs.Asking.{seen, IsChecked};
+ghost use Rattle.node_state.specs.Events.{program};
+
+use crate::call::{Call, Checked};
+use crate::thread::Thread;
+use basics::{Items, NoMemory};
+use run_trace::Setup;
+use rv_inst::Image;
+use slot_space::{Reply, Tid};
+use std::alloc::Global;
+
+/// A thread can start here.
+fn is_entry(image: &Image, entry: u64) -> bool
+    ensures { result ≡ ((entry % 4 == 0) && is_some (image_word image.now.bytes entry)) }
+{
+    entry % 4 == 0 && image.word(entry).is_some()
+}
+
+/// Nothing fails, and the call names no bytes.
+fn passed(alloc: Global) -> Checked
+    ensures { result ≡ Passed [] }
+{
+    Checked::Passed(Items::new(Vec::new(alloc)))
+}
+
+/// The checks of a call of thread t.
+pub(crate) fn check(
+    alloc: Global,
+    setup: &Setup,
+    image: &Image,
+    t: &Tid,
+    thread: &Thread,
+    call: Call,
+) -> Result<Checked, NoMemory>
+    ensures { IfOk result (λ checked. IsChecked (program setup.now image.now) t.now thread.now.guest.solo.state (seen call) checked) }
+{
+    match call {
+        Call::Create {
+            entry,
+            argument: _,
+            priority,
+        } => {
+            if is_entry(image, entry) && priority <= 7 {
+                Ok(passed(alloc))
+            } else {
+                Ok(Checked::Refused(Reply::BadArgument))
+            }
+        }
+        Call::Join(name) => {
+            if name == t.value() {
+                return Ok(Checked::Refused(Reply::BadArgument));
+            }
+            if name / 0x1_0000_0000 >= setup.geometry.nodes() as u64 {
+                return Ok(Checked::Refused(Reply::NoSuch));
+            }
+            Ok(passed(alloc))
+        }
+        Call::Print { address, len } => {
+            if len > 256 {
+                return Ok(Checked::Refused(Reply::TooLong));
+            }
+            match thread.bytes(alloc, image, address, len as usize)? {
+                None => Ok(Checked::Refused(Reply::BadArgument)),
+                Some(bytes) => Ok(Checked::Passed(bytes)),
+            }
+        }
+        Call::Unknown(_) => Ok(Checked::Refused(Reply::BadArgument)),
+        _ => Ok(passed(alloc)),
+    }
+}

@@ -1,0 +1,17 @@
+//! The state of one node, and every event of the machine on it, exact.
+//! A layer above uses that an event in code is the event of the definition.
+#![tactic(auto)]
+
+mod acts;
+mod call;
+mod calls;
+mod checks;
+mod doing;
+mod done;
+mod homes;
+mod node;
+mod places;
+mod thread;
+
+pub use done::Done;
+pub use node::NodeState;

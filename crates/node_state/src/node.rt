@@ -1,0 +1,60 @@
+//! A node.
+
+ghost use Rattle.std.specs.Prelude.{◌≡◌, IfOk};
+ghost use Rattle.run_trace.specs.Machine.{local_event};
+ghost use Rattle.node_state.specs.Events.{program, fresh_in, Answers};
+
+use crate::doing::Doing;
+use crate::done::Done;
+use basics::NoMemory;
+use run_trace::{Act, Packet, Setup};
+use rv_inst::Image;
+use slot_space::NodeNo;
+use std::alloc::Global;
+use std::marker::Model;
+
+/// The state of one node. Contracts see it as the definition's.
+#[derive(Drop)]
+pub struct NodeState {
+    doing: Doing,
+}
+
+impl Model for NodeState {
+    ghost use Rattle.std.specs.Prelude.{◌≡◌};
+    ghost use Rattle.run_trace.specs.Local.{Local, nothing};
+
+    ghost Value = { Local };
+
+    ghost view = { λ n. n.doing.node };
+
+    // Between events nothing has happened.
+    ghost invariant = { λ n. n.doing ≡ nothing n.doing.node };
+}
+
+impl NodeState {
+    /// A node before its first event.
+    pub fn fresh(alloc: Global, setup: &Setup, me: NodeNo) -> NodeState
+        ensures { result ≡ fresh_in setup.now me }
+    {
+        NodeState {
+            doing: Doing::fresh(alloc, setup, me),
+        }
+    }
+
+    /// One event: what it has come to, or None where the act isn't possible, and then nothing has changed. Want of memory is
+    /// also where a home can't count another birth, or the run list another arrival.
+    pub fn event(
+        &mut self,
+        setup: &Setup,
+        image: &Image,
+        me: NodeNo,
+        act: Act,
+        took: Option<Packet>,
+    ) -> Result<Option<Done>, NoMemory>
+        ensures { IfOk result (λ done. Answers (local_event (program setup.now image.now) me self.old act took) self.old self.new done) }
+    {
+        let result = self.doing.event(setup, image, me, &act, took);
+        let done = self.doing.take_done();
+        if result? { Ok(Some(done)) } else { Ok(None) }
+    }
+}

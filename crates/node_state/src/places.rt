@@ -1,0 +1,122 @@
+//! The run list of a node.
+
+ghost use Rattle.std.specs.Prelude.{◌≡◌, IfOk, Some, []};
+ghost use Rattle.std.specs.List.{position};
+ghost use Rattle.run_trace.specs.Names.{is_tid};
+ghost use Rattle.run_trace.specs.Places.{arrived, without_row, taken_off, better, best_of, best};
+ghost use Rattle.node_state.specs.Views.{places_of};
+
+use basics::NoMemory;
+use run_trace::Row;
+use slot_space::Tid;
+use std::alloc::Global;
+use std::marker::Model;
+
+/// The threads that can run, in the order of their arrival, and how many have arrived.
+#[derive(Drop)]
+pub(crate) struct Places {
+    rows: Vec<Row>,
+    next: u64,
+}
+
+impl Model for Places {
+    ghost use Rattle.run_trace.specs.Places.{Places as ThePlaces};
+    ghost use Rattle.node_state.specs.Views.{places_of};
+
+    ghost Value = { ThePlaces };
+
+    ghost view = { λ p. places_of p.rows.items p.next };
+}
+
+/// Where the first row of the thread stands.
+fn place_of(rows: &[Row], t: Tid) -> Option<usize>
+    ensures { result ≡ position (λ r. is_tid t r.tid) rows.now }
+{
+    rows.iter().position(|r| t.cmp(&r.tid).is_eq())
+}
+
+/// The first row of the thread goes.
+#[tactic(auto, using(crate::proofs::Rows::places))]
+fn row_out(rows: &mut Vec<Row>, t: Tid)
+    ensures { rows.new.items ≡ without_row t rows.old.items }
+{
+    match place_of(rows, t) {
+        None => {}
+        Some(place) => {
+            rows.remove(place);
+        }
+    }
+}
+
+/// Of two rows the one of the greater priority, among equals the one that arrived first.
+fn better(a: Row, b: Row) -> Row
+    ensures { result ≡ better a b }
+{
+    if a.priority < b.priority {
+        return b;
+    }
+    if a.priority == b.priority && b.arrival < a.arrival {
+        b
+    } else {
+        a
+    }
+}
+
+/// A row beside the best of those after it.
+fn best_of(row: Row, best: Option<Row>) -> Row
+    ensures { best_of row best ≡ Some result }
+{
+    match best {
+        None => row,
+        Some(other) => better(row, other),
+    }
+}
+
+impl Places {
+    /// Nobody can run.
+    pub(crate) fn new(alloc: Global) -> Places
+        ensures { result ≡ places_of [] 0 }
+    {
+        Places {
+            rows: Vec::new(alloc),
+            next: 0,
+        }
+    }
+
+    /// The thread arrives. Want of memory is also where no more arrivals can be counted.
+    pub(crate) fn arrive(&mut self, t: Tid, priority: u8) -> Result<(), NoMemory>
+        ensures { IfOk result (λ _. self.new ≡ arrived t priority self.old) }
+    {
+        let Some(next) = self.next.checked_add(1) else {
+            return Err(NoMemory);
+        };
+        self.rows.push(Row {
+            tid: t,
+            list: 0,
+            priority,
+            arrival: self.next,
+        })?;
+        self.next = next;
+        Ok(())
+    }
+
+    /// The thread's first row goes, if it has one.
+    pub(crate) fn take_off(&mut self, t: Tid)
+        ensures { self.new ≡ taken_off t self.old }
+    {
+        row_out(&mut self.rows, t);
+    }
+
+    /// The row that is picked.
+    pub(crate) fn best(&self) -> Option<Row>
+        ensures { result ≡ best self.now.rows }
+    {
+        let mut best = None;
+        let mut place = self.rows.len();
+        while place > 0 {
+            place -= 1;
+            best = Some(best_of(self.rows[place], best));
+        }
+        best
+    }
+}

@@ -1,0 +1,170 @@
+//! A thread that is on a node.
+
+ghost use Rattle.std.specs.Prelude.{◌≡◌, ◌<◌, ◌∷◌, [], length, IfOk, Option, None};
+ghost use Rattle.slot_space.specs.Sets.{insert};
+ghost use Rattle.rv_step.specs.Access.{read};
+ghost use Rattle.run_trace.specs.declared.node.Wait.TheVariants as wait_of;
+ghost use Rattle.run_trace.specs.Guests.{zeros_of, waits, newborn, told, guest_slots};
+ghost use Rattle.run_trace.specs.Calls.{call_of};
+ghost use Rattle.node_state.specs.Asking.{seen};
+ghost use Rattle.node_state.specs.Runs.{run_at, after_run};
+
+use crate::call::Call;
+use basics::{Items, NoMemory};
+use run_trace::Wait;
+use rv_inst::Image;
+use rv_step::{Hart, Ran, SlotMem};
+use slot_space::{SlotNo, SlotSet};
+use std::alloc::Global;
+use std::marker::Model;
+
+/// A thread: what it waits for, its hart with the bytes of its slots, and which slots they are.
+#[derive(Drop)]
+pub struct Thread {
+    wait: Wait,
+    priority: u8,
+    stack: SlotNo,
+    hart: Hart,
+    slots: SlotSet,
+}
+
+impl Model for Thread {
+    ghost use Rattle.std.specs.Prelude.{◌≡◌};
+    ghost use Rattle.rv_step.specs.Memory.{slots_of};
+    ghost use Rattle.run_trace.specs.Guests.{Thread as TheThread};
+    ghost use Rattle.node_state.specs.Views.{thread_of};
+
+    ghost Value = { TheThread };
+
+    ghost view = { λ t. thread_of t.wait t.priority t.stack t.hart };
+
+    ghost invariant = { λ t. slots_of t.hart.mem.0 ≡ t.slots };
+}
+
+/// The bytes of a new slot.
+#[tactic(auto, using(crate::proofs::Zeros::zeros_are))]
+fn zero_slot(alloc: Global) -> Result<SlotMem, NoMemory>
+    ensures { IfOk result (λ block. block ≡ zeros_of 65536) }
+{
+    Ok(SlotMem::new(alloc)?)
+}
+
+/// The set of this slot alone.
+#[tactic(auto, unfolding(slot_space::specs::Sets::insert))]
+fn only(slot: SlotNo) -> SlotSet
+    requires { slot < 4096 }
+    ensures { result ≡ slot ∷ [] }
+{
+    let mut slots = SlotSet::empty();
+    slots.insert(slot);
+    slots
+}
+
+impl Thread {
+    /// A new thread, whose only slot is its stack.
+    pub(crate) fn newborn(
+        alloc: Global,
+        entry: u64,
+        a0: u64,
+        sp: u64,
+        slot: SlotNo,
+        priority: u8,
+    ) -> Result<Thread, NoMemory>
+        requires { slot < 4096 }
+        ensures { IfOk result (λ x. x ≡ waits wait_of.No (newborn entry a0 0 sp slot priority)) }
+    {
+        let mut hart = Hart::birth(alloc, entry, a0, 0, sp);
+        hart.mem.make_room(1)?;
+        let block = zero_slot(alloc)?;
+        hart.mem.grant(slot, block);
+        Ok(Thread {
+            wait: Wait::No,
+            priority,
+            stack: slot,
+            hart,
+            slots: only(slot),
+        })
+    }
+
+    /// Its priority.
+    pub(crate) fn priority(&self) -> u8
+        ensures { result ≡ self.now.guest.priority }
+    {
+        self.priority
+    }
+
+    /// Where it stands.
+    pub(crate) fn pc(&self) -> u64
+        ensures { result ≡ self.now.guest.solo.state.pc }
+    {
+        self.hart.pc
+    }
+
+    /// The slots that it holds.
+    pub(crate) fn slots(&self) -> SlotSet
+        ensures { result ≡ guest_slots self.now.guest }
+    {
+        self.slots
+    }
+
+    /// What it waits for.
+    pub(crate) fn wait(&self) -> Wait
+        ensures { result ≡ self.now.wait }
+    {
+        self.wait
+    }
+
+    /// It waits from now on.
+    pub(crate) fn wait_for(&mut self, wait: Wait)
+        ensures { self.new ≡ waits wait self.old.guest }
+    {
+        self.wait = wait;
+    }
+
+    /// It has its reply, and goes on.
+    pub(crate) fn tell(&mut self, code: u64, second: Option<u64>)
+        ensures { self.new ≡ waits wait_of.No (told code second self.old.guest) }
+    {
+        self.hart.tell(code, second);
+        self.wait = Wait::No;
+    }
+
+    /// It runs for at most so many instructions.
+    #[tactic(auto, using(crate::proofs::Runs::run_is))]
+    pub(crate) fn run(&mut self, image: &Image, quantum: u32) -> Ran
+        ensures thread { self.new ≡ after_run (run_at image.now.bytes quantum self.old) self.old }
+        ensures count { result.count ≡ (run_at image.now.bytes quantum self.old).count }
+        ensures stop { result.stop ≡ (run_at image.now.bytes quantum self.old).stop }
+    {
+        self.hart.run(image, quantum)
+    }
+
+    /// What it asks at its ECALL.
+    pub(crate) fn call(&self) -> Call
+        ensures { seen result ≡ call_of self.now.guest.solo.state }
+    {
+        let regs = &self.hart.regs;
+        Call::of(regs[17], regs[10], regs[11], regs[12])
+    }
+
+    /// At most 256 bytes from an address on, None where one of them isn't readable.
+    pub(crate) fn bytes(
+        &self,
+        alloc: Global,
+        image: &Image,
+        address: u64,
+        len: usize,
+    ) -> Result<Option<Items<u8>>, NoMemory>
+        requires { len < 257 }
+        ensures { IfOk result (λ bytes. bytes ≡ read image.now.bytes self.now.guest.solo.state.memory address len) }
+    {
+        let mut buffer = [0; 256];
+        let part = &mut buffer[..len];
+        if !self.hart.mem.read_bytes(image, address, part) {
+            return Ok(None);
+        }
+        let mut bytes = Vec::new(alloc);
+        bytes.extend_from_slice(&buffer[..len])?;
+        Ok(Some(Items::new(bytes)))
+    }
+}

@@ -1,0 +1,177 @@
+-- One node as a machine: what an act does, composed of small steps. Here alone stand the rules of the calls.
+use Rattle.std.specs.Prelude.{ℕ, ◌^◌, List, Option, Some, None, Bool, true, false, ◌==◌, ◌&&◌, not, nat_lt, nat_le, slice_get, if◌then◌else◌}
+use Rattle.std.specs.Map.{lookup}
+use Rattle.slot_space.specs.Replies.{reply_code, tid_value}
+use Rattle.slot_space.specs.Sets.{has, lowest_run}
+use Rattle.slot_space.specs.declared.names.Tid.{Tid}
+use Rattle.slot_space.specs.declared.names.Reply.{Reply}
+use Rattle.slot_space.specs.declared.names.Reply.TheVariants as replies
+use Rattle.rv_step.specs.declared.hart.Stop.{Stop}
+use Rattle.rv_step.specs.declared.hart.Stop.TheVariants as stops
+use Rattle.marcel_core.specs.declared.end.End.{End}
+use Rattle.marcel_core.specs.declared.end.End.TheVariants as end_of
+use Rattle.marcel_core.specs.declared.birth.Verdict.{Verdict}
+use Rattle.marcel_core.specs.declared.birth.Verdict.TheVariants.{Now, Later, NoSuch, Taken}
+use Rattle.marcel_core.specs.Homes.{verdict, joiner, is_open, end_reply, end_value}
+use Rattle.run_trace.specs.declared.entry.Act.{Act}
+use Rattle.run_trace.specs.declared.entry.Act.TheVariants.{Boot, Run as RunThread, Take, Move}
+use Rattle.run_trace.specs.declared.label.Why.TheVariants as why
+use Rattle.run_trace.specs.declared.packet.Body.{Body}
+use Rattle.run_trace.specs.declared.packet.Body.TheVariants.{Show, ShowDone, JoinAsk, Answer, EndNote}
+use Rattle.run_trace.specs.declared.packet.Packet.{Packet}
+use Rattle.run_trace.specs.declared.node.Row.{Row}
+use Rattle.run_trace.specs.declared.node.Wait.{Wait}
+use Rattle.run_trace.specs.declared.node.Wait.TheVariants as wait
+use Rattle.run_trace.specs.Names.{is_tid, tid_of}
+use Rattle.run_trace.specs.Program.{Program, nodes_of, code_of, processors_of, quantum_limit, main_priority}
+use Rattle.run_trace.specs.Guests.{Thread, Run, run_of, with_state}
+use Rattle.run_trace.specs.Calls.{Call, Exit, Self, Node, Nodes, Yield, Create, Join, Print, Halt, Unknown, call_of, refusal, bytes_of}
+use Rattle.run_trace.specs.Places.{best}
+use Rattle.run_trace.specs.Local.{Local, Doing, nothing, with_booted}
+use Rattle.run_trace.specs.Steps.{birth, ran, runs_out, asks, asks_show, asks_join, halts, judge, tell, reply_by_link, gives, ends, shows, acknowledges, hears, knows, next_name}
+
+-- ## Compositions
+
+-- a thread that is here has its reply at once
+abbrev pub answer : Tid → ℕ → Doing → Doing
+answer t code d = tell t code None (judge t code None d)
+
+abbrev pub end_thread : Tid → Thread → End → Doing → Doing
+end_thread t x end d = ends t end (gives t x d)
+
+-- the least slot that no thread holds
+abbrev pub free_slot : List ℕ → Option ℕ
+free_slot own = lowest_run (λ s. has s own) 1 4096
+
+abbrev pub creates_in : ℕ → Tid → (entry argument priority : ℕ) → Option ℕ → Doing → Doing
+creates_in me t entry argument priority None d = answer t (reply_code replies.Full) d
+creates_in me t entry argument priority (Some slot) d =
+    answer t (tid_value (next_name me d)) (birth me (why.Create t) entry argument priority slot d)
+
+abbrev pub creates : ℕ → Tid → (entry argument priority : ℕ) → Doing → Doing
+creates me t entry argument priority d = creates_in me t entry argument priority (free_slot d.node.slots.own) d
+
+-- a call past its checks
+abbrev pub does : Program → ℕ → Tid → Thread → Call → Doing → Doing
+does p me t x (Exit value) d = end_thread t x (end_of.Exit value) (asks t (Exit value) d)
+does p me t x Self d = answer t (tid_value t) (asks t Self d)
+does p me t x Node d = answer t me (asks t Node d)
+does p me t x Nodes d = answer t (nodes_of p) (asks t Nodes d)
+does p me t x Yield d = answer t 0 (asks t Yield d)
+does p me t x (Create entry argument priority) d =
+    creates me t entry argument priority (asks t (Create entry argument priority) d)
+does p me t x (Join name) d = asks_join t (Join name) (tid_of name) x d
+does p me t x (Print address len) d =
+    asks_show t (Print address len) (bytes_of p x.guest.solo.state (Print address len)) x d
+does p me t x Halt d = halts t x (asks t Halt d)
+does p me t x (Unknown number) d = answer t (reply_code replies.BadArgument) (asks t (Unknown number) d)
+
+abbrev pub calls : Program → ℕ → Tid → Thread → Call → Option Reply → Doing → Doing
+calls p me t x c None d = does p me t x c d
+calls p me t x c (Some reply) d = answer t (reply_code reply) (asks t c d)
+
+-- ## The acts
+
+abbrev pub boots_in : Program → ℕ → Option ℕ → Doing → Doing
+boots_in p me None d = d
+boots_in p me (Some slot) d = birth me why.Main p.image.main 0 main_priority slot d
+
+-- node 0 begins with the main thread
+abbrev pub boots : Program → ℕ → Doing → Doing
+boots p me d = if me == 0 then boots_in p me (free_slot d.node.slots.own) (with_booted d) else with_booted d
+
+abbrev pub stops_by : Program → (me vp : ℕ) → Tid → Thread → Run → Stop → Doing → Doing
+stops_by p me vp t x r stops.Quantum d = runs_out t vp r x d
+stops_by p me vp t x r stops.Call d =
+    let y : Thread = record x { guest = with_state r.state x.guest } in
+    calls p me t y (call_of r.state) (refusal p t r.state (call_of r.state)) (ran t vp r x d)
+stops_by p me vp t x r (stops.Fault kind) d =
+    let y : Thread = record x { guest = with_state r.state x.guest } in
+    end_thread t y (end_of.Fault kind r.state.pc) (ran t vp r x d)
+
+abbrev pub run_thread : Program → (me vp quantum : ℕ) → Tid → Thread → Doing → Doing
+run_thread p me vp quantum t x d =
+    let r : Run = run_of (code_of p) quantum x.guest.solo.state in
+    stops_by p me vp t x r r.stop d
+
+abbrev pub run_found : Program → (me vp quantum : ℕ) → Tid → Option Thread → Local → Option Doing
+run_found p me vp quantum t None s = None
+run_found p me vp quantum t (Some x) s = Some (run_thread p me vp quantum t x (nothing s))
+
+abbrev pub run_picked : Program → (me vp quantum : ℕ) → Option Row → Local → Option Doing
+run_picked p me vp quantum None s = None
+run_picked p me vp quantum (Some r) s = run_found p me vp quantum r.tid (lookup (is_tid r.tid) s.threads) s
+
+-- ## Packets
+
+abbrev pub is_waiting : Option Thread → Wait → Bool
+is_waiting None w = false
+is_waiting (Some x) w = is_wait x.wait w
+  where
+    is_wait : Wait → Wait → Bool
+    is_wait wait.ForShow wait.ForShow = true
+    is_wait wait.ForAnswer wait.ForAnswer = true
+    is_wait _ _ = false
+
+-- a packet that this node doesn't expect
+abbrev pub is_stray : Program → ℕ → Local → Body → Bool
+is_stray p me s (Show t bytes) = not (me == 0 && nat_lt t.home (nodes_of p))
+is_stray p me s (ShowDone t) = not (nat_lt t.home (nodes_of p) && is_waiting (lookup (is_tid t) s.threads) wait.ForShow)
+is_stray p me s (JoinAsk by seq) = not (nat_lt by.home (nodes_of p))
+is_stray p me s (Answer t reply second) = not (nat_lt t.home (nodes_of p) && is_waiting (lookup (is_tid t) s.threads) wait.ForAnswer)
+is_stray p me s (EndNote seq end) = not (is_open (slice_get s.names seq))
+
+-- what the home says of a join
+abbrev pub judges_join : Tid → ℕ → Verdict → Doing → Doing
+judges_join by at (Now end) d = reply_by_link by at (end_reply end) (Some (end_value end)) d
+judges_join by at Later d = d
+judges_join by at NoSuch d = reply_by_link by at replies.NoSuch None d
+judges_join by at Taken d = reply_by_link by at replies.Taken None d
+
+abbrev pub tells_joiner : End → Option (Tid × ℕ) → Doing → Doing
+tells_joiner end None d = d
+tells_joiner end (Some by) d = reply_by_link by.0 by.1 (end_reply end) (Some (end_value end)) d
+
+abbrev pub accepts : ℕ → ℕ → Body → Local → Doing
+accepts me from (Show t bytes) s = acknowledges t from (shows t bytes (nothing s))
+accepts me from (ShowDone t) s = tell t 0 None (nothing s)
+accepts me from (JoinAsk by seq) s = judges_join by from (verdict (slice_get s.names seq)) (hears by seq from (nothing s))
+accepts me from (Answer t reply second) s = tell t (reply_code reply) second (nothing s)
+accepts me from (EndNote seq end) s = tells_joiner end (joiner (slice_get s.names seq)) (knows me seq end (nothing s))
+
+abbrev pub takes : Program → ℕ → ℕ → Body → Local → Doing
+takes p me from body s = if is_stray p me s body then nothing s else accepts me from body s
+
+-- ## One event; None where the act isn't possible
+
+unfoldable pub is_range : Program → ℕ → Local → Act → Bool
+is_range p me s Boot = nat_lt me (nodes_of p) && not s.booted
+is_range p me s (RunThread vp quantum) =
+    nat_lt me (nodes_of p) && (s.booted && (nat_lt vp (processors_of p) && (nat_lt 0 quantum && nat_le quantum quantum_limit)))
+is_range p me s (Take from) = nat_lt me (nodes_of p) && (s.booted && nat_lt from (nodes_of p))
+is_range p me s (Move t to) = false
+
+abbrev pub acts : Program → ℕ → Local → Act → Option Packet → Option Doing
+acts p me s Boot None = Some (boots p me (nothing s))
+acts p me s (RunThread vp quantum) None = run_picked p me vp quantum (best s.places.rows) s
+acts p me s (Take from) (Some packet) = Some (takes p me from packet.body s)
+acts p me s (Move t to) None = None
+acts p me s Boot (Some packet) = None
+acts p me s (RunThread vp quantum) (Some packet) = None
+acts p me s (Take from) None = None
+acts p me s (Move t to) (Some packet) = None
+
+unfoldable pub local_event : Program → ℕ → Local → Act → Option Packet → Option Doing
+local_event p me s act took = if is_range p me s act then acts p me s act took else None
+
+-- ## The same, whatever packet comes: one whose stamp is too great is a stray
+
+unfoldable pub stamp_limit : ℕ
+stamp_limit = 2 ^ 62
+
+abbrev pub is_beyond : Option Packet → Bool
+is_beyond None = false
+is_beyond (Some packet) = not (nat_lt packet.stamp stamp_limit)
+
+abbrev pub turn_event : Program → ℕ → Local → Act → Option Packet → Option Doing
+turn_event p me s act took = if is_beyond took then Some (nothing s) else local_event p me s act took

@@ -1,0 +1,222 @@
+-- The rules of a trace, each by what the labels before tell: what a label on node n must have found.
+use Rattle.std.specs.Prelude.{◌≡◌, ◌==◌, ℕ, List, [], ◌∷◌, ◌++◌, length, Option, Some, None, Bool, true, false, ⊤}
+use Rattle.slot_space.specs.Replies.{reply_code}
+use Rattle.slot_space.specs.Sets.{has, lowest_run}
+use Rattle.slot_space.specs.declared.names.Tid.{Tid}
+use Rattle.slot_space.specs.declared.names.Reply.TheVariants as replies
+use Rattle.rv_step.specs.Run.{after, StopsBy}
+use Rattle.rv_step.specs.Step.{State}
+use Rattle.run_trace.specs.declared.entry.Act.{Act}
+use Rattle.run_trace.specs.declared.entry.Act.TheVariants.{Boot, Run, Take, Move}
+use Rattle.run_trace.specs.declared.entry.Entry.{Entry}
+use Rattle.run_trace.specs.declared.label.Label.{Label}
+use Rattle.run_trace.specs.declared.label.Label.TheVariants.{Born, Ran, Asked, Heard, Judged, Told, Gave, Ended, Known, Shown, Halted}
+use Rattle.run_trace.specs.declared.label.Why.{Why}
+use Rattle.run_trace.specs.declared.label.Why.TheVariants as why
+use Rattle.run_trace.specs.declared.label.Extra.{Extra}
+use Rattle.run_trace.specs.declared.node.Row.{Row}
+use Rattle.run_trace.specs.declared.packet.Body.{Body}
+use Rattle.run_trace.specs.declared.packet.Body.TheVariants.{Show, ShowDone, JoinAsk, Answer, EndNote}
+use Rattle.run_trace.specs.declared.packet.Send.{Send}
+use Rattle.run_trace.specs.Names.{tid}
+use Rattle.run_trace.specs.Program.{Program, code_of}
+use Rattle.run_trace.specs.Guests.{stack_end, guest_slots}
+use Rattle.run_trace.specs.Calls.{call_of, number_of, args_of, refusal, said_bytes}
+use Rattle.run_trace.specs.Places.{IsBest}
+use Rattle.run_trace.specs.Steps.{extra_of}
+use Rattle.run_trace.specs.Cluster.{Net}
+use Rattle.run_trace.specs.Trace.{net_after_trace, sends_or, done_for}
+use Rattle.run_trace.specs.Spots.{Stage, Ready, Running, Due, Needs, Told_next, Ends, Leaves, Halts, Shows, Showing, Shown_there, Asks, Answers, Answered, Life, Unborn, On, Noting, Spots, Holder, Of_node, Of_thread, stepped, stage_of_call, after_label, after_labels}
+
+-- a rule says of a label on node n, in an act of this quantum, what must have been told before
+abbrev pub Rule : Type 1
+Rule = Program → (quantum n : ℕ) → Label → Spots → Type 0
+
+-- ## Solo: each thread is its code run alone with the replies that it got
+
+-- with what a thread is born
+abbrev pub IsBorn : Program → ℕ → Why → (entry a0 : ℕ) → Spots → Type 0
+IsBorn p n why.Main entry a0 w = (entry ≡ p.image.main) × (a0 ≡ 0) × (n ≡ 0)
+IsBorn p n (why.Create by) entry a0 w = (priority : ℕ) × ((w.threads by).life ≡ On n (Needs entry a0 priority))
+IsBorn p n _ entry a0 w = ⊥
+
+abbrev pub SoloRule : Rule
+SoloRule p quantum n (Born t why entry a0 a1 sp slot) w = IsBorn p n why entry a0 w × (a1 ≡ 0) × (sp ≡ stack_end slot)
+SoloRule p quantum n (Ran t vp count stop) w =
+    let s : State = (w.threads t).guest.solo.state in
+    (after (code_of p) s count ≡ Some (stepped (code_of p) count s)) × StopsBy (code_of p) (stepped (code_of p) count s) quantum count stop
+SoloRule p quantum n (Asked t call args bytes) w =
+    let s : State = (w.threads t).guest.solo.state in
+    (call ≡ number_of (call_of s)) × (args ≡ args_of (call_of s)) × (bytes ≡ said_bytes p s (call_of s) (refusal p t s (call_of s)))
+SoloRule p quantum n _ w = ⊤
+
+-- ## Holders: a slot goes only from the holder that the rule names
+
+abbrev pub HoldersRule : Rule
+HoldersRule p quantum n (Born t why entry a0 a1 sp slot) w = w.slots slot ≡ Of_node n
+HoldersRule p quantum n (Gave t slots) w = (s : ℕ) → has s slots ≡ true → w.slots s ≡ Of_thread t
+HoldersRule p quantum n _ w = ⊤
+
+-- ## Life: what a thread goes through, in this order
+
+abbrev pub MayJudge : ℕ → Life → Type 0
+MayJudge n (On m (Due code)) = m ≡ n
+MayJudge n (On m (Needs entry argument priority)) = m ≡ n
+MayJudge n (On m Showing) = n ≡ 0
+MayJudge n (On m (Answers h reply second)) = h ≡ n
+MayJudge n _ = ⊥
+
+-- a thread is told only where it is
+abbrev pub MayTell : ℕ → Life → Type 0
+MayTell n (On m Told_next) = m ≡ n
+MayTell n (On m Shown_there) = m ≡ n
+MayTell n (On m (Answered h)) = m ≡ n
+MayTell n _ = ⊥
+
+abbrev pub MayHear : ℕ → Life → Type 0
+MayHear n (On m (Asks u)) = u.home ≡ n
+MayHear n _ = ⊥
+
+abbrev pub MayGive : ℕ → Life → Type 0
+MayGive n (On m (Ends end)) = m ≡ n
+MayGive n _ = ⊥
+
+abbrev pub MayShow : ℕ → Life → Type 0
+MayShow n (On m (Shows bytes)) = n ≡ 0
+MayShow n _ = ⊥
+
+abbrev pub MayKnow : Life → Type 0
+MayKnow (Noting m end) = ⊤
+MayKnow _ = ⊥
+
+abbrev pub LifeRule : Rule
+LifeRule p quantum n (Born t why entry a0 a1 sp slot) w = ((w.threads t).life ≡ Unborn) × (t ≡ tid n (length (w.births n)))
+LifeRule p quantum n (Ran t vp count stop) w = (w.threads t).life ≡ On n Ready
+LifeRule p quantum n (Asked t call args bytes) w = (w.threads t).life ≡ On n Running
+LifeRule p quantum n (Heard t) w = MayHear n (w.threads t).life
+LifeRule p quantum n (Judged t reply extra) w = MayJudge n (w.threads t).life
+LifeRule p quantum n (Told t) w = MayTell n (w.threads t).life
+LifeRule p quantum n (Gave t slots) w = MayGive n (w.threads t).life × (slots ≡ guest_slots (w.threads t).guest)
+LifeRule p quantum n (Ended t end) w = (w.threads t).life ≡ On n (Leaves end)
+LifeRule p quantum n (Known t) w = MayKnow (w.threads t).life × (t.home ≡ n)
+LifeRule p quantum n (Shown t) w = MayShow n (w.threads t).life
+LifeRule p quantum n (Halted t) w = (w.threads t).life ≡ On n Halts
+LifeRule p quantum n _ w = ⊥
+
+-- ## Replies: each is the library's
+
+abbrev pub IsReply : Life → ℕ → Extra → Type 0
+IsReply (On m (Due code)) reply extra = (reply ≡ code) × (extra ≡ extra_of None)
+IsReply (On m (Needs entry argument priority)) reply extra = (reply ≡ reply_code replies.Full) × (extra ≡ extra_of None)
+IsReply (On m Showing) reply extra = (reply ≡ 0) × (extra ≡ extra_of None)
+IsReply (On m (Answers h answer second)) reply extra = (reply ≡ reply_code answer) × (extra ≡ extra_of second)
+IsReply _ reply extra = ⊤
+
+abbrev pub RepliesRule : Rule
+RepliesRule p quantum n (Judged t reply extra) w = IsReply (w.threads t).life reply extra
+RepliesRule p quantum n _ w = ⊤
+
+-- ## Grants: the least slot that no thread holds, of the node; Full only where it has none
+
+abbrev pub is_free : ℕ → Holder → Bool
+is_free n (Of_node m) = m == n
+is_free n (Of_thread t) = false
+is_free n _ = false
+
+-- the least slot of node n
+abbrev pub least_free : ℕ → Spots → Option ℕ
+least_free n w = lowest_run (λ s. is_free n (w.slots s)) 1 4096
+
+abbrev pub IsRefusedFull : ℕ → Spots → Life → Type 0
+IsRefusedFull n w (On m (Needs entry argument priority)) = least_free n w ≡ None
+IsRefusedFull n w _ = ⊤
+
+abbrev pub GrantsRule : Rule
+GrantsRule p quantum n (Born t why entry a0 a1 sp slot) w = least_free n w ≡ Some slot
+GrantsRule p quantum n (Judged t reply extra) w = IsRefusedFull n w (w.threads t).life
+GrantsRule p quantum n _ w = ⊤
+
+-- ## A rule over a trace
+
+abbrev pub quantum_in : Act → ℕ
+quantum_in (Run vp quantum) = quantum
+quantum_in Boot = 0
+quantum_in (Take from) = 0
+quantum_in (Move t to) = 0
+
+abbrev pub ObeyEach : Rule → Program → (quantum n : ℕ) → List Label → Spots → Type 0
+ObeyEach rule p quantum n [] w = ⊤
+ObeyEach rule p quantum n (l ∷ ls) w = rule p quantum n l w × ObeyEach rule p quantum n ls (after_label p n l w)
+
+-- what the labels of a trace tell, newest entry first
+abbrev pub spots_of : Program → Spots → List Entry → Spots
+spots_of p old [] = old
+spots_of p old (x ∷ xs) = after_labels p x.node x.labels (spots_of p old xs)
+
+abbrev pub Obey : Rule → Program → Spots → List Entry → Type 0
+Obey rule p old [] = ⊤
+Obey rule p old (x ∷ xs) = Obey rule p old xs × ObeyEach rule p (quantum_in x.act) x.node x.labels (spots_of p old xs)
+
+-- ## Picks: the best of the run list runs
+
+abbrev pub RunsFirst : Tid → ℕ → List Label → Type 0
+RunsFirst t vp (Ran u v count stop ∷ ls) = (u ≡ t) × (v ≡ vp)
+RunsFirst t vp _ = ⊥
+
+abbrev pub PicksBest : Act → List Row → List Label → Type 0
+PicksBest (Run vp quantum) rows labels = (r : Row) × IsBest r rows × RunsFirst r.tid vp labels
+PicksBest Boot rows labels = ⊤
+PicksBest (Take from) rows labels = ⊤
+PicksBest (Move t to) rows labels = ⊤
+
+abbrev pub Picks : Program → Net → List Entry → Type 0
+Picks p base [] = ⊤
+Picks p base (x ∷ xs) = Picks p base xs × PicksBest x.act ((net_after_trace p base xs).nodes x.node).places.rows x.labels
+
+-- ## Carried: an entry sends what its labels cause, and nothing else
+
+abbrev pub send_to : ℕ → Body → List Send
+send_to to body = (record { to = to; body = body }) ∷ []
+
+abbrev pub asked_causes : Tid → Stage → List Send
+asked_causes t (Shows bytes) = send_to 0 (Show t bytes)
+asked_causes t (Asks u) = send_to u.home (JoinAsk t u.seq)
+asked_causes t _ = []
+
+abbrev pub judged_causes : Tid → Life → List Send
+judged_causes t (On m Showing) = send_to m (ShowDone t)
+judged_causes t (On m (Answers h reply second)) = send_to m (Answer t reply second)
+judged_causes t _ = []
+
+abbrev pub causes : Program → ℕ → Label → Spots → List Send
+causes p n (Asked t call args bytes) w = asked_causes t (stage_of_call p n t (w.threads t).guest.solo.state)
+causes p n (Judged t reply extra) w = judged_causes t (w.threads t).life
+causes p n (Ended t end) w = send_to t.home (EndNote t.seq end)
+causes p n _ w = []
+
+abbrev pub all_causes : Program → ℕ → List Label → Spots → List Send
+all_causes p n [] w = []
+all_causes p n (l ∷ ls) w = causes p n l w ++ all_causes p n ls (after_label p n l w)
+
+abbrev pub Carried : Program → Spots → Net → List Entry → Type 0
+Carried p old base [] = ⊤
+Carried p old base (x ∷ xs) = Carried p old base xs
+    × (sends_or (done_for p (net_after_trace p base xs) x) ≡ all_causes p x.node x.labels (spots_of p old xs))
+
+-- ## Settled: nothing is missing. At the end of an entry no thread is in the midst of a call, a reply or its end
+
+abbrev pub IsSettled : Life → Type 0
+IsSettled (On m Running) = ⊥
+IsSettled (On m (Due code)) = ⊥
+IsSettled (On m (Needs entry argument priority)) = ⊥
+IsSettled (On m Told_next) = ⊥
+IsSettled (On m (Ends end)) = ⊥
+IsSettled (On m (Leaves end)) = ⊥
+IsSettled (On m Halts) = ⊥
+IsSettled (On m Showing) = ⊥
+IsSettled (On m (Answers h reply second)) = ⊥
+IsSettled _ = ⊤
+
+abbrev pub EachSettled : Program → Spots → List Entry → Type 0
+EachSettled p old [] = ⊤
+EachSettled p old (x ∷ xs) = EachSettled p old xs × ((t : Tid) → IsSettled ((spots_of p old (x ∷ xs)).threads t).life)

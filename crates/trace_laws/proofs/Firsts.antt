@@ -1,0 +1,93 @@
+-- The first label of an event stays its first: steps say theirs after it.
+use Rattle.std.proofs.Common.{ℕ, List, [], ◌∷◌, ◌++◌, Option, Some, None, refl}
+use Rattle.slot_space.specs.declared.names.Tid.{Tid}
+use Rattle.slot_space.specs.declared.names.Reply.{Reply}
+use Rattle.marcel_core.specs.declared.end.End.{End}
+use Rattle.rv_step.specs.declared.hart.Stop.{Stop}
+use Rattle.rv_step.specs.declared.hart.Stop.TheVariants as stops
+use Rattle.run_trace.specs.declared.label.Label.{Label}
+use Rattle.run_trace.specs.declared.label.Label.TheVariants.{Ran}
+use Rattle.run_trace.specs.declared.label.Why.{Why}
+use Rattle.run_trace.specs.Program.{Program}
+use Rattle.run_trace.specs.Guests.{Thread, Run}
+use Rattle.run_trace.specs.Calls.{Call, Exit, Self, Node, Nodes, Yield, Create, Join, Print, Halt, Unknown}
+use Rattle.run_trace.specs.Local.{Local, Doing, nothing}
+use Rattle.run_trace.specs.Steps.{say, put, arrive, take_off, keep, thread_in, thread_out, slot_out, slots_in, name_in, halt, birth, ran, runs_out, asks, asks_show, asks_join, halts, judge, tell, tell_found, gives, ends}
+use Rattle.run_trace.specs.Machine.{answer, end_thread, creates_in, does, calls, stops_by}
+use Rattle.run_trace.specs.Rules.{RunsFirst}
+
+append-first : (t : Tid) (vp : ℕ) (ls more : List Label) → RunsFirst t vp ls → RunsFirst t vp (ls ++ more)
+append-first t vp [] more h = absurd h
+append-first t vp (Ran u v count stop ∷ ls) more h = h
+append-first t vp (l ∷ ls) more h = h
+
+module _ (t : Tid) (vp : ℕ) where
+  abbrev First : Doing → Type 0
+  First d = RunsFirst t vp d.labels
+
+  tell-found : (u : Tid) (code : ℕ) (second : Option ℕ) (o : Option Thread) (d : Doing) → First d → First (tell_found u code second o d)
+  unfolding arrive say keep
+  tell-found u code second None d h = h
+  tell-found u code second (Some x) d h = append-first t vp d.labels _ h
+
+  answer-first : (u : Tid) (code : ℕ) (d : Doing) → First d → First (answer u code d)
+  unfolding tell judge say
+  answer-first u code d h = tell-found u code None _ _ (append-first t vp d.labels _ h)
+
+  asks-first : (u : Tid) (c : Call) (d : Doing) → First d → First (asks u c d)
+  unfolding asks say
+  asks-first u c d h = append-first t vp d.labels _ h
+
+  end-first : (u : Tid) (x : Thread) (end : End) (d : Doing) → First d → First (end_thread u x end d)
+  unfolding ends gives put say thread_out slots_in
+  end-first u x end d h = append-first t vp _ _ (append-first t vp d.labels _ h)
+
+  show-first : (u : Tid) (c : Call) (bytes : List ℕ) (x : Thread) (d : Doing) → First d → First (asks_show u c bytes x d)
+  unfolding asks_show put keep say
+  show-first u c bytes x d h = append-first t vp d.labels _ h
+
+  join-first : (u : Tid) (c : Call) (of : Tid) (x : Thread) (d : Doing) → First d → First (asks_join u c of x d)
+  unfolding asks_join put keep say
+  join-first u c of x d h = append-first t vp d.labels _ h
+
+  halt-first : (u : Tid) (x : Thread) (d : Doing) → First d → First (halts u x d)
+  unfolding halts halt keep say
+  halt-first u x d h = append-first t vp d.labels _ h
+
+  birth-first : (me : ℕ) (why : Why) (entry a0 priority slot : ℕ) (d : Doing) → First d → First (birth me why entry a0 priority slot d)
+  unfolding birth arrive thread_in name_in slot_out say
+  birth-first me why entry a0 priority slot d h = append-first t vp d.labels _ h
+
+  create-first : (me : ℕ) (u : Tid) (entry argument priority : ℕ) (o : Option ℕ) (d : Doing) → First d → First (creates_in me u entry argument priority o d)
+  create-first me u entry argument priority None d h = answer-first u _ d h
+  create-first me u entry argument priority (Some slot) d h = answer-first u _ _ (birth-first me _ entry argument priority slot d h)
+
+  does-first : (p : Program) (me : ℕ) (u : Tid) (x : Thread) (c : Call) (d : Doing) → First d → First (does p me u x c d)
+  does-first p me u x (Exit value) d h = end-first u x _ _ (asks-first u (Exit value) d h)
+  does-first p me u x Self d h = answer-first u _ _ (asks-first u Self d h)
+  does-first p me u x Node d h = answer-first u _ _ (asks-first u Node d h)
+  does-first p me u x Nodes d h = answer-first u _ _ (asks-first u Nodes d h)
+  does-first p me u x Yield d h = answer-first u _ _ (asks-first u Yield d h)
+  does-first p me u x (Create e a k) d h = create-first me u e a k _ _ (asks-first u (Create e a k) d h)
+  does-first p me u x (Join name) d h = join-first u (Join name) _ x d h
+  does-first p me u x (Print address len) d h = show-first u (Print address len) _ x d h
+  does-first p me u x Halt d h = halt-first u x _ (asks-first u Halt d h)
+  does-first p me u x (Unknown number) d h = answer-first u _ _ (asks-first u (Unknown number) d h)
+
+  calls-first : (p : Program) (me : ℕ) (u : Tid) (x : Thread) (c : Call) (o : Option Reply) (d : Doing) → First d → First (calls p me u x c o d)
+  calls-first p me u x c None d h = does-first p me u x c d h
+  calls-first p me u x c (Some reply) d h = answer-first u _ _ (asks-first u c d h)
+
+  ran-first : (r : Run) (x : Thread) (s : Local) → First (ran t vp r x (nothing s))
+  unfolding ran say keep take_off
+  ran-first r x s = (refl, refl)
+
+  out-first : (r : Run) (x : Thread) (s : Local) → First (runs_out t vp r x (nothing s))
+  unfolding runs_out arrive ran say keep take_off
+  out-first r x s = (refl, refl)
+
+  -- a run's first label is that its thread ran
+  pub stops-first : (p : Program) (me : ℕ) (x : Thread) (r : Run) (stop : Stop) (s : Local) → First (stops_by p me vp t x r stop (nothing s))
+  stops-first p me x r stops.Quantum s = out-first r x s
+  stops-first p me x r stops.Call s = calls-first p me t _ _ _ _ (ran-first r x s)
+  stops-first p me x r (stops.Fault kind) s = end-first t _ _ _ (ran-first r x s)

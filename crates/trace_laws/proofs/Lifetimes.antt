@@ -1,0 +1,350 @@
+-- Births and ends, on an event in its midst: the steps that move slots and change births.
+use Rattle.std.proofs.Common.{◌≡◌, ℕ, ◌+◌, List, [], ◌∷◌, ◌++◌, length, Some, None, true, false, eqb, cond, refl, sym, ap, ◌∙◌, subst, arith, map}
+use Rattle.std.specs.Prelude.{slice_get, nat_lt}
+use Rattle.std.specs.BTreeMap.{insert_entry}
+use Rattle.std.proofs.lemmas.Bool.{eq-eqb, eqb-true, lt-ltb, ltb-true}
+use Rattle.std.proofs.lemmas.List.{append-nil}
+use Rattle.slot_space.specs.Sets.{has, minus, run}
+use Rattle.slot_space.specs.Replies.{tid_value}
+use Rattle.slot_space.specs.declared.names.Tid.{Tid}
+use Rattle.slot_space.proofs.Sets.{has-union, has-minus, has-run}
+use Rattle.slot_space.proofs.Runs.{lowest_run-same, found}
+use Rattle.marcel_core.specs.declared.end.End.{End}
+use Rattle.marcel_core.specs.declared.birth.Birth.TheVariants.{Lives, Awaited}
+use Rattle.run_trace.specs.declared.label.Label.TheVariants.{Born, Gave, Ended}
+use Rattle.run_trace.specs.declared.label.Why.TheVariants as why
+use Rattle.run_trace.specs.declared.packet.Body.TheVariants.{EndNote}
+use Rattle.run_trace.specs.declared.node.Wait.TheVariants as wait
+use Rattle.run_trace.specs.Names.{is_tid, tid, tid_cmp}
+use Rattle.run_trace.specs.Program.{Program, nodes_of, main_priority}
+use Rattle.run_trace.specs.Guests.{Guest, Thread, waits, newborn, stack_end, guest_slots, gives_slots}
+use Rattle.run_trace.specs.Places.{arrived}
+use Rattle.run_trace.specs.Local.{Local, Doing}
+use Rattle.run_trace.specs.Steps.{say, put, arrive, thread_in, thread_out, slot_out, slots_in, name_in, next_name, birth, gives, ends}
+use Rattle.run_trace.specs.Machine.{free_slot, end_thread}
+use Rattle.run_trace.specs.Cluster.{Net}
+use Rattle.run_trace.specs.Keyed.{StandsFor}
+use Rattle.run_trace.specs.Spots.{Stays, Ready, Due, Needs, Ends, Leaves, Awaits, Life, Unborn, On, Noting, Gone, Response, Spot, Spots, Holder, Of_node, Of_thread, Nobody, update, at_node, after_label, gave_life, born_spot, asked_priority}
+use Rattle.run_trace.specs.Rules.{is_free, least_free}
+use Rattle.run_trace.specs.Stands.{Here, Agrees, Busy, busy, busy_name, busy_part, thread_part, thread_in_life, row_part, row_in_life, listed, listed_name, way_of, phase_of, phase_at, Before, During, slots_in_life, is_thread}
+use Rattle.trace_laws.proofs.Tids.{is-true, is-refl, is-false, is-flip, same_name}
+use Rattle.trace_laws.proofs.KeyedLemmas.{kept, added, unfronted, refronted, map_kept, map_removed, map_added}
+use Rattle.trace_laws.proofs.Births.{get-push, get-past}
+use Rattle.trace_laws.proofs.Midst.{Links, Midst, Plain, plain, under, LinkStands, spots_with, spots_at, labelled, here_kept, agrees_kept, links_kept}
+use Rattle.trace_laws.proofs.Parts.{listed_arrived, home_quiet, frame_home, away_thread, away_row, busy_none}
+use Rattle.trace_laws.proofs.Steps.{in_hand, thread_was, row_was, busy_was, send_step}
+
+-- ## Holders
+
+thread_holds : (t : Tid) (h : Holder) → is_thread t h ≡ true → h ≡ Of_thread t
+thread_holds t (Of_node m) e = absurd (cc e)
+thread_holds t Nobody e = absurd (cc e)
+thread_holds t (Of_thread u) e = ap Of_thread (sym (is-true t u e))
+
+node_holds : (n : ℕ) (h : Holder) → is_free n h ≡ true → h ≡ Of_node n
+node_holds n (Of_node m) e = ap Of_node (eqb-true m n e)
+node_holds n (Of_thread u) e = absurd (cc e)
+node_holds n Nobody e = absurd (cc e)
+
+unborn_of : (life : Life) → Before ≡ phase_of life → life ≡ Unborn
+unborn_of Unborn e = refl
+unborn_of (On n stage) e = absurd (cc e)
+unborn_of (Noting n end) e = absurd (cc e)
+unborn_of (Gone end) e = absurd (cc e)
+
+-- a thread whose slots change hands; all else as agrees_kept
+agrees_slots : (p : Program) (w : Spots) (t : Tid) (s : Spot) (f : ℕ → Holder) → Agrees p w
+    → phase_of s.life ≡ phase_of (w.threads t).life
+    → ((u : Tid) (m : ℕ) → (w.threads t).life ≡ On m (Awaits u) → ⊥)
+    → ((w.threads t).life ≡ Unborn → ⊥)
+    → Plain s.life
+    → ((u : Tid) (y : ℕ) → has y (slots_in_life (update w.threads t s u).life (update w.threads t s u).guest) ≡ is_thread u (f y))
+    → Agrees p (spots_with (update w.threads t s) f w.births w.halts)
+agrees_slots p w t s f a phase quiet born idle slots = record {
+  waits = λ u by at e. elim (is_tid t by) as (λ v. (cond v s (w.threads by)).life ≡ On at (Awaits u) → slice_get (w.births u.home) u.seq ≡ Some (Awaited by at)) [ true ↦ λ g. absurd (idle.waits u at g) | false ↦ λ g. a.waits u by at g ] e;
+  stays = λ u m e. elim (is_tid t u) as (λ v. (cond v s (w.threads u)).life ≡ On m Stays → w.halts m ≡ true) [ true ↦ λ g. absurd (idle.stays m g) | false ↦ λ g. a.stays u m g ] e;
+  homes = λ u out. elim (is_tid t u) as (λ v. is_tid t u ≡ v → (cond v s (w.threads u)).life ≡ Unborn) [
+    | true ↦ λ e. absurd (born (subst (λ x. (w.threads x).life ≡ Unborn) (sym (is-true t u e)) (a.homes u out)))
+    | false ↦ λ e. a.homes u out
+  ] refl;
+  named = λ u. elim (is_tid t u) as (λ v. is_tid t u ≡ v → phase_at (slice_get (w.births u.home) u.seq) ≡ phase_of (cond v s (w.threads u)).life) [
+    | true ↦ λ e. a.named u ∙ ap (λ x. phase_of (w.threads x).life) (sym (is-true t u e)) ∙ sym phase
+    | false ↦ λ e. a.named u
+  ] refl;
+  awaits = λ u by at e. elim (is_tid t by) as (λ v. is_tid t by ≡ v → (cond v s (w.threads by)).life ≡ On at (Awaits u)) [
+    | true ↦ λ f. absurd (quiet u at (subst (λ x. (w.threads x).life ≡ On at (Awaits u)) (sym (is-true t by f)) (a.awaits u by at e)))
+    | false ↦ λ f. a.awaits u by at e
+  ] refl;
+  slots = slots;
+}
+
+-- ## Ends
+
+module _ (p : Program) (net : Net) (q n : ℕ) (w : Spots) (L : Links) where
+  abbrev Is : Doing → List Busy → Type 0
+  Is d hand = Midst p net q n w L d hand
+
+  abbrev spot : Doing → Tid → Spot
+  spot d t = (spots_at p net q n w d).threads t
+
+  pub gives_ok : (d : Doing) (t : Tid) (end : End) (hs : List Busy) → Is d (busy t (On n (Ends end)) ∷ hs) → Is (gives t (waits wait.No (spot d t).guest) d) (busy t (On n (Leaves end)) ∷ hs)
+  unfolding gives thread_out slots_in say
+  gives_ok d t end hs m =
+      let v : Spots = spots_at p net q n w d in
+      let s : Spot = spot d t in
+      let x : s.life ≡ On n (Ends end) = in_hand p net q n w L d t (On n (Ends end)) hs m in
+      let mine : List ℕ = guest_slots s.guest in
+      let r : Spot = record s { life = On n (Leaves end); guest = gives_slots mine s.guest } in
+      let f : ℕ → Holder = λ y. cond (has y mine) (Of_node n) (v.slots y) in
+      let told : (y : ℕ) → has y mine ≡ is_thread t (v.slots y) = λ y. ap (λ z. has y (slots_in_life z s.guest)) (sym x) ∙ m.agrees.slots t y in
+      let holder : (y : ℕ) → has y mine ≡ true → v.slots y ≡ Of_thread t = λ y h. thread_holds t (v.slots y) (sym (told y) ∙ h) in
+      labelled p net q n w L L d _ (busy t (On n (Leaves end)) ∷ hs) (Gave t mine) (spots_with (update v.threads t r) f v.births v.halts) _ d.sends d.prints m
+      (ap (λ z. spots_with (update v.threads t (record s { life = gave_life z; guest = gives_slots mine s.guest })) f v.births v.halts) x)
+      (record { solo = tt; holders = holder; life = (rw x refl, refl); replies = tt; grants = tt }) (sym (append-nil d.sends)) (sym (append-nil d.prints))
+      (record {
+        threads = map_removed is_tid is-true is-refl (thread_part n) v.threads t r d.node.threads m.here.threads (thread_was p net q n w L r t (Leaves end) refl);
+        rows = kept is_tid is-true is-refl listed_name (row_part n) v.threads t r (map listed d.node.places.rows) m.here.rows (row_was p net q n w L r t (Leaves end) refl ∙ sym (row_was p net q n w L s t (Ends end) x));
+        busy = refronted is_tid is-true is-refl busy_name (busy_part n) v.threads t r hs (busy t (On n (Ends end))) (busy t (On n (Leaves end))) m.here.busy refl refl (busy_was p net q n w L r t (On n (Leaves end)) refl (eq-eqb n n refl));
+        names = m.here.names;
+        halted = m.here.halted;
+        own = λ y. has-union y d.node.slots.own mine ∙ elim (has y mine) as (λ b. cond (has y d.node.slots.own) true b ≡ is_free n (cond b (Of_node n) (v.slots y))) [
+          | true ↦ elim (has y d.node.slots.own) as (λ b. cond b true true ≡ eqb n n) [ true ↦ sym (eq-eqb n n refl) | false ↦ sym (eq-eqb n n refl) ]
+          | false ↦ elim (has y d.node.slots.own) as (λ b. has y d.node.slots.own ≡ b → cond b true false ≡ is_free n (v.slots y)) [ true ↦ λ e. sym e ∙ m.here.own y | false ↦ λ e. sym e ∙ m.here.own y ] refl
+        ];
+      })
+      (λ k e. here_kept k v t r f v.births v.halts (net.nodes k) [] (m.there k e) (frame_home n k t s r (Ends end) (Leaves end) x refl refl refl e) refl
+      (λ y. elim (has y mine) as (λ b. has y mine ≡ b → is_free k (cond b (Of_node n) (v.slots y)) ≡ is_free k (v.slots y)) [
+        | true ↦ λ h. e ∙ ap (is_free k) (sym (holder y h))
+        | false ↦ λ h. refl
+      ] refl) refl)
+      (λ i j. links_kept t r v.threads (under n L d.sends) m.links (sym (ap (λ z. way_of t z s.verdict) x)) i j)
+      (agrees_slots p v t r f m.agrees (sym (ap phase_of x)) (λ u k e. home_quiet n (Ends end) refl u k (sym x ∙ e)) (λ e. absurd (cc (e, x))) (plain _ refl)
+      (λ u y. elim (is_tid t u) as (λ b. is_tid t u ≡ b → has y (slots_in_life (cond b r (v.threads u)).life (cond b r (v.threads u)).guest) ≡ is_thread u (f y)) [
+        | true ↦ λ e. subst (λ z. false ≡ is_thread z (f y)) (is-true t u e) (elim (has y mine) as (λ b. has y mine ≡ b → false ≡ is_thread t (cond b (Of_node n) (v.slots y))) [ true ↦ λ h. refl | false ↦ λ h. sym h ∙ told y ] refl)
+        | false ↦ λ e. m.agrees.slots u y ∙ elim (has y mine) as (λ b. has y mine ≡ b → is_thread u (v.slots y) ≡ is_thread u (cond b (Of_node n) (v.slots y))) [
+          | true ↦ λ h. ap (is_thread u) (holder y h) ∙ is-flip t u e
+          | false ↦ λ h. refl
+        ] refl
+      ] refl))
+
+  pub ends_ok : (d : Doing) (t : Tid) (end : End) (hs : List Busy) → Is d (busy t (On n (Leaves end)) ∷ hs) → Is (ends t end d) hs
+  unfolding ends put say
+  ends_ok d t end hs m =
+      let v : Spots = spots_at p net q n w d in
+      let s : Spot = spot d t in
+      let x : s.life ≡ On n (Leaves end) = in_hand p net q n w L d t (On n (Leaves end)) hs m in
+      let r : Spot = record s { life = Noting n end } in
+      send_step p net q n w L d _ hs (Ended t end) t r d.node t.home (EndNote t.seq end) m refl
+      (record { solo = tt; holders = tt; life = x; replies = tt; grants = tt }) refl refl
+      (ap (λ z. way_of t z s.verdict) x) refl refl
+      (record {
+        threads = map_kept is_tid is-true is-refl (thread_part n) v.threads t r d.node.threads m.here.threads (sym (thread_was p net q n w L s t (Leaves end) x));
+        rows = kept is_tid is-true is-refl listed_name (row_part n) v.threads t r (map listed d.node.places.rows) m.here.rows (sym (row_was p net q n w L s t (Leaves end) x));
+        busy = unfronted is_tid is-true is-refl busy_name (busy_part n) v.threads t r hs (busy t (On n (Leaves end))) m.here.busy refl refl;
+      }) refl refl refl
+      (λ k e. record {
+        thread = sym (away_thread n k t s (Leaves end) x e);
+        row = sym (away_row n k t s (Leaves end) x e);
+        busy = sym (busy_none k t s (On n (Leaves end)) x e);
+      })
+      (sym (ap phase_of x))
+      (λ u k e. home_quiet n (Leaves end) refl u k (sym x ∙ e))
+      (sym (ap (λ z. slots_in_life z s.guest) x))
+      (λ e. absurd (cc (e, x))) (plain _ refl)
+
+  pub end_thread_ok : (d : Doing) (t : Tid) (end : End) (hs : List Busy) → Is d (busy t (On n (Ends end)) ∷ hs) → Is (end_thread t (waits wait.No (spot d t).guest) end d) hs
+  end_thread_ok d t end hs m = ends_ok (gives t (waits wait.No (spot d t).guest) d) t end hs (gives_ok d t end hs m)
+
+-- ## Births
+
+-- all that is said of these spots, with node n in the state s
+record World (p : Program) (net : Net) (n : ℕ) (v : Spots) (M : Links) (s : Local) (hand : List Busy) : Type 0 where
+  here : Here n v s hand
+  there : (k : ℕ) → eqb n k ≡ false → Here k v (net.nodes k) []
+  links : (i j : ℕ) → LinkStands i j (M i j) v.threads
+  agrees : Agrees p v
+
+-- a node with one more thread
+abbrev with_newborn : ℕ → Tid → Thread → ℕ → ℕ → Local → Local
+with_newborn n t x priority slot s = record s {
+  slots = record s.slots { own = minus s.slots.own (slot ∷ []) };
+  threads = insert_entry tid_cmp s.threads t x;
+  places = arrived t priority s.places;
+  names = s.names ++ Lives ∷ [];
+}
+
+module _ (p : Program) (net : Net) (n : ℕ) (v : Spots) (M : Links) (s : Local) (hand : List Busy) (below : nat_lt n (nodes_of p) ≡ true) (g : Guest) (verdict : Response) (slot : ℕ) (holder : v.slots slot ≡ Of_node n) (mine : guest_slots g ≡ slot ∷ []) where
+  abbrev new_name : Tid
+  new_name = tid n (length (v.births n))
+
+  abbrev new_spot : Spot
+  new_spot = record { life = On n Ready; guest = g; verdict = verdict }
+
+  abbrev born_spots : Spots
+  born_spots = spots_with (update v.threads new_name new_spot) (at_node v.slots slot (Of_thread new_name)) (at_node v.births n (v.births n ++ Lives ∷ [])) v.halts
+
+  unborn : World p net n v M s hand → (v.threads new_name).life ≡ Unborn
+  unborn o = unborn_of (v.threads new_name).life (sym (ap phase_at (get-past (v.births n))) ∙ o.agrees.named new_name)
+
+  -- the births of another thread are as before
+  other_births : (u : Tid) → is_tid new_name u ≡ false → slice_get (at_node v.births n (v.births n ++ Lives ∷ []) u.home) u.seq ≡ slice_get (v.births u.home) u.seq
+  other_births u e = elim (eqb n u.home) as (λ b. eqb n u.home ≡ b → slice_get (cond b (v.births n ++ Lives ∷ []) (v.births u.home)) u.seq ≡ slice_get (v.births u.home) u.seq) [
+    | true ↦ λ h.
+        let home : n ≡ u.home = eqb-true n u.home h in
+        subst (λ k. slice_get (v.births n ++ Lives ∷ []) u.seq ≡ slice_get (v.births k) u.seq) home
+        (get-push (v.births n) Lives u.seq ∙ elim (eqb u.seq (length (v.births n))) as (λ b. eqb u.seq (length (v.births n)) ≡ b → cond b (Some Lives) (slice_get (v.births n) u.seq) ≡ slice_get (v.births n) u.seq) [
+          | true ↦ λ k. absurd (is-false new_name u e (same_name new_name u home (sym (eqb-true u.seq (length (v.births n)) k))))
+          | false ↦ λ k. refl
+        ] refl)
+    | false ↦ λ h. refl
+  ] refl
+
+  own_birth : slice_get (at_node v.births n (v.births n ++ Lives ∷ []) n) (length (v.births n)) ≡ Some Lives
+  own_birth = rw (eq-eqb n n refl) (get-push (v.births n) Lives (length (v.births n)) ∙ (rw (eq-eqb (length (v.births n)) (length (v.births n)) refl) refl))
+
+  newcomer : World p net n v M s hand → World p net n born_spots M (with_newborn n new_name (waits wait.No g) g.priority slot s) hand
+  newcomer o =
+      let t : Tid = new_name in
+      let old : Spot = v.threads t in
+      let x : old.life ≡ Unborn = unborn o in
+      record {
+        here = record {
+          threads = map_added is_tid is-true is-refl tid_cmp (λ a b. refl) (thread_part n) v.threads t new_spot s.threads (waits wait.No g) o.here.threads (ap (λ z. thread_in_life n z old.guest) x) (rw (eq-eqb n n refl) refl);
+          rows = subst (λ rows. StandsFor is_tid listed_name (row_part n) rows (update v.threads t new_spot)) (sym (listed_arrived_at t))
+              (added is_tid is-true is-refl listed_name (row_part n) v.threads t new_spot (map listed s.places.rows) _ o.here.rows refl (ap (λ z. row_in_life n t z old.guest.priority) x) (rw (eq-eqb n n refl) refl));
+          busy = kept is_tid is-true is-refl busy_name (busy_part n) v.threads t new_spot hand o.here.busy (sym (busy_none n t old Unborn x refl));
+          names = rw (eq-eqb n n refl) (ap (λ bs. bs ++ Lives ∷ []) o.here.names);
+          own = λ y. has-minus y s.slots.own (slot ∷ []) ∙ elim (eqb slot y) as (λ b. cond (cond b true false) false (has y s.slots.own) ≡ is_free n (cond b (Of_thread t) (v.slots y))) [ true ↦ refl | false ↦ o.here.own y ];
+          halted = o.here.halted;
+        };
+        there = λ k e. here_kept k v t new_spot (at_node v.slots slot (Of_thread t)) (at_node v.births n (v.births n ++ Lives ∷ [])) v.halts (net.nodes k) [] (o.there k e)
+            (record {
+              thread = away_thread n k t new_spot Ready refl e ∙ sym (ap (λ z. thread_in_life k z old.guest) x);
+              row = away_row n k t new_spot Ready refl e ∙ sym (ap (λ z. row_in_life k t z old.guest.priority) x);
+              busy = sym (busy_none k t old Unborn x refl);
+            })
+            (rw e refl)
+            (λ y. elim (eqb slot y) as (λ b. eqb slot y ≡ b → is_free k (cond b (Of_thread t) (v.slots y)) ≡ is_free k (v.slots y)) [
+              | true ↦ λ h. sym e ∙ ap (is_free k) (sym holder ∙ ap v.slots (eqb-true slot y h))
+              | false ↦ λ h. refl
+            ] refl)
+            refl;
+        links = λ i j. links_kept t new_spot v.threads M o.links (sym (ap (λ z. way_of t z old.verdict) x)) i j;
+        agrees = record {
+          homes = λ u out. elim (is_tid t u) as (λ b. is_tid t u ≡ b → (cond b new_spot (v.threads u)).life ≡ Unborn) [
+            | true ↦ λ e. let h : n ≡ u.home = ap (λ (z : Tid). z.home) (is-true t u e) in absurd (cc (below, out, ap (λ k. nat_lt k (nodes_of p)) h))
+            | false ↦ λ e. o.agrees.homes u out
+          ] refl;
+          named = λ u. elim (is_tid t u) as (λ b. is_tid t u ≡ b → phase_at (slice_get (at_node v.births n (v.births n ++ Lives ∷ []) u.home) u.seq) ≡ phase_of (cond b new_spot (v.threads u)).life) [
+            | true ↦ λ e. subst (λ (z : Tid). phase_at (slice_get (at_node v.births n (v.births n ++ Lives ∷ []) z.home) z.seq) ≡ During) (is-true t u e) (ap phase_at own_birth)
+            | false ↦ λ e. ap phase_at (other_births u e) ∙ o.agrees.named u
+          ] refl;
+          waits = λ u by at e. elim (is_tid t by) as (λ b. (cond b new_spot (v.threads by)).life ≡ On at (Awaits u) → slice_get (at_node v.births n (v.births n ++ Lives ∷ []) u.home) u.seq ≡ Some (Awaited by at)) [
+            | true ↦ λ f. absurd (cc f)
+            | false ↦ λ f.
+                let was : slice_get (v.births u.home) u.seq ≡ Some (Awaited by at) = o.agrees.waits u by at f in
+                elim (is_tid t u) as (λ b. is_tid t u ≡ b → slice_get (at_node v.births n (v.births n ++ Lives ∷ []) u.home) u.seq ≡ Some (Awaited by at)) [
+                  | true ↦ λ g. let none : slice_get (v.births u.home) u.seq ≡ None = subst (λ (z : Tid). slice_get (v.births z.home) z.seq ≡ None) (is-true t u g) (get-past (v.births n)) in absurd (cc (was, none))
+                  | false ↦ λ g. other_births u g ∙ was
+                ] refl
+          ] e;
+          stays = λ u k e. elim (is_tid t u) as (λ b. (cond b new_spot (v.threads u)).life ≡ On k Stays → v.halts k ≡ true) [ true ↦ λ f. absurd (cc f) | false ↦ λ f. o.agrees.stays u k f ] e;
+          awaits = λ u by at e. elim (is_tid t u) as (λ b. is_tid t u ≡ b → (update v.threads t new_spot by).life ≡ On at (Awaits u)) [
+            | true ↦ λ f. let same : Some Lives ≡ Some (Awaited by at) = sym own_birth ∙ subst (λ (z : Tid). slice_get (at_node v.births n (v.births n ++ Lives ∷ []) z.home) z.seq ≡ Some (Awaited by at)) (sym (is-true t u f)) e in absurd (cc same)
+            | false ↦ λ f.
+                let was : (v.threads by).life ≡ On at (Awaits u) = o.agrees.awaits u by at (sym (other_births u f) ∙ e) in
+                elim (is_tid t by) as (λ b. is_tid t by ≡ b → (cond b new_spot (v.threads by)).life ≡ On at (Awaits u)) [
+                  | true ↦ λ h. absurd (cc (x, was, ap (λ z. (v.threads z).life) (is-true t by h)))
+                  | false ↦ λ h. was
+                ] refl
+          ] refl;
+          slots = λ u y. elim (is_tid t u) as (λ b. is_tid t u ≡ b → has y (slots_in_life (cond b new_spot (v.threads u)).life (cond b new_spot (v.threads u)).guest) ≡ is_thread u (cond (eqb slot y) (Of_thread t) (v.slots y))) [
+            | true ↦ λ e. ap (λ xs. has y xs) mine ∙ subst (λ z. cond (eqb slot y) true false ≡ is_thread z (cond (eqb slot y) (Of_thread t) (v.slots y))) (is-true t u e)
+                (elim (eqb slot y) as (λ b. cond b true false ≡ is_thread t (cond b (Of_thread t) (v.slots y))) [
+                  | true ↦ sym (is-refl t)
+                  | false ↦ ap (λ z. has y (slots_in_life z old.guest)) (sym x) ∙ o.agrees.slots t y
+                ])
+            | false ↦ λ e. o.agrees.slots u y ∙ elim (eqb slot y) as (λ b. eqb slot y ≡ b → is_thread u (v.slots y) ≡ is_thread u (cond b (Of_thread t) (v.slots y))) [
+              | true ↦ λ h. ap (is_thread u) (sym (ap v.slots (eqb-true slot y h)) ∙ holder) ∙ sym (is-flip t u e)
+              | false ↦ λ h. refl
+            ] refl
+          ] refl;
+        };
+      }
+    where
+      listed_arrived_at : (t : Tid) → map listed (arrived t g.priority s.places).rows ≡ map listed s.places.rows ++ (record { tid = t; priority = g.priority }) ∷ []
+      listed_arrived_at t = listed_arrived t g.priority s.places
+
+-- ## The steps of a birth
+
+-- a node's least slot is the least that no thread holds
+pub least_is : (n : ℕ) (v : Spots) (s : Local) (hand : List Busy) → Here n v s hand → least_free n v ≡ free_slot s.slots.own
+least_is n v s hand h = lowest_run-same (λ x. is_free n (v.slots x)) (λ x. has x s.slots.own) 1 4096 (λ x. sym (h.own x))
+
+one_run : (slot : ℕ) → has slot (run slot 1) ≡ true
+one_run slot = has-run slot slot 1 ∙ grind (arith, ltb-true slot slot, lt-ltb slot (slot + 1))
+
+least_held : (n : ℕ) (v : Spots) (slot : ℕ) → least_free n v ≡ Some slot → v.slots slot ≡ Of_node n
+least_held n v slot e = node_holds n (v.slots slot) (found (λ x. is_free n (v.slots x)) 1 4096 slot slot e (one_run slot))
+
+module _ (p : Program) (net : Net) (q n : ℕ) (w : Spots) (L : Links) (below : nat_lt n (nodes_of p) ≡ true) where
+  abbrev Is_so : Doing → List Busy → Type 0
+  Is_so d hand = Midst p net q n w L d hand
+
+  -- the first thread
+  pub main_born_ok : (d : Doing) (slot : ℕ) → Is_so d [] → n ≡ 0 → free_slot d.node.slots.own ≡ Some slot → Is_so (birth n why.Main p.image.main 0 main_priority slot d) []
+  unfolding birth arrive thread_in name_in slot_out say
+  main_born_ok d slot m zero free =
+      let v : Spots = spots_at p net q n w d in
+      let t : Tid = tid n (length (v.births n)) in
+      let g : Guest = newborn p.image.main 0 0 (stack_end slot) slot main_priority in
+      let least : least_free n v ≡ Some slot = least_is n v d.node [] m.here ∙ free in
+      let o : World p net n v (under n L d.sends) d.node [] = record { here = m.here; there = m.there; links = m.links; agrees = m.agrees } in
+      let holder : v.slots slot ≡ Of_node n = least_held n v slot least in
+      let new : World p net n (born_spots p net n v (under n L d.sends) d.node [] below g (record { code = 0; second = None }) slot holder refl) (under n L d.sends) (with_newborn n t (waits wait.No g) g.priority slot d.node) [] =
+      newcomer p net n v (under n L d.sends) d.node [] below g (record { code = 0; second = None }) slot holder refl o in
+      subst (λ (k : ℕ). Midst p net q n w L (record { node = with_newborn n (tid n k) (waits wait.No g) g.priority slot d.node; labels = d.labels ++ Born (tid n k) why.Main p.image.main 0 0 (stack_end slot) slot ∷ []; sends = d.sends; prints = d.prints }) [])
+      (ap length (sym m.here.names))
+      (labelled p net q n w L L d [] [] (Born t why.Main p.image.main 0 0 (stack_end slot) slot) _ _ d.sends d.prints m refl
+      (record { solo = ((refl, refl, zero), refl, refl); holders = holder; life = (unborn p net n v (under n L d.sends) d.node [] below g (record { code = 0; second = None }) slot holder refl o, refl); replies = tt; grants = least })
+      (sym (append-nil d.sends)) (sym (append-nil d.prints)) new.here new.there new.links new.agrees)
+
+  -- a thread that another one creates, which is due the new name then
+  pub born_ok : (d : Doing) (by : Tid) (e a k slot : ℕ) (hs : List Busy) → Is_so d (busy by (On n (Needs e a k)) ∷ hs) → free_slot d.node.slots.own ≡ Some slot
+      → Is_so (birth n (why.Create by) e a k slot d) (busy by (On n (Due (tid_value (next_name n d)))) ∷ hs)
+  unfolding birth arrive thread_in name_in slot_out say
+  born_ok d by e a k slot hs m free =
+      let v : Spots = spots_at p net q n w d in
+      let s : Spot = v.threads by in
+      let x : s.life ≡ On n (Needs e a k) = in_hand p net q n w L d by (On n (Needs e a k)) hs m in
+      let t : Tid = tid n (length (v.births n)) in
+      let g : Guest = newborn e a 0 (stack_end slot) slot k in
+      let r : Spot = record s { life = On n (Due (tid_value t)) } in
+      let least : least_free n v ≡ Some slot = least_is n v d.node _ m.here ∙ free in
+      let holder : v.slots slot ≡ Of_node n = least_held n v slot least in
+      let v1 : Spots = spots_with (update v.threads by r) v.slots v.births v.halts in
+      let hand : List Busy = busy by (On n (Due (tid_value t))) ∷ hs in
+      let M : Links = under n L d.sends in
+      let none : Response = record { code = 0; second = None } in
+      let served : World p net n v1 M d.node hand = record {
+        here = record {
+          threads = map_kept is_tid is-true is-refl (thread_part n) v.threads by r d.node.threads m.here.threads (thread_was p net q n w L r by (Due (tid_value t)) refl ∙ sym (thread_was p net q n w L s by (Needs e a k) x));
+          rows = kept is_tid is-true is-refl listed_name (row_part n) v.threads by r (map listed d.node.places.rows) m.here.rows (row_was p net q n w L r by (Due (tid_value t)) refl ∙ sym (row_was p net q n w L s by (Needs e a k) x));
+          busy = refronted is_tid is-true is-refl busy_name (busy_part n) v.threads by r hs (busy by (On n (Needs e a k))) (busy by (On n (Due (tid_value t)))) m.here.busy refl refl (busy_was p net q n w L r by (On n (Due (tid_value t))) refl (eq-eqb n n refl));
+          names = m.here.names;
+          own = m.here.own;
+          halted = m.here.halted;
+        };
+        there = λ j f. here_kept j v by r v.slots v.births v.halts (net.nodes j) [] (m.there j f) (frame_home n j by s r (Needs e a k) (Due (tid_value t)) x refl refl refl f) refl (λ y. refl) refl;
+        links = λ i j. links_kept by r v.threads M m.links (sym (ap (λ z. way_of by z s.verdict) x)) i j;
+        agrees = agrees_kept p v by r v.halts m.agrees (sym (ap phase_of x)) (λ u j f. home_quiet n (Needs e a k) refl u j (sym x ∙ f)) (λ y. ap (λ z. has y (slots_in_life z s.guest)) (sym x)) (λ f. absurd (cc (f, x))) (λ u j f. absurd (cc f)) (λ j f. absurd (cc f)) (λ j f. f);
+      } in
+      let new : World p net n (born_spots p net n v1 M d.node hand below g none slot holder refl) M (with_newborn n t (waits wait.No g) g.priority slot d.node) hand = newcomer p net n v1 M d.node hand below g none slot holder refl served in
+      let fresh : (v.threads t).life ≡ Unborn = unborn_of (v.threads t).life (sym (ap phase_at (get-past (v.births n))) ∙ m.agrees.named t) in
+      let same : after_label p n (Born t (why.Create by) e a 0 (stack_end slot) slot) v ≡ born_spots p net n v1 M d.node hand below g none slot holder refl =
+      ap (λ z. spots_with (update (update v.threads by r) t (born_spot n e a 0 (stack_end slot) slot (asked_priority z))) (at_node v.slots slot (Of_thread t)) (at_node v.births n (v.births n ++ Lives ∷ [])) v.halts) x in
+      subst (λ (j : ℕ). Midst p net q n w L (record { node = with_newborn n (tid n j) (waits wait.No g) g.priority slot d.node; labels = d.labels ++ Born (tid n j) (why.Create by) e a 0 (stack_end slot) slot ∷ []; sends = d.sends; prints = d.prints }) (busy by (On n (Due (tid_value (tid n j)))) ∷ hs))
+      (ap length (sym m.here.names))
+      (labelled p net q n w L L d _ hand (Born t (why.Create by) e a 0 (stack_end slot) slot) _ _ d.sends d.prints m same
+      (record { solo = ((k, x), refl, refl); holders = holder; life = (fresh, refl); replies = tt; grants = least })
+      (sym (append-nil d.sends)) (sym (append-nil d.prints)) new.here new.there new.links new.agrees)

@@ -1,0 +1,191 @@
+-- What the lists tell of a life, and where a life doesn't show.
+use Rattle.std.proofs.Common.{◌≡◌, ℕ, List, [], ◌∷◌, ◌++◌, Option, Some, None, Bool, true, false, eqb, cond, refl, sym, ap, ◌∙◌, subst, map, inl, inr}
+use Rattle.std.specs.Prelude.{◌&&◌}
+use Rattle.std.proofs.lemmas.Bool.{eqb-true}
+use Rattle.std.proofs.lemmas.List.{map-append}
+use Rattle.slot_space.specs.declared.names.Tid.{Tid}
+use Rattle.run_trace.specs.declared.node.Row.{Row}
+use Rattle.run_trace.specs.Names.{is_tid}
+use Rattle.run_trace.specs.Places.{Places, arrived, without_row, IsIn}
+use Rattle.run_trace.specs.Keyed.{AreApart, item_of}
+use Rattle.run_trace.specs.Spots.{Stage, Ready, Running, Due, Needs, Told_next, Ends, Leaves, Halts, Stays, Shows, Showing, Shown_there, Asks, Awaits, Answers, Answered, Life, Unborn, On, Noting, Gone, Response, Spot}
+use Rattle.run_trace.specs.Stands.{Listed, listed, listed_name, Busy, busy, is_busy, busy_part, thread_part, thread_in_life, row_part, row_in_life, row_in_stage, Word, Line, Line_shown, Joins, Reply, Ended_word, Way, way, way_of, on_link}
+use Rattle.trace_laws.proofs.Tids.{is-true, is-refl}
+use Rattle.trace_laws.proofs.KeyedLemmas.{without}
+use Rattle.trace_laws.proofs.Midst.{Frame, Plain}
+
+-- ## Rows
+
+row_ready : (t : Tid) (stage : Stage) (priority : ℕ) (y : Listed) → row_in_stage t stage priority ≡ Some y → (stage ≡ Ready) × (priority ≡ y.priority)
+row_ready t Ready priority y h = let e : record { tid = t; priority = priority } ≡ y = cc h in (refl, ap (λ (x : Listed). x.priority) e)
+row_ready t Running priority y h = absurd (cc h)
+row_ready t (Due code) priority y h = absurd (cc h)
+row_ready t (Needs e a k) priority y h = absurd (cc h)
+row_ready t Told_next priority y h = absurd (cc h)
+row_ready t (Ends end) priority y h = absurd (cc h)
+row_ready t (Leaves end) priority y h = absurd (cc h)
+row_ready t Halts priority y h = absurd (cc h)
+row_ready t Stays priority y h = absurd (cc h)
+row_ready t (Shows bytes) priority y h = absurd (cc h)
+row_ready t Showing priority y h = absurd (cc h)
+row_ready t Shown_there priority y h = absurd (cc h)
+row_ready t (Asks u) priority y h = absurd (cc h)
+row_ready t (Awaits u) priority y h = absurd (cc h)
+row_ready t (Answers h reply second) priority y e = absurd (cc e)
+row_ready t (Answered h) priority y e = absurd (cc e)
+
+-- a thread on the run list is ready
+pub at_row : (n : ℕ) (t : Tid) (life : Life) (priority : ℕ) (y : Listed) → row_in_life n t life priority ≡ Some y → (life ≡ On n Ready) × (priority ≡ y.priority)
+at_row n t Unborn priority y h = absurd (cc h)
+at_row n t (Noting m end) priority y h = absurd (cc h)
+at_row n t (Gone end) priority y h = absurd (cc h)
+at_row n t (On m stage) priority y h = by (eqb m n) refl h
+  where
+    by : (v : Bool) → eqb m n ≡ v → cond v (row_in_stage t stage priority) None ≡ Some y → (On m stage ≡ On n Ready) × (priority ≡ y.priority)
+    by true e g = let r = row_ready t stage priority y g in let same : m ≡ n = eqb-true m n e in (cc (same, r.0), r.1)
+    by false e g = absurd (cc g)
+
+pub row_found : (rows : List Row) (r : Row) → AreApart is_tid listed_name (map listed rows) → IsIn r rows → item_of is_tid listed_name (map listed rows) r.tid ≡ Some (listed r)
+row_found [] r a i = absurd i
+row_found (x ∷ xs) r a i = elim i as (λ v. item_of is_tid listed_name (map listed (x ∷ xs)) r.tid ≡ Some (listed r)) [
+  | inl e ↦ rw e (rw (is-refl x.tid) refl)
+  | inr j ↦ by (is_tid r.tid x.tid) refl (row_found xs r a.1 j)
+]
+  where
+    by : (v : Bool) → is_tid r.tid x.tid ≡ v → item_of is_tid listed_name (map listed xs) r.tid ≡ Some (listed r) → cond v (Some (listed x)) (item_of is_tid listed_name (map listed xs) r.tid) ≡ Some (listed r)
+    by true e g = let same : r.tid ≡ x.tid = is-true r.tid x.tid e in let n : item_of is_tid listed_name (map listed xs) x.tid ≡ None = a.0 in absurd (cc (g, n, ap (λ u. item_of is_tid listed_name (map listed xs) u) same))
+    by false e g = g
+
+pub listed_without : (t : Tid) (rows : List Row) → map listed (without_row t rows) ≡ without is_tid is-true is-refl listed_name (map listed rows) t
+listed_without t [] = refl
+listed_without t (r ∷ rs) = elim (is_tid t r.tid) as (λ v. map listed (cond v rs (r ∷ without_row t rs)) ≡ cond v (map listed rs) (listed r ∷ without is_tid is-true is-refl listed_name (map listed rs) t))
+    [ true ↦ refl | false ↦ ap (λ xs. listed r ∷ xs) (listed_without t rs) ]
+
+pub listed_arrived : (t : Tid) (priority : ℕ) (s : Places) → map listed (arrived t priority s).rows ≡ map listed s.rows ++ (record { tid = t; priority = priority }) ∷ []
+listed_arrived t priority s = map-append listed s.rows _
+
+-- ## Hands
+
+abbrev if_busy : Tid → Bool → Life → Option Busy
+if_busy t v life = cond v (Some (busy t life)) None
+
+pub at_hand : (t : Tid) (v : Bool) (life old : Life) → cond v (Some (busy t old)) None ≡ Some (busy t life) → (old ≡ life) × (v ≡ true)
+at_hand t true life old h = let e : busy t old ≡ busy t life = cc h in (ap (λ (b : Busy). b.life) e, refl)
+at_hand t false life old h = absurd (cc h)
+
+-- ## Links
+
+pub on_way : (i j : ℕ) (o : Option Way) (y : Word) → on_link i j o ≡ Some y → o ≡ way i j y
+on_way i j None y h = absurd (cc h)
+on_way i j (Some x) y h = by (eqb x.from i) (eqb x.to j) refl refl h
+  where
+    by : (u v : Bool) → eqb x.from i ≡ u → eqb x.to j ≡ v → cond (u && v) (Some x.word) None ≡ Some y → Some x ≡ way i j y
+    by true true e f g =
+        let a : x.from ≡ i = eqb-true x.from i e in let b : x.to ≡ j = eqb-true x.to j f in let c : x.word ≡ y = cc g in
+        ap (λ (k : ℕ). Some (record { from = k; to = x.to; word = x.word })) a ∙ ap (λ (k : ℕ). Some (record { from = i; to = k; word = x.word })) b ∙ ap (λ (k : Word). Some (record { from = i; to = j; word = k })) c
+    by true false e f g = absurd (cc g)
+    by false v e f g = absurd (cc g)
+
+-- what a word on the link from i to j tells of its thread
+abbrev pub Tells : Tid → ℕ → ℕ → Word → Life → Response → Type 0
+Tells t i j (Line u bytes) life v = (u ≡ t) × (life ≡ On i (Shows bytes)) × (j ≡ 0)
+Tells t i j (Line_shown u code second) life v = (u ≡ t) × (life ≡ On j Shown_there) × (i ≡ 0) × (v.code ≡ code) × (v.second ≡ second)
+Tells t i j (Joins u target) life v = (u ≡ t) × (life ≡ On i (Asks target)) × (j ≡ target.home)
+Tells t i j (Reply u code second) life v = (u ≡ t) × (life ≡ On j (Answered i)) × (v.code ≡ code) × (v.second ≡ second)
+Tells t i j (Ended_word u end) life v = (u ≡ t) × (life ≡ Noting i end) × (j ≡ t.home)
+
+pub at_way : (t : Tid) (life : Life) (v : Response) (x : Way) → way_of t life v ≡ Some x → Tells t x.from x.to x.word life v
+at_way t Unborn v x h = absurd (cc h)
+at_way t (Noting m end) v x h = let e : record { from = m; to = t.home; word = Ended_word t end } ≡ x = cc h in subst (λ (y : Way). Tells t y.from y.to y.word (Noting m end) v) e (refl, refl, refl)
+at_way t (Gone end) v x h = absurd (cc h)
+at_way t (On m (Shows bytes)) v x h = let e : record { from = m; to = 0; word = Line t bytes } ≡ x = cc h in subst (λ (y : Way). Tells t y.from y.to y.word (On m (Shows bytes)) v) e (refl, refl, refl)
+at_way t (On m Shown_there) v x h = let e : record { from = 0; to = m; word = Line_shown t v.code v.second } ≡ x = cc h in subst (λ (y : Way). Tells t y.from y.to y.word (On m Shown_there) v) e (refl, refl, refl, refl, refl)
+at_way t (On m (Asks u)) v x h = let e : record { from = m; to = u.home; word = Joins t u } ≡ x = cc h in subst (λ (y : Way). Tells t y.from y.to y.word (On m (Asks u)) v) e (refl, refl, refl)
+at_way t (On m (Answered k)) v x h = let e : record { from = k; to = m; word = Reply t v.code v.second } ≡ x = cc h in subst (λ (y : Way). Tells t y.from y.to y.word (On m (Answered k)) v) e (refl, refl, refl, refl)
+at_way t (On m Ready) v x h = absurd (cc h)
+at_way t (On m Running) v x h = absurd (cc h)
+at_way t (On m (Due code)) v x h = absurd (cc h)
+at_way t (On m (Needs e a k)) v x h = absurd (cc h)
+at_way t (On m Told_next) v x h = absurd (cc h)
+at_way t (On m (Ends end)) v x h = absurd (cc h)
+at_way t (On m (Leaves end)) v x h = absurd (cc h)
+at_way t (On m Halts) v x h = absurd (cc h)
+at_way t (On m Stays) v x h = absurd (cc h)
+at_way t (On m Showing) v x h = absurd (cc h)
+at_way t (On m (Awaits u)) v x h = absurd (cc h)
+at_way t (On m (Answers k reply second)) v x h = absurd (cc h)
+
+-- ## Stages that show on the thread's own node alone
+
+abbrev pub is_home : Stage → Bool
+is_home Ready = true
+is_home Running = true
+is_home (Due code) = true
+is_home (Needs entry argument priority) = true
+is_home Told_next = true
+is_home (Ends end) = true
+is_home (Leaves end) = true
+is_home Halts = true
+is_home _ = false
+
+pub home_way : (t : Tid) (n : ℕ) (stage : Stage) (v : Response) → is_home stage ≡ true → way_of t (On n stage) v ≡ None
+home_way t n Ready v h = refl
+home_way t n Running v h = refl
+home_way t n (Due code) v h = refl
+home_way t n (Needs e a k) v h = refl
+home_way t n Told_next v h = refl
+home_way t n (Ends end) v h = refl
+home_way t n (Leaves end) v h = refl
+home_way t n Halts v h = refl
+home_way t n Stays v h = absurd (cc h)
+home_way t n (Shows bytes) v h = absurd (cc h)
+home_way t n Showing v h = absurd (cc h)
+home_way t n Shown_there v h = absurd (cc h)
+home_way t n (Asks u) v h = absurd (cc h)
+home_way t n (Awaits u) v h = absurd (cc h)
+home_way t n (Answers k reply second) v h = absurd (cc h)
+home_way t n (Answered k) v h = absurd (cc h)
+
+pub home_quiet : (n : ℕ) (stage : Stage) → is_home stage ≡ true → (u : Tid) (m : ℕ) → On n stage ≡ On m (Awaits u) → ⊥
+home_quiet n stage h u m e = let same : stage ≡ Awaits u = cc e in absurd (cc (ap is_home same, h))
+
+pub home_plain : (n : ℕ) (stage : Stage) → is_home stage ≡ true → Plain (On n stage)
+home_plain n stage h = record {
+  waits = λ u m e. home_quiet n stage h u m e;
+  stays = λ m e. (let same : stage ≡ Stays = cc e in absurd (cc (ap is_home same, h)));
+}
+
+home_busy : (n k : ℕ) (stage : Stage) → is_home stage ≡ true → eqb n k ≡ false → is_busy k (On n stage) ≡ false
+home_busy n k Ready h e = refl
+home_busy n k Running h e = e
+home_busy n k (Due code) h e = e
+home_busy n k (Needs a b c) h e = e
+home_busy n k Told_next h e = e
+home_busy n k (Ends end) h e = e
+home_busy n k (Leaves end) h e = e
+home_busy n k Halts h e = e
+home_busy n k Stays h e = absurd (cc h)
+home_busy n k (Shows bytes) h e = absurd (cc h)
+home_busy n k Showing h e = absurd (cc h)
+home_busy n k Shown_there h e = absurd (cc h)
+home_busy n k (Asks u) h e = absurd (cc h)
+home_busy n k (Awaits u) h e = absurd (cc h)
+home_busy n k (Answers j reply second) h e = absurd (cc h)
+home_busy n k (Answered j) h e = absurd (cc h)
+
+-- a life on node n shows on no list of threads of another node
+pub away_thread : (n k : ℕ) (t : Tid) (s : Spot) (stage : Stage) → s.life ≡ On n stage → eqb n k ≡ false → thread_part k t s ≡ None
+away_thread n k t s stage p e = ap (λ l. thread_in_life k l s.guest) p ∙ (rw e refl)
+
+pub away_row : (n k : ℕ) (t : Tid) (s : Spot) (stage : Stage) → s.life ≡ On n stage → eqb n k ≡ false → row_part k t s ≡ None
+away_row n k t s stage p e = ap (λ l. row_in_life k t l s.guest.priority) p ∙ (rw e refl)
+
+pub busy_none : (k : ℕ) (t : Tid) (s : Spot) (life : Life) → s.life ≡ life → is_busy k life ≡ false → busy_part k t s ≡ None
+busy_none k t s life p e = ap (λ l. cond (is_busy k l) (Some (busy t l)) None) p ∙ (rw e refl)
+
+pub frame_home : (n k : ℕ) (t : Tid) (r s : Spot) (a b : Stage) → r.life ≡ On n a → s.life ≡ On n b → is_home a ≡ true → is_home b ≡ true → eqb n k ≡ false → Frame k t r s
+frame_home n k t r s a b p q g h e = record {
+  thread = away_thread n k t s b q e ∙ sym (away_thread n k t r a p e);
+  row = away_row n k t s b q e ∙ sym (away_row n k t r a p e);
+  busy = busy_none k t s (On n b) q (home_busy n k b h e) ∙ sym (busy_none k t r (On n a) p (home_busy n k a g e));
+}

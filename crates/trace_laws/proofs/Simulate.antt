@@ -1,0 +1,282 @@
+-- An event of the cluster, from its start through its midst to its end.
+use Rattle.std.proofs.Common.{◌≡◌, ℕ, List, [], ◌∷◌, ◌++◌, Option, Some, None, Bool, true, false, eqb, cond, refl, sym, ap, ◌∙◌, subst}
+use Rattle.std.specs.Prelude.{nat_lt, not, slice_get, map}
+use Rattle.std.specs.Map.{lookup}
+use Rattle.std.proofs.lemmas.Bool.{eqb-true, and_parts}
+use Rattle.std.proofs.lemmas.List.{append-nil}
+use Rattle.slot_space.specs.declared.names.Tid.{Tid}
+use Rattle.marcel_core.specs.declared.birth.Birth.{Birth}
+use Rattle.marcel_core.specs.declared.birth.Birth.TheVariants.{Lives, Awaited, Detached, Ended, Over}
+use Rattle.marcel_core.specs.Homes.{is_open}
+use Rattle.run_trace.specs.declared.entry.Act.{Act}
+use Rattle.run_trace.specs.declared.entry.Act.TheVariants.{Boot, Run as RunThread, Take, Move}
+use Rattle.run_trace.specs.declared.packet.Body.{Body}
+use Rattle.run_trace.specs.declared.packet.Body.TheVariants.{Show, ShowDone, JoinAsk, Answer, EndNote}
+use Rattle.run_trace.specs.declared.packet.Packet.{Packet}
+use Rattle.run_trace.specs.declared.packet.Send.{Send}
+use Rattle.run_trace.specs.declared.node.Row.{Row}
+use Rattle.run_trace.specs.declared.node.Wait.TheVariants as wait
+use Rattle.run_trace.specs.Names.{is_tid, tid}
+use Rattle.run_trace.specs.Program.{Program, nodes_of, code_of}
+use Rattle.run_trace.specs.Guests.{Thread, run_of, waits}
+use Rattle.run_trace.specs.Places.{best}
+use Rattle.run_trace.specs.Local.{Local, Doing, nothing, with_booted}
+use Rattle.run_trace.specs.Steps.{tell}
+use Rattle.run_trace.specs.Machine.{local_event, acts, is_range, boots, boots_in, free_slot, run_picked, run_found, run_thread, takes, accepts, is_stray}
+use Rattle.run_trace.specs.Cluster.{Event, Net, net_after, next_packet, first_of, rest_of, left_after, packets_to, after_or}
+use Rattle.run_trace.specs.Keyed.{item_of}
+use Rattle.run_trace.specs.Rules.{quantum_in, all_causes, PicksBest, RunsFirst}
+use Rattle.run_trace.specs.Console.{shown_by_all}
+use Rattle.run_trace.specs.Spots.{Ready, Shown_there, Answered, Unborn, On, Noting, Response, Spots, after_labels}
+use Rattle.run_trace.specs.Stands.{Here, Stands, Line_shown, Reply, word_name, word_of, words_of, way, way_of, link_part, listed, listed_name, phase_of, phase_at, During}
+use Rattle.trace_laws.proofs.Tids.{is-refl}
+use Rattle.trace_laws.proofs.Midst.{Links, Midst, Obeyed, LinkStands, sent_words, at_link, less_word, nothing_sent}
+use Rattle.trace_laws.proofs.Parts.{at_row, row_found, on_way, at_way, Tells}
+use Rattle.trace_laws.proofs.Picking.{best_is}
+use Rattle.trace_laws.proofs.Firsts.{stops-first}
+use Rattle.trace_laws.proofs.Steps.{on_node}
+use Rattle.trace_laws.proofs.Lifetimes.{main_born_ok}
+use Rattle.trace_laws.proofs.Takes.{shows_ok, acknowledges_ok, tell_taken_ok}
+use Rattle.trace_laws.proofs.Joins.{hears_ok, knows_ok}
+use Rattle.trace_laws.proofs.Events.{stops_ok}
+
+abbrev pub under_way : Net → Links
+under_way net i j = words_of j (net.links i j)
+
+-- what an act leaves on the links
+abbrev pub left : Net → ℕ → Act → Links
+left net n a i j = words_of j (cond (eqb n j) (left_after i a (net.links i j)) (net.links i j))
+
+begins : (p : Program) (q n : ℕ) (w : Spots) (net : Net) → Stands p w net → Midst p net q n w (under_way net) (nothing (net.nodes n)) []
+begins p q n w net s = record {
+  allowed = record { solo = tt; holders = tt; life = tt; replies = tt; grants = tt };
+  sends = refl;
+  prints = refl;
+  here = s.nodes n;
+  there = λ k e. s.nodes k;
+  links = λ i j. nothing_sent n (under_way net) i j w.threads (s.links i j);
+  agrees = s.agrees;
+}
+
+-- ## The end of an event
+
+abbrev pub event : (stamp n round : ℕ) → Act → Option Packet → Doing → Event
+event stamp n round a o d = record { stamp = stamp; node = n; round = round; act = a; took = o; labels = d.labels; sends = d.sends; prints = d.prints }
+
+packets_words : (j s : ℕ) (xs : List Send) → words_of j (packets_to j s xs) ≡ sent_words j xs
+packets_words j s [] = refl
+packets_words j s (x ∷ xs) = elim (eqb x.to j) as (λ v. words_of j (cond v ((record { stamp = s; body = x.body }) ∷ packets_to j s xs) (packets_to j s xs)) ≡ cond v (word_of j x.body ∷ sent_words j xs) (sent_words j xs))
+    [ true ↦ ap (λ bs. word_of j x.body ∷ bs) (packets_words j s xs) | false ↦ packets_words j s xs ]
+
+words_append : (j : ℕ) (ps qs : List Packet) → words_of j (ps ++ qs) ≡ words_of j ps ++ words_of j qs
+words_append j [] qs = refl
+words_append j (p ∷ ps) qs = ap (λ bs. word_of j p.body ∷ bs) (words_append j ps qs)
+
+words_after : (b : Bool) (ps : List Packet) (j s : ℕ) (xs : List Send) → words_of j ps ++ cond b (sent_words j xs) [] ≡ words_of j (ps ++ cond b (packets_to j s xs) [])
+words_after true ps j s xs = ap (λ bs. words_of j ps ++ bs) (sym (packets_words j s xs)) ∙ sym (words_append j ps (packets_to j s xs))
+words_after false ps j s xs = append-nil (words_of j ps) ∙ sym (ap (words_of j) (append-nil ps))
+
+ends_well : (p : Program) (q : ℕ) (w : Spots) (net : Net) (stamp n round : ℕ) (a : Act) (o : Option Packet) (d : Doing) (M : Links) → local_event p n (net.nodes n) a o ≡ Some d → Midst p net q n w M d [] → ((i j : ℕ) → M i j ≡ left net n a i j)
+    → Stands p (after_labels p n d.labels w) (net_after p net (event stamp n round a o d))
+ends_well p q w net stamp n round a o d M is m same =
+    let v : Spots = after_labels p n d.labels w in
+    record {
+      nodes = λ k. elim (eqb n k) as (λ b. eqb n k ≡ b → Here k v (cond b (after_or (local_event p k (net.nodes k) a o) (net.nodes k)) (net.nodes k)) []) [
+        | true ↦ λ e. subst (λ k. Here k v (after_or (local_event p k (net.nodes k) a o) (net.nodes k)) []) (eqb-true n k e) (subst (λ z. Here n v (after_or z (net.nodes n)) []) (sym is) m.here)
+        | false ↦ λ e. m.there k e
+      ] refl;
+      links = λ i j. subst (λ bs. LinkStands i j bs v.threads)
+          (ap (λ bs. bs ++ cond (eqb n i) (sent_words j d.sends) []) (same i j) ∙ words_after (eqb n i) (cond (eqb n j) (left_after i a (net.links i j)) (net.links i j)) j stamp d.sends) (m.links i j);
+      agrees = m.agrees;
+    }
+
+-- what an event keeps, and the rules that it obeys
+pub record Simulates (p : Program) (w : Spots) (net : Net) (e : Event) : Type 0 where
+  pub allowed : Obeyed p (quantum_in e.act) e.node e.labels w
+  pub sends : e.sends ≡ all_causes p e.node e.labels w
+  pub prints : e.prints ≡ shown_by_all p e.node e.labels w
+  pub picks : PicksBest e.act (net.nodes e.node).places.rows e.labels
+  pub stands : Stands p (after_labels p e.node e.labels w) (net_after p net e)
+
+simulated : (p : Program) (w : Spots) (net : Net) (stamp n round : ℕ) (a : Act) (o : Option Packet) (d : Doing) (M : Links) → local_event p n (net.nodes n) a o ≡ Some d → Midst p net (quantum_in a) n w M d [] → ((i j : ℕ) → M i j ≡ left net n a i j)
+    → PicksBest a (net.nodes n).places.rows d.labels → Simulates p w net (event stamp n round a o d)
+simulated p w net stamp n round a o d M is m same picks = record { allowed = m.allowed; sends = m.sends; prints = m.prints; picks = picks; stands = ends_well p (quantum_in a) w net stamp n round a o d M is m same }
+
+-- ## The packet that is taken
+
+words_left : (net : Net) (n f : ℕ) (p : Packet) → Some p ≡ first_of (net.links f n) → (i j : ℕ) → at_link f n (less_word (word_name (word_of n p.body))) (under_way net) i j ≡ left net n (Take f) i j
+words_left net n f p h i j = sym (by_tests (eqb n j) (eqb f i) (net.links i j) refl (λ x y. let a : n ≡ j = eqb-true n j x in let b : f ≡ i = eqb-true f i y in cc (h, a, b)))
+  where
+    head_off : (ps : List Packet) → n ≡ j → Some p ≡ first_of ps → words_of j (rest_of ps) ≡ less_word (word_name (word_of n p.body)) (words_of j ps)
+    head_off [] a h = absurd (cc h)
+    head_off (q ∷ ps) a h =
+        let e : p ≡ q = cc h in
+        let same : word_name (word_of n p.body) ≡ word_name (word_of j q.body) = ap (λ k. word_name (word_of k p.body)) a ∙ ap (λ (z : Packet). word_name (word_of j z.body)) e in
+        subst (λ t. words_of j ps ≡ less_word t (word_of j q.body ∷ words_of j ps)) (sym same) (rw (is-refl (word_name (word_of j q.body))) refl)
+
+    by_tests : (x y : Bool) (ps : List Packet) → eqb n j ≡ x → (x ≡ true → y ≡ true → Some p ≡ first_of ps)
+        → words_of j (cond x (cond y (rest_of ps) ps) ps) ≡ cond y (cond x (less_word (word_name (word_of n p.body)) (words_of j ps)) (words_of j ps)) (words_of j ps)
+    by_tests true true ps e h = head_off ps (eqb-true n j e) (h refl refl)
+    by_tests true false ps e h = refl
+    by_tests false true ps e h = refl
+    by_tests false false ps e h = refl
+
+none_left : (net : Net) (n : ℕ) (a : Act) → ((i : ℕ) (ps : List Packet) → left_after i a ps ≡ ps) → (i j : ℕ) → under_way net i j ≡ left net n a i j
+none_left net n a h i j = elim (eqb n j) as (λ v. words_of j (net.links i j) ≡ words_of j (cond v (left_after i a (net.links i j)) (net.links i j))) [ true ↦ ap (words_of j) (sym (h i (net.links i j))) | false ↦ refl ]
+
+-- what the first packet of a link tells of its thread
+first_tells : (p : Program) (w : Spots) (net : Net) → Stands p w net → (f n : ℕ) (x : Packet) → Some x ≡ first_of (net.links f n)
+    → Tells (word_name (word_of n x.body)) f n (word_of n x.body) (w.threads (word_name (word_of n x.body))).life (w.threads (word_name (word_of n x.body))).verdict
+first_tells p w net s f n x h =
+    let t : Tid = word_name (word_of n x.body) in
+    let part : link_part f n t (w.threads t) ≡ Some (word_of n x.body) = sym ((s.links f n).shows t) ∙ head_of (net.links f n) h in
+    at_way t (w.threads t).life (w.threads t).verdict _ (on_way f n (way_of t (w.threads t).life (w.threads t).verdict) (word_of n x.body) part)
+  where
+    head_of : (ps : List Packet) → Some x ≡ first_of ps → item_of is_tid word_name (words_of n ps) (word_name (word_of n x.body)) ≡ Some (word_of n x.body)
+    head_of [] h = absurd (cc h)
+    head_of (y ∷ ps) h = let e : x ≡ y = cc h in subst (λ (z : Packet). item_of is_tid word_name (word_of n z.body ∷ words_of n ps) (word_name (word_of n x.body)) ≡ Some (word_of n x.body)) e (rw (is-refl (word_name (word_of n x.body))) refl)
+
+open_birth : (b : Option Birth) → phase_at b ≡ During → is_open b ≡ true
+open_birth None e = absurd (cc e)
+open_birth (Some Lives) e = refl
+open_birth (Some (Awaited by at)) e = refl
+open_birth (Some Detached) e = refl
+open_birth (Some (Ended end)) e = absurd (cc e)
+open_birth (Some Over) e = absurd (cc e)
+
+module _ (p : Program) (w : Spots) (net : Net) (s : Stands p w net) (q n : ℕ) where
+  here : Midst p net q n w (under_way net) (nothing (net.nodes n)) []
+  here = begins p q n w net s
+
+  in_cluster : (t : Tid) → ((w.threads t).life ≡ Unborn → ⊥) → nat_lt t.home (nodes_of p) ≡ true
+  in_cluster t h = elim (nat_lt t.home (nodes_of p)) as (λ v. nat_lt t.home (nodes_of p) ≡ v → v ≡ true) [ true ↦ λ e. refl | false ↦ λ e. absurd (h (s.agrees.homes t e)) ] refl
+
+  record Taken (i : ℕ) (body : Body) : Type 0 where
+    expected : is_stray p n (net.nodes n) body ≡ false
+    comes : Midst p net q n w (at_link i n (less_word (word_name (word_of n body))) (under_way net)) (accepts n i body (net.nodes n)) []
+
+  taken : (i : ℕ) (x : Packet) → Some x ≡ first_of (net.links i n) → Taken i x.body
+  taken i x h = by x.body (first_tells p w net s i n x h)
+    where
+      by : (body : Body) → Tells (word_name (word_of n body)) i n (word_of n body) (w.threads (word_name (word_of n body))).life (w.threads (word_name (word_of n body))).verdict → Taken i body
+      by (Show t bytes) k = record {
+        expected = rw (k.2, in_cluster t (λ e. absurd (cc (e, k.1)))) refl;
+        comes = acknowledges_ok p net q n w (at_link i n (less_word t) (under_way net)) _ t i [] (shows_ok p net q n w (under_way net) (net.nodes n) i t bytes here k.1 k.2);
+      }
+      by (ShowDone t) k =
+          let v : Response = (w.threads t).verdict in
+          record {
+            expected = rw (on_node p net q n w (under_way net) (nothing (net.nodes n)) [] t Shown_there here k.1, in_cluster t (λ e. absurd (cc (e, k.1)))) refl;
+            comes = subst (λ z. Midst p net q n w (at_link i n (less_word t) (under_way net)) (tell t z None (nothing (net.nodes n))) []) k.3
+                (subst (λ z. Midst p net q n w (at_link i n (less_word t) (under_way net)) (tell t v.code z (nothing (net.nodes n))) []) k.4
+                (tell_taken_ok p net q n w (under_way net) (net.nodes n) i t Shown_there wait.ForShow (Line_shown t v.code v.second) here k.1 refl (ap (λ z. way z n (Line_shown t v.code v.second)) (sym k.2)) refl refl (λ j. refl) (λ u j e. absurd (cc e)) refl));
+          }
+      by (JoinAsk t seq) k = record {
+        expected = rw (in_cluster t (λ e. absurd (cc (e, k.1)))) refl;
+        comes = hears_ok p net q n w (under_way net) (net.nodes n) i seq t here k.1;
+      }
+      by (Answer t reply second) k =
+          let v : Response = (w.threads t).verdict in
+          record {
+            expected = rw (on_node p net q n w (under_way net) (nothing (net.nodes n)) [] t (Answered i) here k.1, in_cluster t (λ e. absurd (cc (e, k.1)))) refl;
+            comes = subst (λ z. Midst p net q n w (at_link i n (less_word t) (under_way net)) (tell t z second (nothing (net.nodes n))) []) k.2
+                (subst (λ z. Midst p net q n w (at_link i n (less_word t) (under_way net)) (tell t v.code z (nothing (net.nodes n))) []) k.3
+                (tell_taken_ok p net q n w (under_way net) (net.nodes n) i t (Answered i) wait.ForAnswer (Reply t v.code v.second) here k.1 refl refl refl refl (λ j. refl) (λ u j e. absurd (cc e)) refl));
+          }
+      by (EndNote seq end) k =
+          let x : (w.threads (tid n seq)).life ≡ Noting i end = k.1 in
+          let opened : is_open (slice_get (w.births n) seq) ≡ true = open_birth (slice_get (w.births n) seq) (s.agrees.named (tid n seq) ∙ ap phase_of x) in
+          record {
+            expected = ap (λ (bs : List Birth). not (is_open (slice_get bs seq))) (s.nodes n).names ∙ ap not opened;
+            comes = knows_ok p net q n w (under_way net) (net.nodes n) i seq end here x;
+          }
+
+  -- ## A run
+
+  ran_midst : nat_lt n (nodes_of p) ≡ true → (vp : ℕ) (r : Row) (x : Thread) → best (net.nodes n).places.rows ≡ Some r → lookup (is_tid r.tid) (net.nodes n).threads ≡ Some x
+      → Midst p net q n w (under_way net) (run_thread p n vp q r.tid x (nothing (net.nodes n))) []
+  ran_midst below vp r x picked f =
+      let t : Tid = r.tid in
+      let found : item_of is_tid listed_name (map listed (net.nodes n).places.rows) t ≡ Some (listed r) = row_found (net.nodes n).places.rows r (s.nodes n).rows.apart (best_is (net.nodes n).places.rows r picked).0 in
+      let ready : (w.threads t).life ≡ On n Ready = (at_row n t (w.threads t).life (w.threads t).guest.priority (listed r) (sym ((s.nodes n).rows.shows t) ∙ found)).0 in
+      let same : Some (waits wait.No (w.threads t).guest) ≡ Some x = sym (on_node p net q n w (under_way net) (nothing (net.nodes n)) [] t Ready here ready) ∙ f in
+      let one : waits wait.No (w.threads t).guest ≡ x = cc same in
+      subst (λ z. Midst p net q n w (under_way net) (run_thread p n vp q t z (nothing (net.nodes n))) []) one (stops_ok p net q n w (under_way net) below (nothing (net.nodes n)) t vp here ready)
+
+  -- ## A beginning
+
+  boots_midst : nat_lt n (nodes_of p) ≡ true → Midst p net q n w (under_way net) (boots p n (nothing (net.nodes n))) []
+  boots_midst below = by (eqb n 0) refl
+    where
+      awake : Midst p net q n w (under_way net) (with_booted (nothing (net.nodes n))) []
+      awake = record {
+        allowed = here.allowed;
+        sends = here.sends;
+        prints = here.prints;
+        there = here.there;
+        links = here.links;
+        agrees = here.agrees;
+        here = record { threads = here.here.threads; rows = here.here.rows; busy = here.here.busy; names = here.here.names; own = here.here.own; halted = here.here.halted };
+      }
+
+      by_slot : n ≡ 0 → (o : Option ℕ) → free_slot (net.nodes n).slots.own ≡ o → Midst p net q n w (under_way net) (boots_in p n o (with_booted (nothing (net.nodes n)))) []
+      by_slot zero None f = awake
+      by_slot zero (Some slot) f = main_born_ok p net q n w (under_way net) below (with_booted (nothing (net.nodes n))) slot awake zero f
+
+      by : (v : Bool) → eqb n 0 ≡ v → Midst p net q n w (under_way net) (cond v (boots_in p n (free_slot (net.nodes n).slots.own) (with_booted (nothing (net.nodes n)))) (with_booted (nothing (net.nodes n)))) []
+      by true e = by_slot (eqb-true n 0 e) (free_slot (net.nodes n).slots.own) refl
+      by false e = awake
+
+-- the packet that comes is one that the node expects
+pub taken_expected : (p : Program) (w : Spots) (net : Net) (s : Stands p w net) (q n i : ℕ) (x : Packet) → Some x ≡ first_of (net.links i n) → is_stray p n (net.nodes n) x.body ≡ false
+taken_expected p w net s q n i x h = (taken p w net s q n i x h).expected
+
+-- ## Each act
+
+range_below : (p : Program) (n : ℕ) (s : Local) (a : Act) → is_range p n s a ≡ true → nat_lt n (nodes_of p) ≡ true
+unfolding is_range
+range_below p n s Boot h = (and_parts (nat_lt n (nodes_of p)) _ h).0
+range_below p n s (RunThread vp quantum) h = (and_parts (nat_lt n (nodes_of p)) _ h).0
+range_below p n s (Take from) h = (and_parts (nat_lt n (nodes_of p)) _ h).0
+range_below p n s (Move t to) h = absurd (cc h)
+
+opened : (p : Program) (n : ℕ) (s : Local) (a : Act) (o : Option Packet) (d : Doing) → local_event p n s a o ≡ Some d → cond (is_range p n s a) (acts p n s a o) None ≡ Some d
+unfolding local_event
+opened p n s a o d h = h
+
+-- an event in range, case by case
+acts_simulate : (p : Program) (w : Spots) (net : Net) (stamp n round : ℕ) (a : Act) (o : Option Packet) (d : Doing) → Stands p w net → nat_lt n (nodes_of p) ≡ true → local_event p n (net.nodes n) a o ≡ Some d → acts p n (net.nodes n) a o ≡ Some d → o ≡ next_packet net n a
+    → Simulates p w net (event stamp n round a o d)
+acts_simulate p w net stamp n round Boot None d s below is i h =
+    let same : boots p n (nothing (net.nodes n)) ≡ d = cc i in
+    simulated p w net stamp n round Boot None d _ is (subst (λ z. Midst p net 0 n w (under_way net) z []) same (boots_midst p w net s 0 n below)) (none_left net n Boot (λ i ps. refl)) tt
+acts_simulate p w net stamp n round (RunThread vp q) None d s below is i h = by_row (best (net.nodes n).places.rows) refl i
+  where
+    by_thread : (r : Row) → best (net.nodes n).places.rows ≡ Some r → (x : Option Thread) → lookup (is_tid r.tid) (net.nodes n).threads ≡ x → run_found p n vp q r.tid x (net.nodes n) ≡ Some d → Simulates p w net (event stamp n round (RunThread vp q) None d)
+    by_thread r e None f g = absurd (cc g)
+    by_thread r e (Some x) f g =
+        let same : run_thread p n vp q r.tid x (nothing (net.nodes n)) ≡ d = cc g in
+        simulated p w net stamp n round (RunThread vp q) None d _ is (subst (λ z. Midst p net q n w (under_way net) z []) same (ran_midst p w net s q n below vp r x e f)) (none_left net n (RunThread vp q) (λ i ps. refl))
+        (r, best_is (net.nodes n).places.rows r e, subst (λ (z : Doing). RunsFirst r.tid vp z.labels) same (stops-first r.tid vp p n x (run_of (code_of p) q x.guest.solo.state) (run_of (code_of p) q x.guest.solo.state).stop (net.nodes n)))
+
+    by_row : (r : Option Row) → best (net.nodes n).places.rows ≡ r → run_picked p n vp q r (net.nodes n) ≡ Some d → Simulates p w net (event stamp n round (RunThread vp q) None d)
+    by_row None e g = absurd (cc g)
+    by_row (Some r) e g = by_thread r e (lookup (is_tid r.tid) (net.nodes n).threads) refl g
+acts_simulate p w net stamp n round (Take from) (Some x) d s below is i h =
+    let k : Taken p w net s 0 n from x.body = taken p w net s 0 n from x h in
+    let same : takes p n from x.body (net.nodes n) ≡ d = cc i in
+    let accepted : accepts n from x.body (net.nodes n) ≡ d = sym (ap (λ z. cond z (nothing (net.nodes n)) (accepts n from x.body (net.nodes n))) k.expected) ∙ same in
+    simulated p w net stamp n round (Take from) (Some x) d _ is (subst (λ z. Midst p net 0 n w (at_link from n (less_word (word_name (word_of n x.body))) (under_way net)) z []) accepted k.comes) (words_left net n from x h) tt
+acts_simulate p w net stamp n round (Move t to) None d s below is i h = absurd (cc i)
+acts_simulate p w net stamp n round Boot (Some x) d s below is i h = absurd (cc i)
+acts_simulate p w net stamp n round (RunThread vp q) (Some x) d s below is i h = absurd (cc i)
+acts_simulate p w net stamp n round (Take from) None d s below is i h = absurd (cc i)
+acts_simulate p w net stamp n round (Move t to) (Some x) d s below is i h = absurd (cc i)
+
+pub simulates : (p : Program) (w : Spots) (net : Net) (stamp n round : ℕ) (a : Act) (o : Option Packet) (d : Doing) → Stands p w net → local_event p n (net.nodes n) a o ≡ Some d → o ≡ next_packet net n a
+    → Simulates p w net (event stamp n round a o d)
+simulates p w net stamp n round a o d s is h = by (is_range p n (net.nodes n) a) refl (opened p n (net.nodes n) a o d is)
+  where
+    by : (v : Bool) → is_range p n (net.nodes n) a ≡ v → cond v (acts p n (net.nodes n) a o) None ≡ Some d → Simulates p w net (event stamp n round a o d)
+    by true e g = acts_simulate p w net stamp n round a o d s (range_below p n (net.nodes n) a e) is g h
+    by false e g = absurd (cc g)

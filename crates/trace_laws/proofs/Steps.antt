@@ -1,0 +1,411 @@
+-- The small steps of calls, runs and replies, each on an event in its midst. What the event is busy with says all that a step needs.
+use Rattle.std.proofs.Common.{◌≡◌, ℕ, List, [], ◌∷◌, ◌++◌, Option, Some, None, true, false, eqb, cond, refl, sym, ap, ◌∙◌, subst, map}
+use Rattle.std.specs.Map.{lookup}
+use Rattle.std.proofs.lemmas.Bool.{eq-eqb}
+use Rattle.std.proofs.lemmas.List.{append-nil}
+use Rattle.slot_space.specs.Sets.{has}
+use Rattle.slot_space.specs.Replies.{reply_code}
+use Rattle.slot_space.specs.declared.names.Tid.{Tid}
+use Rattle.slot_space.specs.declared.names.Reply.TheVariants as replies
+use Rattle.rv_step.specs.Step.{State}
+use Rattle.rv_step.specs.Run.{after, StopsBy}
+use Rattle.run_trace.specs.declared.label.Label.{Label}
+use Rattle.run_trace.specs.declared.label.Label.TheVariants.{Ran, Asked, Judged, Told, Halted}
+use Rattle.run_trace.specs.declared.packet.Body.{Body}
+use Rattle.run_trace.specs.declared.packet.Body.TheVariants.{Show, JoinAsk}
+use Rattle.run_trace.specs.declared.packet.Send.{Send}
+use Rattle.run_trace.specs.declared.node.Wait.{Wait}
+use Rattle.run_trace.specs.declared.node.Wait.TheVariants as wait
+use Rattle.run_trace.specs.Names.{is_tid}
+use Rattle.run_trace.specs.Program.{Program, code_of}
+use Rattle.run_trace.specs.Guests.{Guest, Run, run_of, waits, with_state, told, guest_slots}
+use Rattle.run_trace.specs.Calls.{Call, call_of, number_of, args_of, refusal, said_bytes}
+use Rattle.run_trace.specs.Places.{Places, taken_off}
+use Rattle.run_trace.specs.Local.{Local, Doing}
+use Rattle.run_trace.specs.Steps.{say, put, arrive, take_off, keep, halt, ran, runs_out, asks, asks_show, asks_join, halts, judge, tell, tell_found, extra_of}
+use Rattle.run_trace.specs.Machine.{answer}
+use Rattle.run_trace.specs.Cluster.{Net}
+use Rattle.run_trace.specs.Keyed.{StandsFor, MapStandsFor}
+use Rattle.run_trace.specs.Spots.{Stage, Ready, Running, Due, Needs, Told_next, Halts, Stays, Shows, Asks, Awaits, Life, Unborn, On, Response, Spot, Spots, update, after_label, ran_stage, stage_of_call, second_of, judged_life, at_node}
+use Rattle.run_trace.specs.Rules.{causes, send_to, asked_causes, judged_causes, least_free}
+use Rattle.run_trace.specs.Console.{shown_by}
+use Rattle.run_trace.specs.Stands.{Busy, busy, busy_name, is_busy, busy_part, thread_part, thread_in_life, thread_in_stage, row_part, row_in_life, row_in_stage, listed, listed_name, word_name, word_of, way, way_of, phase_of, slots_in_life}
+use Rattle.trace_laws.proofs.Tids.{is-true, is-refl}
+use Rattle.trace_laws.proofs.KeyedLemmas.{kept, removed, added, replaced, fronted, unfronted, refronted, map_kept, map_set}
+use Rattle.trace_laws.proofs.RunLemmas.{run_does, run_stepped, run_slots}
+use Rattle.trace_laws.proofs.Midst.{Links, Midst, under, LinkStands, Allowed, Frame, spots_with, spots_at, labelled, here_kept, agrees_kept, Plain, plain, is_plain, links_kept, put_link, spot_then, updated}
+use Rattle.trace_laws.proofs.Parts.{at_hand, listed_without, listed_arrived, is_home, home_way, home_quiet, home_plain, frame_home, away_thread, away_row, busy_none}
+
+-- the extra of a judged call is what is told
+pub second-extra : (o : Option ℕ) → second_of (extra_of o) ≡ o
+second-extra None = refl
+second-extra (Some second) = refl
+
+module _ (p : Program) (net : Net) (q n : ℕ) (w : Spots) (L : Links) where
+  abbrev pub Is : Doing → List Busy → Type 0
+  Is d hand = Midst p net q n w L d hand
+
+  abbrev pub spot : Doing → Tid → Spot
+  spot d t = (spots_at p net q n w d).threads t
+
+  -- the lists of node n, once t's spot is r
+  pub record Ties (v : Spots) (t : Tid) (r : Spot) (now : Local) (hand : List Busy) : Type 0 where
+    pub threads : MapStandsFor is_tid (thread_part n) now.threads (update v.threads t r)
+    pub rows : StandsFor is_tid listed_name (row_part n) (map listed now.places.rows) (update v.threads t r)
+    pub busy : StandsFor is_tid busy_name (busy_part n) hand (update v.threads t r)
+
+  -- a label of one thread, that leaves slots, births and halts
+  pub moved : (M : Links) (d : Doing) (hand more : List Busy) (l : Label) (t : Tid) (r : Spot) (now : Local) (sends : List Send) (prints : List ℕ)
+      → Is d hand
+      → after_label p n l (spots_at p net q n w d) ≡ spots_with (update (spots_at p net q n w d).threads t r) (spots_at p net q n w d).slots (spots_at p net q n w d).births (spots_at p net q n w d).halts
+      → Allowed p q n l (spots_at p net q n w d)
+      → sends ≡ d.sends ++ causes p n l (spots_at p net q n w d) → prints ≡ d.prints ++ shown_by l (spots_at p net q n w d)
+      → Ties (spots_at p net q n w d) t r now more
+      → now.names ≡ d.node.names → now.slots.own ≡ d.node.slots.own → now.halted ≡ d.node.halted
+      → ((k : ℕ) → eqb n k ≡ false → Frame k t (spot d t) r)
+      → ((i j : ℕ) → LinkStands i j (under n M sends i j) (update (spots_at p net q n w d).threads t r))
+      → phase_of r.life ≡ phase_of (spot d t).life
+      → ((u : Tid) (m : ℕ) → (spot d t).life ≡ On m (Awaits u) → ⊥)
+      → slots_in_life r.life r.guest ≡ slots_in_life (spot d t).life (spot d t).guest
+      → ((spot d t).life ≡ Unborn → ⊥)
+      → Plain r.life
+      → Midst p net q n w M (record { node = now; labels = d.labels ++ l ∷ []; sends = sends; prints = prints }) more
+  moved M d hand more l t r now sends prints m same ok sent shown ties names own halted frame links phase quiet slots born idle =
+      let v : Spots = spots_at p net q n w d in
+      labelled p net q n w L M d hand more l (spots_with (update v.threads t r) v.slots v.births v.halts) now sends prints m same ok sent shown
+      (record { threads = ties.threads; rows = ties.rows; busy = ties.busy; names = names ∙ m.here.names; own = λ x. ap (λ (xs : List ℕ). has x xs) own ∙ m.here.own x; halted = halted ∙ m.here.halted })
+      (λ k e. here_kept k v t r v.slots v.births v.halts (net.nodes k) [] (m.there k e) (frame k e) refl (λ x. refl) refl)
+      links
+      (agrees_kept p v t r v.halts m.agrees phase quiet (λ x. ap (λ (xs : List ℕ). has x xs) slots) born idle.waits (λ k e. absurd (idle.stays k e)) (λ k e. e))
+
+  -- a label that leaves its thread on node n, and no packet
+  pub home_step : (d : Doing) (hand more : List Busy) (l : Label) (t : Tid) (r : Spot) (now : Local) (a b : Stage)
+      → Is d hand
+      → after_label p n l (spots_at p net q n w d) ≡ spots_with (update (spots_at p net q n w d).threads t r) (spots_at p net q n w d).slots (spots_at p net q n w d).births (spots_at p net q n w d).halts
+      → Allowed p q n l (spots_at p net q n w d)
+      → causes p n l (spots_at p net q n w d) ≡ [] → shown_by l (spots_at p net q n w d) ≡ []
+      → (spot d t).life ≡ On n a → r.life ≡ On n b → is_home a ≡ true → is_home b ≡ true
+      → slots_in_life (On n b) r.guest ≡ slots_in_life (On n a) (spot d t).guest
+      → Ties (spots_at p net q n w d) t r now more
+      → now.names ≡ d.node.names → now.slots.own ≡ d.node.slots.own → now.halted ≡ d.node.halted
+      → Is (record { node = now; labels = d.labels ++ l ∷ []; sends = d.sends; prints = d.prints }) more
+  home_step d hand more l t r now a b m same ok sent shown x y home_a home_b slots ties names own halted =
+      let s : Spot = spot d t in
+      let old : way_of t s.life s.verdict ≡ None = ap (λ z. way_of t z s.verdict) x ∙ home_way t n a s.verdict home_a in
+      let new : way_of t r.life r.verdict ≡ None = ap (λ z. way_of t z r.verdict) y ∙ home_way t n b r.verdict home_b in
+      moved L d hand more l t r now d.sends d.prints m same ok
+      (sym (append-nil d.sends) ∙ ap (λ z. d.sends ++ z) (sym sent)) (sym (append-nil d.prints) ∙ ap (λ z. d.prints ++ z) (sym shown))
+      ties names own halted
+      (λ k e. frame_home n k t s r a b x y home_a home_b e)
+      (λ i j. links_kept t r (spots_at p net q n w d).threads (under n L d.sends) m.links (new ∙ sym old) i j)
+      (ap phase_of y ∙ sym (ap phase_of x))
+      (λ u k e. home_quiet n a home_a u k (sym x ∙ e))
+      (ap (λ z. slots_in_life z r.guest) y ∙ slots ∙ sym (ap (λ z. slots_in_life z s.guest) x))
+      (λ e. absurd (cc (e, x)))
+      (subst (λ z. Plain z) (sym y) (home_plain n b home_b))
+
+  -- a label by which its thread, on node n, comes to wait for what a packet brings
+  pub send_step : (d : Doing) (hand more : List Busy) (l : Label) (t : Tid) (r : Spot) (now : Local) (to : ℕ) (body : Body)
+      → Is d hand
+      → after_label p n l (spots_at p net q n w d) ≡ spots_with (update (spots_at p net q n w d).threads t r) (spots_at p net q n w d).slots (spots_at p net q n w d).births (spots_at p net q n w d).halts
+      → Allowed p q n l (spots_at p net q n w d)
+      → causes p n l (spots_at p net q n w d) ≡ send_to to body → shown_by l (spots_at p net q n w d) ≡ []
+      → way_of t (spot d t).life (spot d t).verdict ≡ None
+      → way_of t r.life r.verdict ≡ way n to (word_of to body)
+      → word_name (word_of to body) ≡ t
+      → Ties (spots_at p net q n w d) t r now more
+      → now.names ≡ d.node.names → now.slots.own ≡ d.node.slots.own → now.halted ≡ d.node.halted
+      → ((k : ℕ) → eqb n k ≡ false → Frame k t (spot d t) r)
+      → phase_of r.life ≡ phase_of (spot d t).life
+      → ((u : Tid) (m : ℕ) → (spot d t).life ≡ On m (Awaits u) → ⊥)
+      → slots_in_life r.life r.guest ≡ slots_in_life (spot d t).life (spot d t).guest
+      → ((spot d t).life ≡ Unborn → ⊥)
+      → Plain r.life
+      → Is (record { node = now; labels = d.labels ++ l ∷ []; sends = d.sends ++ send_to to body; prints = d.prints }) more
+  send_step d hand more l t r now to body m same ok sent shown old new name ties names own halted frame phase quiet slots born idle =
+      moved L d hand more l t r now (d.sends ++ send_to to body) d.prints m same ok
+      (ap (λ z. d.sends ++ z) (sym sent)) (sym (append-nil d.prints) ∙ ap (λ z. d.prints ++ z) (sym shown))
+      ties names own halted frame
+      (λ i j. put_link n to body t r L d.sends (spots_at p net q n w d).threads m.links name old new i j)
+      phase quiet slots born idle
+
+  -- ## What the event is busy with
+
+  pub in_hand : (d : Doing) (t : Tid) (life : Life) (hs : List Busy) → Is d (busy t life ∷ hs) → (spot d t).life ≡ life
+  in_hand d t life hs m = (at_hand t (is_busy n (spot d t).life) life (spot d t).life (sym (m.here.busy.shows t) ∙ (rw (is-refl t) refl))).0
+
+  pub is_in_hand : (d : Doing) (t : Tid) (life : Life) (hs : List Busy) → Is d (busy t life ∷ hs) → is_busy n life ≡ true
+  is_in_hand d t life hs m =
+      let both = at_hand t (is_busy n (spot d t).life) life (spot d t).life (sym (m.here.busy.shows t) ∙ (rw (is-refl t) refl)) in
+      ap (is_busy n) (sym both.0) ∙ both.1
+
+  -- the thread of this stage, as it is on the node
+  pub on_node : (d : Doing) (hand : List Busy) (t : Tid) (a : Stage) → Is d hand → (spot d t).life ≡ On n a → lookup (is_tid t) d.node.threads ≡ thread_in_stage a (spot d t).guest
+  on_node d hand t a m x = m.here.threads.shows t ∙ ap (λ z. thread_in_life n z (spot d t).guest) x ∙ (rw (eq-eqb n n refl) refl)
+
+  pub thread_was : (s : Spot) (t : Tid) (a : Stage) → s.life ≡ On n a → thread_part n t s ≡ thread_in_stage a s.guest
+  thread_was s t a x = ap (λ z. thread_in_life n z s.guest) x ∙ (rw (eq-eqb n n refl) refl)
+
+  pub row_was : (s : Spot) (t : Tid) (a : Stage) → s.life ≡ On n a → row_part n t s ≡ row_in_stage t a s.guest.priority
+  row_was s t a x = ap (λ z. row_in_life n t z s.guest.priority) x ∙ (rw (eq-eqb n n refl) refl)
+
+  pub busy_was : (s : Spot) (t : Tid) (life : Life) → s.life ≡ life → is_busy n life ≡ true → busy_part n t s ≡ Some (busy t life)
+  busy_was s t life x b = ap (λ z. cond (is_busy n z) (Some (busy t z)) None) x ∙ (rw b refl)
+
+  pub idle_was : (s : Spot) (t : Tid) (life : Life) → s.life ≡ life → is_busy n life ≡ false → busy_part n t s ≡ None
+  idle_was s t life x b = busy_none n t s life x b
+
+  -- ## Replies
+
+  pub judge_ok : (d : Doing) (t : Tid) (code : ℕ) (second : Option ℕ) (a : Stage) (hs : List Busy) → Is d (busy t (On n a) ∷ hs)
+      → Allowed p q n (Judged t code (extra_of second)) (spots_at p net q n w d)
+      → after_label p n (Judged t code (extra_of second)) (spots_at p net q n w d) ≡ spots_with (update (spots_at p net q n w d).threads t (record (spot d t) { life = On n Told_next; verdict = record { code = code; second = second_of (extra_of second) } })) (spots_at p net q n w d).slots (spots_at p net q n w d).births (spots_at p net q n w d).halts
+      → causes p n (Judged t code (extra_of second)) (spots_at p net q n w d) ≡ []
+      → is_home a ≡ true → thread_in_stage a (spot d t).guest ≡ Some (waits wait.No (spot d t).guest) → row_in_stage t a (spot d t).guest.priority ≡ None → slots_in_life (On n a) (spot d t).guest ≡ guest_slots (spot d t).guest
+      → Is (judge t code second d) (busy t (On n Told_next) ∷ hs)
+  unfolding judge say
+  judge_ok d t code second a hs m ok same sent home there row slots =
+      let v : Spots = spots_at p net q n w d in
+      let s : Spot = spot d t in
+      let x : s.life ≡ On n a = in_hand d t (On n a) hs m in
+      let r : Spot = record s { life = On n Told_next; verdict = record { code = code; second = second_of (extra_of second) } } in
+      home_step d _ (busy t (On n Told_next) ∷ hs) (Judged t code (extra_of second)) t r d.node a Told_next m same ok sent refl x refl home refl (sym slots)
+      (record {
+        threads = map_kept is_tid is-true is-refl (thread_part n) v.threads t r d.node.threads m.here.threads (thread_was r t Told_next refl ∙ sym (thread_was s t a x ∙ there));
+        rows = kept is_tid is-true is-refl listed_name (row_part n) v.threads t r (map listed d.node.places.rows) m.here.rows (row_was r t Told_next refl ∙ sym (row_was s t a x ∙ row));
+        busy = refronted is_tid is-true is-refl busy_name (busy_part n) v.threads t r hs (busy t (On n a)) (busy t (On n Told_next)) m.here.busy refl refl (busy_was r t (On n Told_next) refl (eq-eqb n n refl));
+      }) refl refl refl
+
+  pub tell_ok : (d : Doing) (t : Tid) (hs : List Busy) → Is d (busy t (On n Told_next) ∷ hs) → Is (tell t (spot d t).verdict.code (spot d t).verdict.second d) hs
+  unfolding tell arrive say keep
+  tell_ok d t hs m =
+      let v : Spots = spots_at p net q n w d in
+      let s : Spot = spot d t in
+      let x : s.life ≡ On n Told_next = in_hand d t (On n Told_next) hs m in
+      let y : Guest = told s.verdict.code s.verdict.second s.guest in
+      let r : Spot = record s { life = On n Ready; guest = y } in
+      subst (λ o. Is (tell_found t s.verdict.code s.verdict.second o d) hs) (sym (on_node d _ t Told_next m x))
+      (home_step d _ hs (Told t) t r _ Told_next Ready m refl (record { solo = tt; holders = tt; life = rw x refl; replies = tt; grants = tt }) refl refl x refl refl refl refl
+      (record {
+        threads = map_set is_tid is-true is-refl (thread_part n) v.threads t r d.node.threads (waits wait.No s.guest) (waits wait.No y) m.here.threads (thread_was s t Told_next x) (thread_was r t Ready refl);
+        rows = subst (λ rows. StandsFor is_tid listed_name (row_part n) rows (update v.threads t r)) (sym (listed_arrived t s.guest.priority d.node.places))
+            (added is_tid is-true is-refl listed_name (row_part n) v.threads t r (map listed d.node.places.rows) _ m.here.rows refl (row_was s t Told_next x) (row_was r t Ready refl));
+        busy = unfronted is_tid is-true is-refl busy_name (busy_part n) v.threads t r hs (busy t (On n Told_next)) m.here.busy refl (idle_was r t (On n Ready) refl refl);
+      }) refl refl refl)
+
+  -- the judged reply is what is told next
+  judged_verdict : (d : Doing) (t : Tid) (code : ℕ) (second : Option ℕ) (s : Spot)
+      → after_label p n (Judged t code (extra_of second)) (spots_at p net q n w d) ≡ spots_with (update (spots_at p net q n w d).threads t s) (spots_at p net q n w d).slots (spots_at p net q n w d).births (spots_at p net q n w d).halts
+      → (spot (judge t code second d) t).verdict ≡ s.verdict
+  unfolding judge say
+  judged_verdict d t code second s same =
+      ap (λ (z : Spot). z.verdict) (spot_then p net q n w d (Judged t code (extra_of second)) _ t same ∙ updated (spots_at p net q n w d).threads t s)
+
+  judged_same : (d : Doing) (t : Tid) (code : ℕ) (second : Option ℕ) (life : Life) → (spot d t).life ≡ life
+      → after_label p n (Judged t code (extra_of second)) (spots_at p net q n w d) ≡ spots_with (update (spots_at p net q n w d).threads t (record (spot d t) { life = judged_life life; verdict = record { code = code; second = second_of (extra_of second) } })) (spots_at p net q n w d).slots (spots_at p net q n w d).births (spots_at p net q n w d).halts
+  judged_same d t code second life x =
+      let v : Spots = spots_at p net q n w d in
+      ap (λ z. spots_with (update v.threads t (record (spot d t) { life = judged_life z; verdict = record { code = code; second = second_of (extra_of second) } })) v.slots v.births v.halts) x
+
+  -- a thread that is due a reply has it at once
+  pub answer_ok : (d : Doing) (t : Tid) (code : ℕ) (hs : List Busy) → Is d (busy t (On n (Due code)) ∷ hs) → Is (answer t code d) hs
+  answer_ok d t code hs m =
+      let x : (spot d t).life ≡ On n (Due code) = in_hand d t (On n (Due code)) hs m in
+      let same = judged_same d t code None (On n (Due code)) x in
+      subst (λ (z : Response). Is (tell t z.code z.second (judge t code None d)) hs) (judged_verdict d t code None _ same)
+      (tell_ok (judge t code None d) t hs
+      (judge_ok d t code None (Due code) hs m (record { solo = tt; holders = tt; life = rw x refl; replies = rw x (refl, refl); grants = rw x tt }) same (ap (judged_causes t) x) refl refl refl refl))
+
+  -- Full, where the node has no slot
+  pub refuse_ok : (d : Doing) (t : Tid) (e a k : ℕ) (hs : List Busy) → Is d (busy t (On n (Needs e a k)) ∷ hs) → least_free n (spots_at p net q n w d) ≡ None → Is (answer t (reply_code replies.Full) d) hs
+  refuse_ok d t e a k hs m none =
+      let x : (spot d t).life ≡ On n (Needs e a k) = in_hand d t (On n (Needs e a k)) hs m in
+      let code : ℕ = reply_code replies.Full in
+      let same = judged_same d t code None (On n (Needs e a k)) x in
+      subst (λ (z : Response). Is (tell t z.code z.second (judge t code None d)) hs) (judged_verdict d t code None _ same)
+      (tell_ok (judge t code None d) t hs
+      (judge_ok d t code None (Needs e a k) hs m (record { solo = tt; holders = tt; life = rw x refl; replies = rw x (refl, refl); grants = rw x none }) same (ap (judged_causes t) x) refl refl refl refl))
+
+  -- ## Runs
+
+  -- the run that the thread makes, its label, and what becomes of the thread
+  abbrev pub run_now : Doing → Tid → Run
+  run_now d t = run_of (code_of p) q (spot d t).guest.solo.state
+
+  abbrev pub ran_label : Doing → Tid → ℕ → Label
+  ran_label d t vp = Ran t vp (run_now d t).count (run_now d t).stop
+
+  abbrev ran_with : Doing → Tid → State → Spot
+  ran_with d t z = record (spot d t) { life = On n (ran_stage (run_now d t).stop z); guest = with_state z (spot d t).guest }
+
+  ran_same : (d : Doing) (t : Tid) (vp : ℕ) → after_label p n (ran_label d t vp) (spots_at p net q n w d)
+      ≡ spots_with (update (spots_at p net q n w d).threads t (ran_with d t (run_now d t).state)) (spots_at p net q n w d).slots (spots_at p net q n w d).births (spots_at p net q n w d).halts
+  ran_same d t vp =
+      let v : Spots = spots_at p net q n w d in
+      ap (λ (z : State). spots_with (update v.threads t (ran_with d t z)) v.slots v.births v.halts) (run_stepped (code_of p) q (spot d t).guest.solo.state)
+
+  ran_allowed : (d : Doing) (t : Tid) (vp : ℕ) → (spot d t).life ≡ On n Ready → Allowed p q n (ran_label d t vp) (spots_at p net q n w d)
+  ran_allowed d t vp x =
+      let s : State = (spot d t).guest.solo.state in
+      let r : Run = run_now d t in
+      record {
+        life = x;
+        holders = tt;
+        replies = tt;
+        grants = tt;
+        solo = subst (λ (z : State). (after (code_of p) s r.count ≡ Some z) × StopsBy (code_of p) z q r.count r.stop) (sym (run_stepped (code_of p) q s)) ((run_does (code_of p) q s).steps, (run_does (code_of p) q s).stop);
+      }
+
+  -- a run to a call or a fault
+  pub ran_ok : (d : Doing) (t : Tid) (vp : ℕ) (b : Stage) → Is d [] → (spot d t).life ≡ On n Ready
+      → ran_stage (run_now d t).stop (run_now d t).state ≡ b → is_home b ≡ true → is_busy n (On n b) ≡ true
+      → thread_in_stage b (with_state (run_now d t).state (spot d t).guest) ≡ Some (waits wait.No (with_state (run_now d t).state (spot d t).guest))
+      → row_in_stage t b (spot d t).guest.priority ≡ None
+      → slots_in_life (On n b) (with_state (run_now d t).state (spot d t).guest) ≡ guest_slots (with_state (run_now d t).state (spot d t).guest)
+      → Is (ran t vp (run_now d t) (waits wait.No (spot d t).guest) d) (busy t (On n b) ∷ [])
+  unfolding ran take_off say keep
+  ran_ok d t vp b m x st home busied there row slots =
+      let v : Spots = spots_at p net q n w d in
+      let s : Spot = spot d t in
+      let r : Spot = ran_with d t (run_now d t).state in
+      let y : r.life ≡ On n b = ap (λ z. On n z) st in
+      home_step d [] (busy t (On n b) ∷ []) (ran_label d t vp) t r _ Ready b m (ran_same d t vp) (ran_allowed d t vp x) refl refl x y refl home (slots ∙ run_slots (code_of p) q s.guest.solo.state)
+      (record {
+        threads = map_set is_tid is-true is-refl (thread_part n) v.threads t r d.node.threads (waits wait.No s.guest) _ m.here.threads (thread_was s t Ready x) (thread_was r t b y ∙ there);
+        rows = subst (λ rows. StandsFor is_tid listed_name (row_part n) rows (update v.threads t r)) (sym (listed_without t d.node.places.rows))
+            (removed is_tid is-true is-refl listed_name (row_part n) v.threads t r (map listed d.node.places.rows) m.here.rows (row_was r t b y ∙ row));
+        busy = fronted is_tid is-true is-refl busy_name (busy_part n) v.threads t r [] (busy t (On n b)) m.here.busy refl (idle_was s t (On n Ready) x refl) (busy_was r t (On n b) y busied);
+      }) refl refl refl
+
+  -- what the thread has become
+  pub ran_guest : (d : Doing) (t : Tid) (vp : ℕ) → (spot (ran t vp (run_now d t) (waits wait.No (spot d t).guest) d) t).guest ≡ with_state (run_now d t).state (spot d t).guest
+  unfolding ran take_off say keep
+  ran_guest d t vp = ap (λ (z : Spot). z.guest) (spot_then p net q n w d (ran_label d t vp) _ t (ran_same d t vp) ∙ updated (spots_at p net q n w d).threads t (ran_with d t (run_now d t).state))
+
+  -- a run of the whole quantum
+  pub runs_out_ok : (d : Doing) (t : Tid) (vp : ℕ) → Is d [] → (spot d t).life ≡ On n Ready
+      → ran_stage (run_now d t).stop (run_now d t).state ≡ Ready
+      → Is (runs_out t vp (run_now d t) (waits wait.No (spot d t).guest) d) []
+  unfolding runs_out arrive ran take_off say keep
+  runs_out_ok d t vp m x st =
+      let v : Spots = spots_at p net q n w d in
+      let s : Spot = spot d t in
+      let r : Spot = ran_with d t (run_now d t).state in
+      let y : r.life ≡ On n Ready = ap (λ z. On n z) st in
+      let off : Places = taken_off t d.node.places in
+      home_step d [] [] (ran_label d t vp) t r _ Ready Ready m (ran_same d t vp) (ran_allowed d t vp x) refl refl x y refl refl (run_slots (code_of p) q s.guest.solo.state)
+      (record {
+        threads = map_set is_tid is-true is-refl (thread_part n) v.threads t r d.node.threads (waits wait.No s.guest) _ m.here.threads (thread_was s t Ready x) (thread_was r t Ready y);
+        rows = subst (λ rows. StandsFor is_tid listed_name (row_part n) rows (update v.threads t r)) (sym (listed_arrived t s.guest.priority off ∙ ap (λ rows. rows ++ (record { tid = t; priority = s.guest.priority }) ∷ []) (listed_without t d.node.places.rows)))
+            (replaced is_tid is-true is-refl listed_name (row_part n) v.threads t r (map listed d.node.places.rows) _ m.here.rows refl (row_was r t Ready y));
+        busy = kept is_tid is-true is-refl busy_name (busy_part n) v.threads t r [] m.here.busy (idle_was r t (On n Ready) y refl ∙ sym (idle_was s t (On n Ready) x refl));
+      }) refl refl refl
+
+  -- ## Calls
+
+  abbrev pub state_at : Doing → Tid → State
+  state_at d t = (spot d t).guest.solo.state
+
+  abbrev pub call_at : Doing → Tid → Call
+  call_at d t = call_of (state_at d t)
+
+  abbrev pub bytes_at : Doing → Tid → List ℕ
+  bytes_at d t = said_bytes p (state_at d t) (call_at d t) (refusal p t (state_at d t) (call_at d t))
+
+  asked_same : (d : Doing) (t : Tid) (bytes : List ℕ) (b : Stage) → stage_of_call p n t (state_at d t) ≡ b
+      → after_label p n (Asked t (number_of (call_at d t)) (args_of (call_at d t)) bytes) (spots_at p net q n w d)
+      ≡ spots_with (update (spots_at p net q n w d).threads t (record (spot d t) { life = On n b })) (spots_at p net q n w d).slots (spots_at p net q n w d).births (spots_at p net q n w d).halts
+  asked_same d t bytes b st =
+      let v : Spots = spots_at p net q n w d in
+      ap (λ z. spots_with (update v.threads t (record (spot d t) { life = On n z })) v.slots v.births v.halts) st
+
+  -- a call that goes on here
+  pub asks_ok : (d : Doing) (t : Tid) (b : Stage) (hs : List Busy) → Is d (busy t (On n Running) ∷ hs)
+      → stage_of_call p n t (state_at d t) ≡ b → [] ≡ bytes_at d t → asked_causes t b ≡ []
+      → is_home b ≡ true → is_busy n (On n b) ≡ true → thread_in_stage b (spot d t).guest ≡ Some (waits wait.No (spot d t).guest) → row_in_stage t b (spot d t).guest.priority ≡ None
+      → slots_in_life (On n b) (spot d t).guest ≡ guest_slots (spot d t).guest
+      → Is (asks t (call_at d t) d) (busy t (On n b) ∷ hs)
+  unfolding asks say
+  asks_ok d t b hs m st bytes sent home busied there row slots =
+      let v : Spots = spots_at p net q n w d in
+      let s : Spot = spot d t in
+      let x : s.life ≡ On n Running = in_hand d t (On n Running) hs m in
+      let r : Spot = record s { life = On n b } in
+      home_step d _ (busy t (On n b) ∷ hs) (Asked t (number_of (call_at d t)) (args_of (call_at d t)) []) t r d.node Running b m (asked_same d t [] b st)
+      (record { solo = (refl, refl, bytes); holders = tt; life = x; replies = tt; grants = tt }) (ap (asked_causes t) st ∙ sent) refl x refl refl home slots
+      (record {
+        threads = map_kept is_tid is-true is-refl (thread_part n) v.threads t r d.node.threads m.here.threads (thread_was r t b refl ∙ there ∙ sym (thread_was s t Running x));
+        rows = kept is_tid is-true is-refl listed_name (row_part n) v.threads t r (map listed d.node.places.rows) m.here.rows (row_was r t b refl ∙ row ∙ sym (row_was s t Running x));
+        busy = refronted is_tid is-true is-refl busy_name (busy_part n) v.threads t r hs (busy t (On n Running)) (busy t (On n b)) m.here.busy refl refl (busy_was r t (On n b) refl busied);
+      }) refl refl refl
+
+  -- a call changes nothing of its guest
+  pub asks_guest : (d : Doing) (t : Tid) → (spot (asks t (call_at d t) d) t).guest ≡ (spot d t).guest
+  unfolding asks say
+  asks_guest d t = ap (λ (z : Spot). z.guest) (spot_then p net q n w d (Asked t (number_of (call_at d t)) (args_of (call_at d t)) []) _ t (asked_same d t [] _ refl) ∙ updated (spots_at p net q n w d).threads t (record (spot d t) { life = On n (stage_of_call p n t (state_at d t)) }))
+
+  -- a call that sends a packet
+  asks_out_ok : (d : Doing) (t : Tid) (bytes : List ℕ) (b : Stage) (waiting : Wait) (to : ℕ) (body : Body) (hs : List Busy) → Is d (busy t (On n Running) ∷ hs)
+      → stage_of_call p n t (state_at d t) ≡ b → bytes ≡ bytes_at d t → asked_causes t b ≡ send_to to body
+      → way_of t (On n b) (spot d t).verdict ≡ way n to (word_of to body) → word_name (word_of to body) ≡ t
+      → ((k : ℕ) → is_busy k (On n b) ≡ false) → thread_in_stage b (spot d t).guest ≡ Some (waits waiting (spot d t).guest) → row_in_stage t b (spot d t).guest.priority ≡ None
+      → slots_in_life (On n b) (spot d t).guest ≡ guest_slots (spot d t).guest → is_plain (On n b) ≡ true
+      → Is (put to body (keep t (waits waiting (spot d t).guest) (say (Asked t (number_of (call_at d t)) (args_of (call_at d t)) bytes) d))) hs
+  unfolding put keep say
+  asks_out_ok d t bytes b waiting to body hs m st said sent ways name idle there row slots quiet =
+      let v : Spots = spots_at p net q n w d in
+      let s : Spot = spot d t in
+      let x : s.life ≡ On n Running = in_hand d t (On n Running) hs m in
+      let r : Spot = record s { life = On n b } in
+      send_step d _ hs (Asked t (number_of (call_at d t)) (args_of (call_at d t)) bytes) t r _ to body m (asked_same d t bytes b st)
+      (record { solo = (refl, refl, said); holders = tt; life = x; replies = tt; grants = tt }) (ap (asked_causes t) st ∙ sent) refl
+      (ap (λ z. way_of t z s.verdict) x) ways name
+      (record {
+        threads = map_set is_tid is-true is-refl (thread_part n) v.threads t r d.node.threads (waits wait.No s.guest) (waits waiting s.guest) m.here.threads (thread_was s t Running x) (thread_was r t b refl ∙ there);
+        rows = kept is_tid is-true is-refl listed_name (row_part n) v.threads t r (map listed d.node.places.rows) m.here.rows (row_was r t b refl ∙ row ∙ sym (row_was s t Running x));
+        busy = unfronted is_tid is-true is-refl busy_name (busy_part n) v.threads t r hs (busy t (On n Running)) m.here.busy refl (idle_was r t (On n b) refl (idle n));
+      }) refl refl refl
+      (λ k e. record {
+        thread = away_thread n k t r b refl e ∙ sym (away_thread n k t s Running x e);
+        row = away_row n k t r b refl e ∙ sym (away_row n k t s Running x e);
+        busy = busy_none k t r (On n b) refl (idle k) ∙ sym (busy_none k t s (On n Running) x e);
+      })
+      (sym (ap phase_of x))
+      (λ u k e. home_quiet n Running refl u k (sym x ∙ e))
+      (slots ∙ sym (ap (λ z. slots_in_life z s.guest) x))
+      (λ e. absurd (cc (e, x)))
+      (plain (On n b) quiet)
+
+  pub asks_show_ok : (d : Doing) (t : Tid) (bytes : List ℕ) (hs : List Busy) → Is d (busy t (On n Running) ∷ hs)
+      → stage_of_call p n t (state_at d t) ≡ Shows bytes → bytes ≡ bytes_at d t
+      → Is (asks_show t (call_at d t) bytes (waits wait.No (spot d t).guest) d) hs
+  unfolding asks_show
+  asks_show_ok d t bytes hs m st said = asks_out_ok d t bytes (Shows bytes) wait.ForShow 0 (Show t bytes) hs m st said refl refl refl (λ k. refl) refl refl refl refl
+
+  pub asks_join_ok : (d : Doing) (t u : Tid) (hs : List Busy) → Is d (busy t (On n Running) ∷ hs)
+      → stage_of_call p n t (state_at d t) ≡ Asks u → [] ≡ bytes_at d t
+      → Is (asks_join t (call_at d t) u (waits wait.No (spot d t).guest) d) hs
+  unfolding asks_join
+  asks_join_ok d t u hs m st said = asks_out_ok d t [] (Asks u) wait.ForAnswer u.home (JoinAsk t u.seq) hs m st said refl refl refl (λ k. refl) refl refl refl refl
+
+  pub halts_ok : (d : Doing) (t : Tid) (hs : List Busy) → Is d (busy t (On n Halts) ∷ hs) → Is (halts t (waits wait.No (spot d t).guest) d) hs
+  unfolding halts halt say keep
+  halts_ok d t hs m =
+      let v : Spots = spots_at p net q n w d in
+      let s : Spot = spot d t in
+      let x : s.life ≡ On n Halts = in_hand d t (On n Halts) hs m in
+      let r : Spot = record s { life = On n Stays } in
+      labelled p net q n w L L d _ hs (Halted t) (spots_with (update v.threads t r) v.slots v.births (at_node v.halts n true)) _ d.sends d.prints m refl
+      (record { solo = tt; holders = tt; life = x; replies = tt; grants = tt }) (sym (append-nil d.sends)) (sym (append-nil d.prints))
+      (record {
+        threads = map_set is_tid is-true is-refl (thread_part n) v.threads t r d.node.threads (waits wait.No s.guest) (waits wait.Halted s.guest) m.here.threads (thread_was s t Halts x) (thread_was r t Stays refl);
+        rows = kept is_tid is-true is-refl listed_name (row_part n) v.threads t r (map listed d.node.places.rows) m.here.rows (row_was r t Stays refl ∙ sym (row_was s t Halts x));
+        busy = unfronted is_tid is-true is-refl busy_name (busy_part n) v.threads t r hs (busy t (On n Halts)) m.here.busy refl (idle_was r t (On n Stays) refl refl);
+        names = m.here.names;
+        own = m.here.own;
+        halted = rw (eq-eqb n n refl) refl;
+      })
+      (λ k e. here_kept k v t r v.slots v.births (at_node v.halts n true) (net.nodes k) [] (m.there k e) (record { thread = away_thread n k t r Stays refl e ∙ sym (away_thread n k t s Halts x e); row = away_row n k t r Stays refl e ∙ sym (away_row n k t s Halts x e); busy = busy_none k t r (On n Stays) refl refl ∙ sym (busy_none k t s (On n Halts) x e) }) refl (λ y. refl) (rw e refl))
+      (λ i j. links_kept t r v.threads (under n L d.sends) m.links (sym (ap (λ z. way_of t z s.verdict) x)) i j)
+      (agrees_kept p v t r (at_node v.halts n true) m.agrees (sym (ap phase_of x)) (λ u k e. home_quiet n Halts refl u k (sym x ∙ e)) (λ y. ap (λ z. has y (slots_in_life z s.guest)) (sym x)) (λ e. absurd (cc (e, x))) (λ u k e. absurd (cc e))
+      (λ k e. (let same : n ≡ k = cc e in rw (eq-eqb n k same) refl)) (λ k e. elim (eqb n k) as (λ v. cond v true ((spots_at p net q n w d).halts k) ≡ true) [ true ↦ refl | false ↦ e ]))

@@ -1,0 +1,150 @@
+-- What a packet brings, on an event in its midst. L are the links before the packet is taken.
+use Rattle.std.proofs.Common.{◌≡◌, ℕ, List, [], ◌∷◌, Option, Some, None, true, false, eqb, refl, sym, ap, ◌∙◌, subst, map}
+use Rattle.std.proofs.lemmas.Bool.{eq-eqb, eqb-true}
+use Rattle.slot_space.specs.Replies.{reply_code}
+use Rattle.slot_space.specs.declared.names.Tid.{Tid}
+use Rattle.slot_space.specs.declared.names.Reply.{Reply as TheReply}
+use Rattle.run_trace.specs.declared.label.Label.TheVariants.{Judged, Told, Shown}
+use Rattle.run_trace.specs.declared.label.Extra.TheVariants.{Nothing}
+use Rattle.run_trace.specs.declared.packet.Body.TheVariants.{ShowDone, Answer}
+use Rattle.run_trace.specs.declared.node.Wait.{Wait}
+use Rattle.run_trace.specs.declared.node.Wait.TheVariants as wait
+use Rattle.run_trace.specs.Names.{is_tid}
+use Rattle.run_trace.specs.Program.{Program}
+use Rattle.run_trace.specs.Guests.{Guest, waits, told, guest_slots}
+use Rattle.run_trace.specs.Local.{Local, Doing, nothing}
+use Rattle.run_trace.specs.Steps.{say, put, print, arrive, keep, tell, tell_found, reply_by_link, shows, acknowledges, extra_of, line_of}
+use Rattle.run_trace.specs.Cluster.{Net}
+use Rattle.run_trace.specs.Keyed.{StandsFor}
+use Rattle.run_trace.specs.Spots.{Stage, Ready, Shows, Showing, Shown_there, Awaits, Answers, Answered, On, Spot, Spots, update, shown_life, judged_life, second_of}
+use Rattle.run_trace.specs.Rules.{judged_causes, MayTell}
+use Rattle.run_trace.specs.Console.{asked_bytes}
+use Rattle.run_trace.specs.Stands.{Busy, busy, busy_name, is_busy, busy_part, thread_part, thread_in_life, thread_in_stage, row_part, row_in_life, row_in_stage, listed, listed_name, Word, Line, Line_shown, Reply, way, way_of, phase_of, slots_in_life}
+use Rattle.trace_laws.proofs.Tids.{is-true, is-refl}
+use Rattle.trace_laws.proofs.KeyedLemmas.{kept, added, fronted, unfronted, map_kept, map_set}
+use Rattle.trace_laws.proofs.Midst.{Links, Midst, plain, LinkStands, at_link, less_word, spots_with, spots_at, take_link, nothing_sent, nothing_sent_from}
+use Rattle.trace_laws.proofs.Parts.{listed_arrived, away_thread, away_row, busy_none}
+use Rattle.trace_laws.proofs.Steps.{moved, send_step, in_hand, is_in_hand, on_node, thread_was, row_was, idle_was, second-extra}
+
+module _ (p : Program) (net : Net) (q n : ℕ) (w : Spots) (L : Links) where
+  -- the links without t's packet
+  abbrev pub Left : ℕ → Tid → Links
+  Left from t = at_link from n (less_word t) L
+
+  pub links_whole : (s : Local) → Midst p net q n w L (nothing s) [] → (i j : ℕ) → LinkStands i j (L i j) w.threads
+  links_whole s m i j = nothing_sent_from n L i j w.threads (m.links i j)
+
+  -- ## Lines
+
+  pub shows_ok : (s : Local) (from : ℕ) (t : Tid) (bytes : List ℕ) → Midst p net q n w L (nothing s) [] → (w.threads t).life ≡ On from (Shows bytes) → n ≡ 0
+      → Midst p net q n w (Left from t) (shows t bytes (nothing s)) (busy t (On from Showing) ∷ [])
+  unfolding shows print say
+  shows_ok s from t bytes m x zero =
+      let o : Spot = w.threads t in
+      let r : Spot = record o { life = On from Showing } in
+      let here_busy : is_busy n (On from Showing) ≡ true = eq-eqb 0 n (sym zero) in
+      moved p net q n w L (Left from t) (nothing s) [] (busy t (On from Showing) ∷ []) (Shown t) t r s [] _ m
+      (ap (λ z. spots_with (update w.threads t (record o { life = shown_life z })) w.slots w.births w.halts) x)
+      (record { solo = tt; holders = tt; life = rw x zero; replies = tt; grants = tt }) refl (ap (λ z. line_of t (asked_bytes z)) (sym x))
+      (record {
+        threads = map_kept is_tid is-true is-refl (thread_part n) w.threads t r s.threads m.here.threads (sym (ap (λ z. thread_in_life n z o.guest) x));
+        rows = kept is_tid is-true is-refl listed_name (row_part n) w.threads t r (map listed s.places.rows) m.here.rows (sym (ap (λ z. row_in_life n t z o.guest.priority) x));
+        busy = fronted is_tid is-true is-refl busy_name (busy_part n) w.threads t r [] (busy t (On from Showing)) m.here.busy refl (idle_was p net q n w L o t (On from (Shows bytes)) x refl) (rw here_busy refl);
+      }) refl refl refl
+      (λ k e. record {
+        thread = sym (ap (λ z. thread_in_life k z o.guest) x);
+        row = sym (ap (λ z. row_in_life k t z o.guest.priority) x);
+        busy = busy_none k t r (On from Showing) refl (ap (λ z. eqb z k) (sym zero) ∙ e) ∙ sym (busy_none k t o (On from (Shows bytes)) x refl);
+      })
+      (λ i j. nothing_sent n (Left from t) i j (update w.threads t r) (take_link from n (Line t bytes) t r L w.threads (links_whole s m) (ap (λ z. way_of t z o.verdict) x ∙ ap (λ z. way from z (Line t bytes)) (sym zero)) refl i j))
+      (sym (ap phase_of x))
+      (λ u k e. absurd (cc (e, x)))
+      (sym (ap (λ z. slots_in_life z o.guest) x))
+      (λ e. absurd (cc (e, x))) (plain _ refl)
+
+  -- ## Told by a packet
+
+  pub tell_taken_ok : (s : Local) (from : ℕ) (t : Tid) (a : Stage) (waiting : Wait) (y : Word) → Midst p net q n w L (nothing s) [] → (w.threads t).life ≡ On n a
+      → MayTell n (On n a) → way_of t (On n a) (w.threads t).verdict ≡ way from n y
+      → thread_in_stage a (w.threads t).guest ≡ Some (waits waiting (w.threads t).guest) → row_in_stage t a (w.threads t).guest.priority ≡ None
+      → ((k : ℕ) → is_busy k (On n a) ≡ false) → ((u : Tid) (m : ℕ) → On n a ≡ On m (Awaits u) → ⊥) → guest_slots (w.threads t).guest ≡ slots_in_life (On n a) (w.threads t).guest
+      → Midst p net q n w (Left from t) (tell t (w.threads t).verdict.code (w.threads t).verdict.second (nothing s)) []
+  unfolding tell arrive say keep
+  tell_taken_ok s from t a waiting y m x may ways there row idle quiet slots =
+      let o : Spot = w.threads t in
+      let g : Guest = told o.verdict.code o.verdict.second o.guest in
+      let r : Spot = record o { life = On n Ready; guest = g } in
+      subst (λ f. Midst p net q n w (Left from t) (tell_found t o.verdict.code o.verdict.second f (nothing s)) []) (sym (on_node p net q n w L (nothing s) [] t a m x ∙ there))
+      (moved p net q n w L (Left from t) (nothing s) [] [] (Told t) t r _ [] [] m refl
+      (record { solo = tt; holders = tt; life = subst (λ z. MayTell n z) (sym x) may; replies = tt; grants = tt }) refl refl
+      (record {
+        threads = map_set is_tid is-true is-refl (thread_part n) w.threads t r s.threads (waits waiting o.guest) (waits wait.No g) m.here.threads (thread_was p net q n w L o t a x ∙ there) (thread_was p net q n w L r t Ready refl);
+        rows = subst (λ rows. StandsFor is_tid listed_name (row_part n) rows (update w.threads t r)) (sym (listed_arrived t o.guest.priority s.places))
+            (added is_tid is-true is-refl listed_name (row_part n) w.threads t r (map listed s.places.rows) _ m.here.rows refl (row_was p net q n w L o t a x ∙ row) (row_was p net q n w L r t Ready refl));
+        busy = kept is_tid is-true is-refl busy_name (busy_part n) w.threads t r [] m.here.busy (idle_was p net q n w L r t (On n Ready) refl refl ∙ sym (idle_was p net q n w L o t (On n a) x (idle n)));
+      }) refl refl refl
+      (λ k e. record {
+        thread = away_thread n k t r Ready refl e ∙ sym (away_thread n k t o a x e);
+        row = away_row n k t r Ready refl e ∙ sym (away_row n k t o a x e);
+        busy = busy_none k t r (On n Ready) refl refl ∙ sym (busy_none k t o (On n a) x (idle k));
+      })
+      (λ i j. nothing_sent n (Left from t) i j (update w.threads t r) (take_link from n y t r L w.threads (links_whole s m) (ap (λ z. way_of t z o.verdict) x ∙ ways) refl i j))
+      (sym (ap phase_of x))
+      (λ u k e. quiet u k (sym x ∙ e))
+      (slots ∙ sym (ap (λ z. slots_in_life z o.guest) x))
+      (λ e. absurd (cc (e, x))) (plain _ refl))
+
+  -- ## Replies that go back
+
+  pub acknowledges_ok : (d : Doing) (t : Tid) (at : ℕ) (hs : List Busy) → Midst p net q n w L d (busy t (On at Showing) ∷ hs) → Midst p net q n w L (acknowledges t at d) hs
+  unfolding acknowledges put say
+  acknowledges_ok d t at hs m =
+      let v : Spots = spots_at p net q n w d in
+      let o : Spot = v.threads t in
+      let x : o.life ≡ On at Showing = in_hand p net q n w L d t (On at Showing) hs m in
+      let zero : 0 ≡ n = eqb-true 0 n (is_in_hand p net q n w L d t (On at Showing) hs m) in
+      let r : Spot = record o { life = On at Shown_there; verdict = record { code = 0; second = None } } in
+      send_step p net q n w L d _ hs (Judged t 0 Nothing) t r d.node at (ShowDone t) m
+      (ap (λ z. spots_with (update v.threads t (record o { life = judged_life z; verdict = record { code = 0; second = None } })) v.slots v.births v.halts) x)
+      (record { solo = tt; holders = tt; life = rw x (sym zero); replies = rw x (refl, refl); grants = rw x tt }) (ap (judged_causes t) x) refl
+      (ap (λ z. way_of t z o.verdict) x) (ap (λ z. way z at (Line_shown t 0 None)) zero) refl
+      (record {
+        threads = map_kept is_tid is-true is-refl (thread_part n) v.threads t r d.node.threads m.here.threads (sym (ap (λ z. thread_in_life n z o.guest) x));
+        rows = kept is_tid is-true is-refl listed_name (row_part n) v.threads t r (map listed d.node.places.rows) m.here.rows (sym (ap (λ z. row_in_life n t z o.guest.priority) x));
+        busy = unfronted is_tid is-true is-refl busy_name (busy_part n) v.threads t r hs (busy t (On at Showing)) m.here.busy refl refl;
+      }) refl refl refl
+      (λ k e. record {
+        thread = sym (ap (λ z. thread_in_life k z o.guest) x);
+        row = sym (ap (λ z. row_in_life k t z o.guest.priority) x);
+        busy = sym (busy_none k t o (On at Showing) x (ap (λ z. eqb z k) zero ∙ e));
+      })
+      (sym (ap phase_of x))
+      (λ u k e. absurd (cc (e, x)))
+      (sym (ap (λ z. slots_in_life z o.guest) x))
+      (λ e. absurd (cc (e, x))) (plain _ refl)
+
+  pub reply_ok : (d : Doing) (t : Tid) (at : ℕ) (reply : TheReply) (second : Option ℕ) (hs : List Busy) → Midst p net q n w L d (busy t (On at (Answers n reply second)) ∷ hs) → Midst p net q n w L (reply_by_link t at reply second d) hs
+  unfolding reply_by_link put say
+  reply_ok d t at reply second hs m =
+      let v : Spots = spots_at p net q n w d in
+      let o : Spot = v.threads t in
+      let x : o.life ≡ On at (Answers n reply second) = in_hand p net q n w L d t (On at (Answers n reply second)) hs m in
+      let r : Spot = record o { life = On at (Answered n); verdict = record { code = reply_code reply; second = second_of (extra_of second) } } in
+      send_step p net q n w L d _ hs (Judged t (reply_code reply) (extra_of second)) t r d.node at (Answer t reply second) m
+      (ap (λ z. spots_with (update v.threads t (record o { life = judged_life z; verdict = record { code = reply_code reply; second = second_of (extra_of second) } })) v.slots v.births v.halts) x)
+      (record { solo = tt; holders = tt; life = rw x refl; replies = rw x (refl, refl); grants = rw x tt }) (ap (judged_causes t) x) refl
+      (ap (λ z. way_of t z o.verdict) x) (ap (λ z. way n at (Reply t (reply_code reply) z)) (second-extra second)) refl
+      (record {
+        threads = map_kept is_tid is-true is-refl (thread_part n) v.threads t r d.node.threads m.here.threads (sym (ap (λ z. thread_in_life n z o.guest) x));
+        rows = kept is_tid is-true is-refl listed_name (row_part n) v.threads t r (map listed d.node.places.rows) m.here.rows (sym (ap (λ z. row_in_life n t z o.guest.priority) x));
+        busy = unfronted is_tid is-true is-refl busy_name (busy_part n) v.threads t r hs (busy t (On at (Answers n reply second))) m.here.busy refl refl;
+      }) refl refl refl
+      (λ k e. record {
+        thread = sym (ap (λ z. thread_in_life k z o.guest) x);
+        row = sym (ap (λ z. row_in_life k t z o.guest.priority) x);
+        busy = sym (busy_none k t o (On at (Answers n reply second)) x e);
+      })
+      (sym (ap phase_of x))
+      (λ u k e. absurd (cc (e, x)))
+      (sym (ap (λ z. slots_in_life z o.guest) x))
+      (λ e. absurd (cc (e, x))) (plain _ refl)

@@ -1,0 +1,149 @@
+-- The whole run: order and run give the whole of legality.
+use Rattle.std.proofs.Common.{◌≡◌, ℕ, ◌%◌, List, [], ◌∷◌, ◌++◌, Some, None, true, false, eqb, ltb, cond, refl, sym, ap, ◌∙◌, subst, arith}
+use Rattle.std.proofs.lemmas.Bool.{eq-eqb, ltb-true}
+use Rattle.slot_space.specs.Sets.{has, run}
+use Rattle.slot_space.specs.Places.{starting_slots}
+use Rattle.slot_space.specs.declared.names.Tid.{Tid}
+use Rattle.slot_space.proofs.Sets.{has-filter, has-run}
+use Rattle.run_trace.specs.declared.entry.Entry.{Entry}
+use Rattle.run_trace.specs.declared.label.Label.{Label}
+use Rattle.run_trace.specs.declared.packet.Send.{Send}
+use Rattle.run_trace.specs.Program.{Program, nodes_of, slots_in}
+use Rattle.run_trace.specs.Local.{Doing}
+use Rattle.run_trace.specs.Cluster.{Event, Net, net_after, fresh_net, next_packet}
+use Rattle.run_trace.specs.Trace.{IsRun, event_of, events_of, net_after_trace, sends_or, done_for}
+use Rattle.run_trace.specs.Histories.{IsInOrder, Joins}
+use Rattle.run_trace.specs.Spots.{Ready, Running, Due, Needs, Told_next, Ends, Leaves, Halts, Stays, Shows, Showing, Shown_there, Asks, Awaits, Answers, Answered, Life, Unborn, On, Noting, Gone, Spots, Of_node, Nobody, at_first, first_holder}
+use Rattle.run_trace.specs.Rules.{IsSettled, is_free, spots_of}
+use Rattle.run_trace.specs.Console.{console_of, printed}
+use Rattle.run_trace.specs.Stands.{Stands, is_busy, busy_part, busy, is_thread}
+use Rattle.run_trace.specs.Legality.{Begins, AreRising, ObeysFrom, Legal}
+use Rattle.trace_laws.proofs.Simulate.{Simulates, simulates, event}
+use Rattle.trace_laws.proofs.Weave.{joined}
+
+-- ## Before the first event
+
+pub own_slots : (p : Program) (n x : ℕ) → has x (starting_slots (nodes_of p) (slots_in p) n) ≡ is_free n (first_holder p x)
+unfolding starting_slots
+own_slots p n x = has-filter (λ s. eqb (s % nodes_of p) n) x (run 0 (slots_in p))
+    ∙ ap (λ v. cond (eqb (x % nodes_of p) n) v false) (has-run x 0 (slots_in p) ∙ grind (arith, ltb-true x 0))
+    ∙ elim (ltb x (slots_in p)) as (λ v. cond (eqb (x % nodes_of p) n) v false ≡ is_free n (cond v (Of_node (x % nodes_of p)) Nobody)) [
+      | true ↦ elim (eqb (x % nodes_of p) n) as (λ v. cond v true false ≡ v) [ true ↦ refl | false ↦ refl ]
+      | false ↦ elim (eqb (x % nodes_of p) n) as (λ v. cond v false false ≡ false) [ true ↦ refl | false ↦ refl ]
+    ]
+
+pub starts : (p : Program) → Stands p (at_first p) (fresh_net p)
+starts p = record {
+  nodes = λ n. record {
+    threads = record { apart = tt; shows = λ u. refl };
+    rows = record { apart = tt; shows = λ u. refl };
+    busy = record { apart = tt; shows = λ u. refl };
+    names = refl;
+    own = λ x. own_slots p n x;
+    halted = refl;
+  };
+  links = λ i j. record { apart = tt; shows = λ u. refl };
+  agrees = record {
+    homes = λ t out. refl;
+    named = λ t. refl;
+    awaits = λ t by at e. absurd (cc e);
+    waits = λ t by at e. absurd (cc e);
+    stays = λ t n e. absurd (cc e);
+    slots = λ t x. elim (ltb x (slots_in p)) as (λ v. false ≡ is_thread t (cond v (Of_node (x % nodes_of p)) Nobody)) [ true ↦ refl | false ↦ refl ];
+  };
+}
+
+-- ## At the end of an entry no thread is in the midst of anything
+
+pub settled_at : (p : Program) (w : Spots) (net : Net) → Stands p w net → (t : Tid) → IsSettled (w.threads t).life
+settled_at p w net s t = by (w.threads t).life refl
+  where
+    nobody : (m : ℕ) (life : Life) → (w.threads t).life ≡ life → is_busy m life ≡ true → ⊥
+    nobody m life e b =
+        let none : None ≡ busy_part m t (w.threads t) = (s.nodes m).busy.shows t in
+        let some : busy_part m t (w.threads t) ≡ Some (busy t life) = ap (λ z. cond (is_busy m z) (Some (busy t z)) None) e ∙ (rw b refl) in
+        absurd (cc (none ∙ some))
+
+    by : (life : Life) → (w.threads t).life ≡ life → IsSettled life
+    by (On m Running) e = nobody m (On m Running) e (eq-eqb m m refl)
+    by (On m (Due code)) e = nobody m (On m (Due code)) e (eq-eqb m m refl)
+    by (On m (Needs a b c)) e = nobody m (On m (Needs a b c)) e (eq-eqb m m refl)
+    by (On m Told_next) e = nobody m (On m Told_next) e (eq-eqb m m refl)
+    by (On m (Ends end)) e = nobody m (On m (Ends end)) e (eq-eqb m m refl)
+    by (On m (Leaves end)) e = nobody m (On m (Leaves end)) e (eq-eqb m m refl)
+    by (On m Halts) e = nobody m (On m Halts) e (eq-eqb m m refl)
+    by (On m Showing) e = nobody 0 (On m Showing) e (eq-eqb 0 0 refl)
+    by (On m (Answers h reply second)) e = nobody h (On m (Answers h reply second)) e (eq-eqb h h refl)
+    by (On m Ready) e = tt
+    by (On m Stays) e = tt
+    by (On m (Shows bytes)) e = tt
+    by (On m Shown_there) e = tt
+    by (On m (Asks u)) e = tt
+    by (On m (Awaits u)) e = tt
+    by (On m (Answered h)) e = tt
+    by Unborn e = tt
+    by (Noting m end) e = tt
+    by (Gone end) e = tt
+
+-- ## The whole run
+
+-- the rules, the console, and what nodes and links stand for
+pub record Whole (p : Program) (old : Spots) (base : Net) (lines : List Entry) : Type 0 where
+  pub obeys : ObeysFrom p old base lines
+  pub console : printed (events_of p base lines) ≡ console_of p old lines
+  pub stands : Stands p (spots_of p old lines) (net_after_trace p base lines)
+
+pub run_whole : (p : Program) (old : Spots) (base : Net) → Stands p old base → (lines : List Entry) → IsRun p base lines → Whole p old base lines
+run_whole p old base s [] r = record {
+  obeys = record { solo = tt; holders = tt; life = tt; replies = tt; grants = tt; picks = tt; carried = tt; settled = tt };
+  console = refl;
+  stands = s;
+}
+run_whole p old base s (x ∷ xs) r =
+    let was : Whole p old base xs = run_whole p old base s xs r.0 in
+    let net : Net = net_after_trace p base xs in
+    let w : Spots = spots_of p old xs in
+    let e : Event = event_of p net x in
+    let d : Doing = r.1.step.done in
+    let made : Event = event x.stamp x.node x.round x.act (next_packet net x.node x.act) d in
+    let one : Simulates p w net made = simulates p w net x.stamp x.node x.round x.act (next_packet net x.node x.act) d was.stands r.1.step.is refl in
+    let same : made ≡ e =
+    ap (λ (ls : List Label). record { stamp = x.stamp; node = x.node; round = x.round; act = x.act; took = next_packet net x.node x.act; labels = ls; sends = d.sends; prints = d.prints }) (sym r.1.step.labels)
+    ∙ ap (λ (ss : List Send). record { stamp = x.stamp; node = x.node; round = x.round; act = x.act; took = next_packet net x.node x.act; labels = x.labels; sends = ss; prints = d.prints }) (sym r.1.step.sends)
+    ∙ ap (λ (bs : List ℕ). record { stamp = x.stamp; node = x.node; round = x.round; act = x.act; took = next_packet net x.node x.act; labels = x.labels; sends = sends_or (done_for p net x); prints = bs }) (sym r.1.step.prints) in
+    let now : Simulates p w net e = subst (λ z. Simulates p w net z) same one in
+    record {
+      obeys = record {
+        solo = (was.obeys.solo, now.allowed.solo);
+        holders = (was.obeys.holders, now.allowed.holders);
+        life = (was.obeys.life, now.allowed.life);
+        replies = (was.obeys.replies, now.allowed.replies);
+        grants = (was.obeys.grants, now.allowed.grants);
+        picks = (was.obeys.picks, now.picks);
+        carried = (was.obeys.carried, now.sends);
+        settled = (was.obeys.settled, settled_at p (spots_of p old (x ∷ xs)) (net_after p net e) now.stands);
+      };
+      console = ap (λ bs. bs ++ e.prints) was.console ∙ ap (λ bs. console_of p old xs ++ bs) now.prints;
+      stands = now.stands;
+    }
+
+pub whole : (p : Program) (lines : List Entry) → IsInOrder lines → Begins p lines → AreRising lines → IsRun p (fresh_net p) lines → Legal p lines
+whole p lines order begins rounds runs =
+    let all : ObeysFrom p (at_first p) (fresh_net p) lines = (run_whole p (at_first p) (fresh_net p) (starts p) lines runs).obeys in
+    record {
+      order = order;
+      begins = begins;
+      rounds = rounds;
+      runs = runs;
+      solo = all.solo;
+      holders = all.holders;
+      life = all.life;
+      replies = all.replies;
+      grants = all.grants;
+      picks = all.picks;
+      carried = all.carried;
+      settled = all.settled;
+    }
+
+pub joined_whole : (p : Program) (lines : List Entry) (h : ℕ → List Event) → Begins p lines → AreRising lines → Joins p (fresh_net p) lines h → Legal p lines
+joined_whole p lines h begins rounds j = whole p lines j.order begins rounds (joined p (fresh_net p) lines h j).legal

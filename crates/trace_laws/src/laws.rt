@@ -1,0 +1,102 @@
+//! The laws, each as a contract.
+
+ghost use Rattle.std.specs.Prelude.{◌≡◌, ◌<◌, ℕ, List, map, ◌++◌, ◌∷◌, ◌↔◌, Some, [], false};
+ghost use Rattle.rv_step.specs.Run.{after, StopsBy};
+ghost use Rattle.rv_step.specs.Step.{State};
+ghost use Rattle.rv_step.specs.declared.hart.Stop.{Stop};
+ghost use Rattle.slot_space.specs.declared.names.Tid.{Tid};
+ghost use Rattle.run_trace.specs.declared.entry.Entry.{Entry};
+ghost use Rattle.run_trace.specs.Program.{Program, nodes_of};
+ghost use Rattle.trace_laws.specs.Beginnings.{BeginsSo};
+ghost use Rattle.trace_laws.specs.Gathers.{events_in, Gathers};
+ghost use Rattle.trace_laws.specs.Strays.{AllExpected};
+ghost use Rattle.run_trace.specs.Alone.{alone_of};
+ghost use Rattle.run_trace.specs.Cluster.{Event, Net, Merges, Runs, fresh_net, state};
+ghost use Rattle.run_trace.specs.Console.{console_of, printed};
+ghost use Rattle.run_trace.specs.Guests.{Run, Thread, run_of};
+ghost use Rattle.run_trace.specs.Histories.{IsInOrder, Joins, taken_from, sent_to, Turn};
+ghost use Rattle.run_trace.specs.Holding.{IsOn, Has};
+ghost use Rattle.run_trace.specs.Legality.{AreRising, Begins, boot_entries, Legal, ObeysFrom};
+ghost use Rattle.run_trace.specs.Outcome.{AllLinksEmpty, IsStuck, Lives};
+ghost use Rattle.run_trace.specs.Rules.{spots_of};
+ghost use Rattle.run_trace.specs.Spots.{Holder, Spots, at_first};
+ghost use Rattle.run_trace.specs.Stands.{Stands};
+ghost use Rattle.run_trace.specs.Trace.{IsRun, entry_of, events_of, Fits, net_after_trace};
+
+/// Whatever local runs are merged: in the order of stamps they are one run of the cluster.
+pub fn merged()
+    ensures runs { (p : Program) (base : Net) (events : List Event) → Merges p base events → Runs p base events }
+    ensures entries { (p : Program) (base : Net) (events : List Event) → Merges p base events → IsRun p base (map entry_of events) }
+{}
+
+/// Turns of nodes that saw whatever packets came, put together: no stamp reaches the limit, no packet is a stray by its
+/// stamp, and they are one run of the cluster.
+pub fn gathered()
+    ensures { (p : Program) (base : Net) (c : ℕ) (clocks : ℕ → ℕ) (turns : List Turn) → Gathers p base c clocks turns → Runs p base (events_in turns) }
+{}
+
+/// Local runs that fit on the links are together one run, and it comes to their states and to what is under way.
+pub fn joined()
+    ensures run { (p : Program) (base : Net) (lines : List Entry) (histories : ℕ → List Event) → Joins p base lines histories → IsRun p base lines }
+    ensures nodes { (p : Program) (base : Net) (lines : List Entry) (histories : ℕ → List Event) → Joins p base lines histories → (n : ℕ) → (net_after_trace p base lines).nodes n ≡ state p n (base.nodes n) (histories n) }
+    ensures links { (p : Program) (base : Net) (lines : List Entry) (histories : ℕ → List Event) → Joins p base lines histories → (i j : ℕ) → taken_from i (histories j) ++ (net_after_trace p base lines).links i j ≡ base.links i j ++ sent_to j (histories i) }
+{}
+
+/// What a judge has to test: a trace is a run exactly where the trace before its newest entry is, and that entry fits.
+pub fn judged()
+    ensures { (p : Program) (base : Net) (x : Entry) (xs : List Entry) → IsRun p base (x ∷ xs) ↔ (IsRun p base xs × Fits p (net_after_trace p base xs) x) }
+{}
+
+/// Before the first event the nodes and links stand for nothing told.
+pub fn started()
+    ensures { (p : Program) → Stands p (at_first p) (fresh_net p) }
+{}
+
+/// Each event of a run obeys the rules and keeps that nodes and links are exactly their parts of what the labels tell;
+/// what it puts on the console are the lines that its labels show.
+pub fn legal()
+    ensures obeys { (p : Program) (old : Spots) (base : Net) → Stands p old base → (lines : List Entry) → IsRun p base lines → ObeysFrom p old base lines }
+    ensures stands { (p : Program) (old : Spots) (base : Net) → Stands p old base → (lines : List Entry) → IsRun p base lines → Stands p (spots_of p old lines) (net_after_trace p base lines) }
+    ensures console { (p : Program) (old : Spots) (base : Net) → Stands p old base → (lines : List Entry) → IsRun p base lines → printed (events_of p base lines) ≡ console_of p old lines }
+{}
+
+/// Order, beginnings, rounds and the run give the whole of legality: for one sequence of events, and for nodes side by side.
+pub fn whole()
+    ensures sequential { (p : Program) (lines : List Entry) → IsInOrder lines → Begins p lines → AreRising lines → IsRun p (fresh_net p) lines → Legal p lines }
+    ensures side_by_side { (p : Program) (lines : List Entry) (histories : ℕ → List Event) → Begins p lines → AreRising lines → Joins p (fresh_net p) lines histories → Legal p lines }
+{}
+
+/// After a legal trace no slot has two holders, and no thread is on two nodes.
+pub fn one_holder()
+    ensures slots { (p : Program) (lines : List Entry) → Legal p lines → (slot : ℕ) (a b : Holder) → Has (net_after_trace p (fresh_net p) lines) slot a → Has (net_after_trace p (fresh_net p) lines) slot b → a ≡ b }
+    ensures places { (p : Program) (lines : List Entry) → Legal p lines → (t : Tid) (n m : ℕ) (x y : Thread) → IsOn (net_after_trace p (fresh_net p) lines) n t x → IsOn (net_after_trace p (fresh_net p) lines) m t y → n ≡ m }
+{}
+
+/// After a legal trace a thread's registers and memory are those of its code run alone with the replies that it was told.
+pub fn alone()
+    ensures { (p : Program) (lines : List Entry) → Legal p lines → (t : Tid) (n : ℕ) (x : Thread) → IsOn (net_after_trace p (fresh_net p) lines) n t x → x.guest.solo.state ≡ (alone_of p t lines).state }
+{}
+
+/// What does a run's steps and stops by a run's reason is the run that the machine makes.
+pub fn ran()
+    ensures { (image : List ℕ) (quantum count : ℕ) (s new : State) (stop : Stop) → after image s count ≡ Some new → StopsBy image new quantum count stop → run_of image quantum s ≡ record { count = count; stop = stop; state = new } }
+{}
+
+/// A fresh node, asked to begin, does exactly what a legal trace begins with; and the beginnings of all nodes are a legal trace.
+pub fn begun()
+    ensures node { (p : Program) (n : ℕ) → n < nodes_of p → BeginsSo p n }
+    ensures legal { (p : Program) → Legal p (boot_entries p (nodes_of p)) }
+{}
+
+/// No packet that a run takes is a stray.
+pub fn expected()
+    ensures { (p : Program) (old : Spots) (base : Net) → Stands p old base → (lines : List Entry) → IsRun p base lines → AllExpected p base lines }
+{}
+
+/// Where no thread is on a run list, nothing is under way and no node has halted, a thread that lives makes the trace stuck:
+/// each that lives joins one that hasn't ended. A thread lives exactly where it is on a node.
+pub fn quiet()
+    ensures stuck { (p : Program) (w : Spots) (net : Net) → Stands p w net → ((n : ℕ) → (net.nodes n).places.rows ≡ []) → AllLinksEmpty net → ((n : ℕ) → (net.nodes n).halted ≡ false) → (t : Tid) → Lives (w.threads t).life → IsStuck w net }
+    ensures somewhere { (p : Program) (w : Spots) (net : Net) → Stands p w net → (t : Tid) → Lives (w.threads t).life → (n : ℕ) × (x : Thread) × IsOn net n t x }
+    ensures lives { (p : Program) (w : Spots) (net : Net) → Stands p w net → (t : Tid) (n : ℕ) (x : Thread) → IsOn net n t x → Lives (w.threads t).life }
+{}

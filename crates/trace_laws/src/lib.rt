@@ -1,0 +1,10 @@
+//! The laws of legal traces. They are named by the contracts of functions that do nothing.
+//! A layer above uses that local histories merge into one run, that a run in order is legal, and what nodes and links stand for.
+#![tactic(auto)]
+
+mod laws;
+
+pub use laws::{
+    alone, begun, expected, gathered, joined, judged, legal, merged, one_holder, quiet, ran,
+    started, whole,
+};
