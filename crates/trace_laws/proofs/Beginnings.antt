@@ -1,24 +1,23 @@
 -- The beginnings of all nodes are a legal trace.
-use Rattle.std.proofs.Common.{◌≡◌, ◌≢◌, ℕ, zero, suc, ◌+◌, ◌<◌, ◌≤◌, ◌%◌, List, [], ◌∷◌, ◌++◌, Option, Some, None, Bool, true, false, eqb, ltb, cond, refl, sym, ap, ◌∙◌, subst, arith, ◌⊎◌, inl, inr}
-use Rattle.std.specs.Prelude.{⊤, nat_lt, ◌&&◌, not}
-use Rattle.std.proofs.lemmas.Bool.{eq-eqb, ne_eqb, eqb-true, eqb-false, lt-ltb, ltb-true}
-use Rattle.slot_space.specs.Sets.{has, lowest_run, has_run}
+use Rattle.std.proofs.Common.{◌≡◌, ℕ, zero, suc, ◌+◌, ◌<◌, ◌≤◌, ◌%◌, List, [], ◌++◌, Option, Some, None, Bool, true, false, eqb, ltb, cond, refl, sym, ap, ◌∙◌, subst, arith, inr}
+use Rattle.std.specs.Prelude.{nat_lt}
+use Rattle.std.proofs.lemmas.Bool.{eq-eqb, ne_eqb, eqb-true, lt-ltb}
+use Rattle.slot_space.specs.Sets.{has}
 use Rattle.slot_space.specs.Places.{starting_slots}
 use Rattle.slot_space.proofs.Runs.{lowest_run-some, has_run-all}
 use Rattle.run_trace.specs.declared.entry.Act.TheVariants.{Boot}
-use Rattle.run_trace.specs.declared.entry.Entry.{Entry}
 use Rattle.run_trace.specs.declared.packet.Packet.{Packet}
 use Rattle.run_trace.specs.declared.packet.Send.{Send}
 use Rattle.run_trace.specs.Program.{Program, nodes_of, slots_in}
-use Rattle.run_trace.specs.Local.{Local, Doing, nothing, fresh, with_booted}
+use Rattle.run_trace.specs.Local.{nothing, fresh, with_booted}
 use Rattle.run_trace.specs.Steps.{birth, arrive, thread_in, name_in, slot_out, say}
-use Rattle.run_trace.specs.Machine.{local_event, acts, is_range, boots, boots_in, free_slot}
-use Rattle.run_trace.specs.Cluster.{Event, Net, Runs, net_of, net_after, fresh_net, packets_to, left_after}
-use Rattle.run_trace.specs.Trace.{IsRun, events_of, net_after_trace, sends_or, prints_or, done_for}
+use Rattle.run_trace.specs.Machine.{local_event, is_range, boots, boots_in, free_slot}
+use Rattle.run_trace.specs.Cluster.{Net, fresh_net, packets_to}
+use Rattle.run_trace.specs.Trace.{IsRun, net_after_trace, sends_or, prints_or}
 use Rattle.run_trace.specs.Histories.{IsInOrder, IsEntryAbove}
-use Rattle.run_trace.specs.Spots.{first_holder, Of_node, Nobody}
+use Rattle.run_trace.specs.Spots.{Of_node, Nobody}
 use Rattle.run_trace.specs.Rules.{is_free}
-use Rattle.run_trace.specs.Legality.{first_labels, boot_entry, boot_entries, Begins, AreRising, NoneAbove, Legal}
+use Rattle.run_trace.specs.Legality.{first_labels, boot_entry, boot_entries, AreRising, NoneAbove, Legal}
 use Rattle.trace_laws.specs.Beginnings.{BeginsSo}
 use Rattle.trace_laws.proofs.Wholes.{own_slots, whole}
 

@@ -1,17 +1,17 @@
 -- No stamp of nodes put together reaches the limit, so none of their packets is a stray by its stamp.
-use Rattle.std.proofs.Common.{◌≡◌, ℕ, ◌+◌, ◌<◌, ◌≤◌, List, [], ◌∷◌, ◌++◌, Option, Some, None, Bool, true, false, eqb, ltb, cond, refl, sym, ap, ◌∙◌, subst, arith, ◌⊎◌, inl, inr, append_assoc}
-use Rattle.std.specs.Prelude.{⊤, filter, max, length, map, not}
-use Rattle.std.proofs.lemmas.Bool.{eq-eqb, eqb-true, eqb-false, lt-ltb, ltb-true}
+use Rattle.std.proofs.Common.{◌≡◌, ℕ, ◌+◌, ◌<◌, ◌≤◌, List, [], ◌∷◌, ◌++◌, Option, Some, None, Bool, true, false, eqb, ltb, cond, refl, sym, ap, ◌∙◌, subst, arith, ◌⊎◌, inl, inr}
+use Rattle.std.specs.Prelude.{⊤, max, length, not}
+use Rattle.std.proofs.lemmas.Bool.{eq-eqb, lt-ltb}
 use Rattle.run_trace.specs.declared.entry.Act.{Act}
 use Rattle.run_trace.specs.declared.entry.Act.TheVariants.{Boot, Run, Take, Move}
 use Rattle.run_trace.specs.declared.packet.Packet.{Packet}
 use Rattle.run_trace.specs.declared.packet.Send.{Send}
 use Rattle.run_trace.specs.Program.{Program}
-use Rattle.run_trace.specs.Local.{Local, Doing, nothing}
-use Rattle.run_trace.specs.Machine.{local_event, turn_event, is_beyond, stamp_limit}
-use Rattle.run_trace.specs.Cluster.{Event, Net, state, IsTaken, IsStep, IsLocalRun, own, taken_of, received, packets_to, sent, IsAbove, IsDescending, IsPrefix, Merges, after_or, Runs}
+use Rattle.run_trace.specs.Local.{Local, nothing}
+use Rattle.run_trace.specs.Machine.{local_event, is_beyond, stamp_limit}
+use Rattle.run_trace.specs.Cluster.{Net, state, IsTaken, IsStep, IsLocalRun, own, taken_of, received, packets_to, sent, IsAbove, IsDescending, Merges, after_or, Runs}
 use Rattle.run_trace.specs.Histories.{Turn, seen, IsShape, IsStamped, turn_state, clock, IsTurn, IsHistory}
-use Rattle.trace_laws.specs.Gathers.{event_in, events_in, own_turns, AllWithin, IsReached, RoundsReached, Gathers}
+use Rattle.trace_laws.specs.Gathers.{events_in, own_turns, AllWithin, IsReached, RoundsReached, Gathers}
 use Rattle.trace_laws.proofs.Merge.{merges_runs}
 
 abbrev HasStamp : ℕ → List Turn → Type 0

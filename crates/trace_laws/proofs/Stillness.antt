@@ -1,21 +1,18 @@
 -- Where nothing is ready and nothing is under way: each thread that lives waits by its rule.
-use Rattle.std.proofs.Common.{◌≡◌, ◌≢◌, ℕ, List, [], ◌∷◌, Option, Some, None, Bool, true, false, eqb, cond, refl, sym, ap, ◌∙◌, subst, arith, map, ◌⊎◌, inl, inr}
-use Rattle.std.specs.Prelude.{⊤, slice_get, ◌&&◌}
-use Rattle.std.specs.Map.{lookup}
+use Rattle.std.proofs.Common.{◌≡◌, ℕ, List, [], Some, None, false, refl, sym, ap, ◌∙◌, subst, map, inl, inr}
 use Rattle.std.proofs.lemmas.Bool.{eq-eqb}
 use Rattle.slot_space.specs.declared.names.Tid.{Tid}
-use Rattle.marcel_core.specs.declared.birth.Birth.TheVariants.{Awaited}
 use Rattle.run_trace.specs.declared.node.Row.{Row}
 use Rattle.run_trace.specs.Names.{is_tid}
 use Rattle.run_trace.specs.Program.{Program}
-use Rattle.run_trace.specs.Guests.{Guest, Thread, waits}
+use Rattle.run_trace.specs.Guests.{Thread}
 use Rattle.run_trace.specs.Cluster.{Net}
 use Rattle.run_trace.specs.Holding.{IsOn}
 use Rattle.run_trace.specs.Keyed.{item_of}
-use Rattle.run_trace.specs.Outcome.{Lives, AllLinksEmpty, IsDone, WaitsByItsRule, IsStuck}
+use Rattle.run_trace.specs.Outcome.{Lives, AllLinksEmpty, WaitsByItsRule, IsStuck}
 use Rattle.run_trace.specs.Rules.{IsSettled}
-use Rattle.run_trace.specs.Spots.{Stage, Ready, Running, Due, Needs, Told_next, Ends, Leaves, Halts, Stays, Shows, Showing, Shown_there, Asks, Awaits, Answers, Answered, Life, Unborn, On, Noting, Gone, Response, Spot, Spots}
-use Rattle.run_trace.specs.Stands.{Stands, listed, listed_name, row_part, row_in_life, link_part, on_link, way, way_of, Way, Word, word_name, words_of, phase_of, phase_at, During, thread_part, thread_in_life, thread_in_stage, wait_of}
+use Rattle.run_trace.specs.Spots.{Stage, Ready, Running, Due, Needs, Told_next, Ends, Leaves, Halts, Stays, Shows, Showing, Shown_there, Asks, Awaits, Answers, Answered, Life, Unborn, On, Noting, Gone, Response, Spots}
+use Rattle.run_trace.specs.Stands.{Stands, listed, listed_name, row_part, row_in_life, link_part, on_link, way_of, Way, word_name, words_of, phase_of, phase_at, During, thread_in_life, thread_in_stage}
 use Rattle.trace_laws.proofs.Wholes.{settled_at}
 use Rattle.trace_laws.proofs.Consequences.{OnNode, on_node_is}
 
