@@ -1,0 +1,101 @@
+//! All nodes, and what is under way between them.
+
+ghost use Rattle.std.specs.Prelude.{◌≡◌, ℕ, ◌↔◌, [], IfOk, IsTrue, length, slice_index_or};
+ghost use Rattle.run_trace.specs.Cluster.{IsTaken, fresh_net, net_after};
+ghost use Rattle.run_trace.specs.Trace.{Fits, event_of};
+ghost use Rattle.node_state.specs.Events.{program, fresh_in};
+ghost use Rattle.run_judge.specs.Nets.{net_in, NodeDoes};
+
+use crate::flights::Flights;
+use crate::labels::same_labels;
+use basics::NoMemory;
+use node_state::{Done, NodeState};
+use run_trace::{Act, Entry, Packet, Setup};
+use rv_inst::Image;
+use slot_space::NodeNo;
+use std::alloc::Global;
+
+/// All nodes, and what is under way between them.
+#[derive(Drop)]
+pub(crate) struct Cluster {
+    pub(crate) nodes: Vec<NodeState>,
+    pub(crate) flights: Flights,
+}
+
+impl Cluster {
+    /// Before the first event.
+    pub(crate) fn fresh(alloc: Global, setup: &Setup) -> Result<Cluster, NoMemory>
+        ensures count { IfOk result (λ cluster. length cluster.nodes.items ≡ setup.now.geometry.nodes) }
+        ensures nodes { IfOk result (λ cluster. (n : ℕ) → slice_index_or cluster.nodes.items n (fresh_in setup.now n) ≡ fresh_in setup.now n) }
+        ensures links { IfOk result (λ cluster. cluster.flights.all.items ≡ []) }
+    {
+        let mut nodes = Vec::new(alloc);
+        for node in 0..setup.geometry.nodes {
+            nodes.push(NodeState::fresh(alloc, setup, NodeNo(node)))?;
+        }
+        Ok(Cluster {
+            nodes,
+            flights: Flights::none(alloc),
+        })
+    }
+
+    /// Whether the machine does exactly this entry. Where it does, it has done so.
+    pub(crate) fn does(
+        &mut self,
+        setup: &Setup,
+        image: &Image,
+        entry: &Entry,
+    ) -> Result<bool, NoMemory>
+        requires { length self.old.nodes.items ≡ setup.now.geometry.nodes }
+        ensures fits { IfOk result (λ fits. let p = program setup.now image.now in
+            IsTrue fits ↔ Fits p (net_in p self.old.nodes.items self.old.flights.all.items) entry.now) }
+        ensures after { IfOk result (λ fits. IsTrue fits → (let p = program setup.now image.now in
+            let net = net_in p self.old.nodes.items self.old.flights.all.items in
+            net_in p self.new.nodes.items self.new.flights.all.items ≡ net_after p net (event_of p net entry.now))) }
+        ensures count { IfOk result (λ fits. IsTrue fits → length self.new.nodes.items ≡ length self.old.nodes.items) }
+    {
+        let took = self.flights.take(entry.node, entry.act);
+        if !comes_in_time(entry.stamp, entry.act, &took) {
+            return Ok(false);
+        }
+        let Some(done) = do_event(&mut self.nodes, setup, image, entry.node, entry.act, took)?
+        else {
+            return Ok(false);
+        };
+        if !same_labels(entry.labels.as_slice(), done.labels.as_slice()) {
+            return Ok(false);
+        }
+        self.flights.send(entry.node, entry.stamp, done.sends)?;
+        Ok(true)
+    }
+}
+
+// Whether what an act takes was sent before it, and is there.
+fn comes_in_time(stamp: u64, act: Act, took: &Option<Packet>) -> bool
+    ensures { IsTrue result ↔ IsTaken stamp act took.now }
+{
+    match (act, took) {
+        (Act::Take(_), Some(packet)) => packet.stamp < stamp,
+        (Act::Take(_), None) => false,
+        (_, Some(_)) => false,
+        (_, None) => true,
+    }
+}
+
+// The event of one node.
+fn do_event(
+    nodes: &mut Vec<NodeState>,
+    setup: &Setup,
+    image: &Image,
+    me: NodeNo,
+    act: Act,
+    took: Option<Packet>,
+) -> Result<Option<Done>, NoMemory>
+    requires { length nodes.old.items ≡ setup.now.geometry.nodes }
+    ensures { IfOk result (λ done. NodeDoes (program setup.now image.now) me act took nodes.old.items nodes.new.items done) }
+{
+    match nodes.get_mut(me.0 as usize) {
+        None => Ok(None),
+        Some(node) => node.event(setup, image, me, act, took),
+    }
+}
