@@ -1,7 +1,7 @@
-//! A trace that is known from outside, and the same with one thing wrong.
+//! Traces that are known from outside, in words, and the same with one thing wrong.
 
 use crate::judge;
-use basics::{Items, NoMemory};
+use basics::Items;
 use marcel_core::End;
 use run_trace::{Act, Entry, Extra, Label, Setup, Why};
 use rv_inst::Image;
@@ -10,8 +10,8 @@ use slot_space::{Geometry, NodeNo, SlotNo, Tid};
 use std::alloc::Global;
 use std::test::Fail;
 
-/// The program prints hi and returns.
-const WORDS: [u32; 9] = [
+/// It prints hi and returns.
+const HI: [u32; 9] = [
     0x0010_0893,
     0x0000_0073,
     0x0000_0517,
@@ -23,45 +23,161 @@ const WORDS: [u32; 9] = [
     0x0000_6968,
 ];
 
-const MAIN: Tid = Tid {
-    home: NodeNo(0),
-    seq: 0,
-};
-
-/// What is wrong with a trace.
-#[derive(Clone, Copy, PartialEq, Eq)]
-enum Wrong {
-    Nothing,
-    LabelMissing,
-    LabelTooMany,
-    Count,
-    Reply,
-    Exchanged,
-    Stamp,
-    SecondBoot,
-    EmptyLink,
-    Bytes,
-    Round,
-}
-
-/// What is wrong, and at which entry it is found.
-const ROWS: [(Wrong, Option<usize>); 11] = [
-    (Wrong::Nothing, None),
-    (Wrong::LabelMissing, Some(2)),
-    (Wrong::LabelTooMany, Some(3)),
-    (Wrong::Count, Some(1)),
-    (Wrong::Reply, Some(2)),
-    (Wrong::Exchanged, Some(2)),
-    (Wrong::Stamp, Some(3)),
-    (Wrong::SecondBoot, Some(2)),
-    (Wrong::EmptyLink, Some(1)),
-    (Wrong::Bytes, Some(1)),
-    (Wrong::Round, Some(5)),
+/// It creates a thread that returns 7, joins it and returns.
+const JOINS: [u32; 11] = [
+    0x0010_0893,
+    0x0000_0073,
+    0x0000_0517,
+    0x0205_0513,
+    0x0070_0593,
+    0x0030_0613,
+    0x0060_0893,
+    0x0000_0073,
+    0x0070_0893,
+    0x0000_0073,
+    0x0000_8067,
 ];
 
-fn image(alloc: Global) -> Result<Image, NoMemory> {
+/// It creates a thread that joins it, and joins that one.
+const WAITS: [u32; 14] = [
+    0x0010_0893,
+    0x0000_0073,
+    0x0000_0517,
+    0x0245_0513,
+    0x0000_0593,
+    0x0030_0613,
+    0x0060_0893,
+    0x0000_0073,
+    0x0070_0893,
+    0x0000_0073,
+    0x0000_8067,
+    0x0070_0893,
+    0x0000_0073,
+    0x0000_8067,
+];
+
+const HI_TRACE: &str = "@ 1 0 boot
+born 0 main 65544 0 4295032832 0
+@ 2 1 run
+ran 0 4
+asked 0 16 65568 2 - 26729
+@ 3 2 take
+shown 0
+judged 0 0
+@ 4 3 take
+told 0
+@ 5 4 run
+ran 0 2
+asked 0 1 0
+gave 0 0
+ended 0 0
+@ 6 5 take
+known 0
+";
+
+const JOINS_TRACE: &str = "@ 1 0 boot
+born 0 main 65544 0 4295032832 0
+@ 2 1 run
+ran 0 5
+asked 0 6 65576 7 3
+born 1 create 65576 7 4295098368 1
+judged 0 1
+told 0
+@ 3 2 run
+ran 1 2
+asked 1 1 7
+gave 1 1
+ended 1 7
+@ 4 3 run
+ran 0 1
+asked 0 7 1
+@ 5 4 take
+known 1
+@ 6 5 take
+heard 0
+judged 0 0 7
+@ 7 6 take
+told 0
+@ 8 7 run
+ran 0 2
+asked 0 1 0
+gave 0 0
+ended 0 0
+@ 9 8 take
+known 0
+";
+
+const WAITS_TRACE: &str = "@ 1 0 boot
+born 0 main 65544 0 4295032832 0
+@ 2 1 run
+ran 0 5
+asked 0 6 65580 0 3
+born 1 create 65580 0 4295098368 1
+judged 0 1
+told 0
+@ 3 2 run
+ran 1 1
+asked 1 7 0
+@ 4 3 run
+ran 0 1
+asked 0 7 1
+@ 5 4 take
+heard 1
+@ 6 5 take
+heard 0
+";
+
+/// A trace in which the line of this number, counted from 0, stands as these lines; and the entry at which that is found.
+type Wrong = (usize, &'static str, Option<usize>);
+
+const HI_ROWS: [Wrong; 12] = [
+    (99, "", None),
+    (6, "", Some(2)),
+    (9, "told 0\ntold 0", Some(3)),
+    (3, "ran 0 5", Some(1)),
+    (7, "judged 0 1", Some(2)),
+    (6, "judged 0 0\nshown 0", Some(2)),
+    (8, "@ 3 3 take", Some(3)),
+    (5, "@ 3 2 boot", Some(2)),
+    (2, "@ 2 1 take", Some(1)),
+    (4, "asked 0 16 65568 2 - 26735", Some(1)),
+    (15, "@ 6 3 take", Some(5)),
+    (7, "judged 0 0\ntold 0", Some(2)),
+];
+
+const JOINS_ROWS: [Wrong; 13] = [
+    (99, "", None),
+    (5, "", Some(1)),
+    (7, "told 0\nknown 1", Some(1)),
+    (9, "ran 1 3", Some(2)),
+    (6, "judged 0 2", Some(1)),
+    (20, "judged 0 0 8", Some(5)),
+    (19, "judged 0 0 7\nheard 0", Some(5)),
+    (18, "@ 5 5 take", Some(5)),
+    (13, "@ 4 3 boot", Some(3)),
+    (2, "@ 2 1 take", Some(1)),
+    (10, "asked 1 1 8", Some(2)),
+    (5, "born 1 create 65576 7 4295163904 2", Some(1)),
+    (11, "gave 1 0", Some(2)),
+];
+
+const WAITS_ROWS: [Wrong; 11] = [
+    (99, "", None),
+    (15, "", Some(4)),
+    (15, "heard 1\njudged 1 0 0", Some(4)),
+    (9, "ran 1 2", Some(2)),
+    (6, "judged 0 0", Some(1)),
+    (7, "", Some(1)),
+    (16, "@ 5 5 take", Some(5)),
+    (8, "@ 3 2 boot", Some(2)),
+    (11, "@ 4 3 take", Some(3)),
+    (10, "asked 1 7 1", Some(2)),
+    (17, "heard 0\njudged 0 18446744073709551614", Some(5)),
+];
+
+fn image(alloc: Global, words: &[u32]) -> Result<Image, Fail> {
     let mut bytes = Vec::new(alloc);
-    for word in WORDS {
+    for word in words {
         bytes.extend_from_slice(&word.to_le_bytes())?;
     }
     Ok(Image {
@@ -71,151 +187,182 @@ fn image(alloc: Global) -> Result<Image, NoMemory> {
     })
 }
 
-fn entry(stamp: u64, round: u64, act: Act, labels: Vec<Label>) -> Entry {
-    Entry {
-        stamp,
-        node: NodeNo(0),
-        round,
-        act,
-        labels: Items::new(labels),
-    }
+/// The number that a word of a line is.
+fn number(words: &[&str], at: usize) -> Result<u64, Fail> {
+    let word = words.get(at).ok_or("a line is short")?;
+    Ok(word.parse::<u64>()?)
 }
 
-fn begins(alloc: Global) -> Result<Entry, NoMemory> {
-    let mut labels = Vec::new(alloc);
-    labels.push(Label::Born {
-        t: MAIN,
-        why: Why::Main,
-        entry: 65544,
-        a0: 0,
-        a1: 0,
-        sp: 4295032832,
-        slot: SlotNo(0),
-    })?;
-    Ok(entry(1, 0, Act::Boot, labels))
+fn tid(words: &[&str], at: usize) -> Result<Tid, Fail> {
+    Ok(Tid {
+        home: NodeNo(0),
+        seq: u32::try_from(number(words, at)?)?,
+    })
 }
 
-fn asks(alloc: Global, wrong: Wrong) -> Result<Entry, NoMemory> {
-    let args = vec![in alloc; 65568, 2]?;
-    let text = if wrong == Wrong::Bytes { b"ho" } else { b"hi" };
-    let bytes = Vec::from_slice(alloc, text)?;
-    let count = if wrong == Wrong::Count { 5 } else { 4 };
-    let act = if wrong == Wrong::EmptyLink {
-        Act::Take(NodeNo(0))
-    } else {
-        Act::Run(0, 1000)
+fn slot(words: &[&str], at: usize) -> Result<SlotNo, Fail> {
+    Ok(SlotNo(u16::try_from(number(words, at)?)?))
+}
+
+fn born(words: &[&str]) -> Result<Label, Fail> {
+    let why = match words.get(2) {
+        Some(&"main") => Why::Main,
+        _ => Why::Create(tid(&["0"], 0)?),
     };
-    let mut labels = Vec::new(alloc);
-    labels.push(Label::Ran {
-        t: MAIN,
-        vp: 0,
-        count,
-        stop: Stop::Call,
-    })?;
-    labels.push(Label::Asked {
-        t: MAIN,
-        call: 16,
+    Ok(Label::Born {
+        t: tid(words, 1)?,
+        why,
+        entry: number(words, 3)?,
+        a0: number(words, 4)?,
+        a1: 0,
+        sp: number(words, 5)?,
+        slot: slot(words, 6)?,
+    })
+}
+
+/// A call's number and arguments; the bytes of a text of two behind a minus, as a number.
+fn asked(alloc: Global, words: &[&str]) -> Result<Label, Fail> {
+    let mut args = Vec::new(alloc);
+    let mut bytes = Vec::new(alloc);
+    let mut is_text = false;
+    for at in 3..words.len() {
+        if words[at] == "-" {
+            is_text = true;
+        } else if is_text {
+            let text = u16::try_from(number(words, at)?)?;
+            bytes.extend_from_slice(&text.to_be_bytes())?;
+        } else {
+            args.push(number(words, at)?)?;
+        }
+    }
+    Ok(Label::Asked {
+        t: tid(words, 1)?,
+        call: number(words, 2)?,
         args: Items::new(args),
         bytes: Items::new(bytes),
-    })?;
-    Ok(entry(2, 1, act, labels))
+    })
 }
 
-fn answered(reply: u64) -> Label {
-    Label::Judged {
-        t: MAIN,
-        reply,
-        extra: Extra::Nothing,
-    }
-}
-
-fn shows(alloc: Global, wrong: Wrong) -> Result<Entry, NoMemory> {
-    let act = if wrong == Wrong::SecondBoot {
-        Act::Boot
+fn judged(words: &[&str]) -> Result<Label, Fail> {
+    let extra = if words.len() > 3 {
+        Extra::Second(number(words, 3)?)
     } else {
-        Act::Take(NodeNo(0))
+        Extra::Nothing
     };
-    let reply = if wrong == Wrong::Reply { 1 } else { 0 };
-    let mut labels = Vec::new(alloc);
-    if wrong == Wrong::Exchanged {
-        labels.push(answered(reply))?;
-        labels.push(Label::Shown(MAIN))?;
-        return Ok(entry(3, 2, act, labels));
-    }
-    if wrong != Wrong::LabelMissing {
-        labels.push(Label::Shown(MAIN))?;
-    }
-    labels.push(answered(reply))?;
-    Ok(entry(3, 2, act, labels))
+    Ok(Label::Judged {
+        t: tid(words, 1)?,
+        reply: number(words, 2)?,
+        extra,
+    })
 }
 
-fn tells(alloc: Global, wrong: Wrong) -> Result<Entry, NoMemory> {
-    let stamp = if wrong == Wrong::Stamp { 3 } else { 4 };
-    let mut labels = Vec::new(alloc);
-    labels.push(Label::Told(MAIN))?;
-    if wrong == Wrong::LabelTooMany {
-        labels.push(Label::Told(MAIN))?;
-    }
-    Ok(entry(stamp, 3, Act::Take(NodeNo(0)), labels))
-}
-
-fn ends(alloc: Global) -> Result<Entry, NoMemory> {
-    let args = vec![in alloc; 0]?;
-    let slots = vec![in alloc; SlotNo(0)]?;
-    let mut labels = Vec::new(alloc);
-    labels.push(Label::Ran {
-        t: MAIN,
-        vp: 0,
-        count: 2,
-        stop: Stop::Call,
-    })?;
-    labels.push(Label::Asked {
-        t: MAIN,
-        call: 1,
-        args: Items::new(args),
-        bytes: Items::new(Vec::new(alloc)),
-    })?;
-    labels.push(Label::Gave {
-        t: MAIN,
+fn gave(alloc: Global, words: &[&str]) -> Result<Label, Fail> {
+    let slots = vec![in alloc; slot(words, 2)?; 1]?;
+    Ok(Label::Gave {
+        t: tid(words, 1)?,
         slots: Items::new(slots),
-    })?;
-    labels.push(Label::Ended {
-        t: MAIN,
-        end: End::Exit(0),
-    })?;
-    Ok(entry(5, 4, Act::Run(0, 1000), labels))
+    })
 }
 
-fn knows(alloc: Global, wrong: Wrong) -> Result<Entry, NoMemory> {
-    let round = if wrong == Wrong::Round { 3 } else { 5 };
-    let mut labels = Vec::new(alloc);
-    labels.push(Label::Known(MAIN))?;
-    Ok(entry(6, round, Act::Take(NodeNo(0)), labels))
+fn label(alloc: Global, words: &[&str]) -> Result<Label, Fail> {
+    let label = match words.get(0) {
+        Some(&"born") => born(words)?,
+        Some(&"ran") => Label::Ran {
+            t: tid(words, 1)?,
+            vp: 0,
+            count: u32::try_from(number(words, 2)?)?,
+            stop: Stop::Call,
+        },
+        Some(&"asked") => asked(alloc, words)?,
+        Some(&"heard") => Label::Heard(tid(words, 1)?),
+        Some(&"judged") => judged(words)?,
+        Some(&"told") => Label::Told(tid(words, 1)?),
+        Some(&"gave") => gave(alloc, words)?,
+        Some(&"ended") => Label::Ended {
+            t: tid(words, 1)?,
+            end: End::Exit(number(words, 2)?),
+        },
+        Some(&"known") => Label::Known(tid(words, 1)?),
+        _ => Label::Shown(tid(words, 1)?),
+    };
+    Ok(label)
 }
 
-fn prints_hi(alloc: Global, wrong: Wrong) -> Result<Vec<Entry>, NoMemory> {
+fn act(words: &[&str]) -> Act {
+    match words.get(3) {
+        Some(&"boot") => Act::Boot,
+        Some(&"run") => Act::Run(0, 1000),
+        _ => Act::Take(NodeNo(0)),
+    }
+}
+
+/// The entries of a trace of one node, in words.
+fn entries(alloc: Global, trace: &str) -> Result<Vec<Entry>, Fail> {
     let mut entries = Vec::new(alloc);
-    entries.push(begins(alloc)?)?;
-    entries.push(asks(alloc, wrong)?)?;
-    entries.push(shows(alloc, wrong)?)?;
-    entries.push(tells(alloc, wrong)?)?;
-    entries.push(ends(alloc)?)?;
-    entries.push(knows(alloc, wrong)?)?;
+    let mut labels = Vec::new(alloc);
+    // The last line comes first, so that the labels of an entry are there when its line comes.
+    let mut lines = Vec::new(alloc);
+    for line in trace.lines() {
+        lines.push(line)?;
+    }
+    for line in lines.iter().rev() {
+        let mut words = Vec::new(alloc);
+        for word in line.split_whitespace() {
+            words.push(word)?;
+        }
+        if words.get(0) == Some(&"@") {
+            labels.reverse();
+            entries.push(Entry {
+                stamp: number(&words, 1)?,
+                node: NodeNo(0),
+                round: number(&words, 2)?,
+                act: act(&words),
+                labels: Items::new(labels),
+            })?;
+            labels = Vec::new(alloc);
+        } else if !words.is_empty() {
+            labels.push(label(alloc, &words)?)?;
+        }
+    }
+    entries.reverse();
     Ok(entries)
 }
 
-#[test]
-fn one_thing_wrong_is_found_at_its_entry(rt: HostRuntime) -> Result<(), Fail> {
-    let alloc = rt.alloc();
-    let image = image(alloc)?;
+/// The trace with its line of that number replaced.
+fn with_line(alloc: Global, trace: &str, at: usize, lines: &str) -> Result<String, Fail> {
+    let mut text = String::new(alloc);
+    for (number, line) in trace.lines().enumerate() {
+        let line = if number == at { lines } else { line };
+        text.push_str(line)?;
+        text.push_str("\n")?;
+    }
+    Ok(text)
+}
+
+fn finds(alloc: Global, words: &[u32], trace: &str, rows: &[Wrong]) -> Result<u32, Fail> {
+    let image = image(alloc, words)?;
     let geometry = Geometry::new(1, 16).ok_or("within the limits")?;
     let setup = Setup {
         geometry,
         quantum: 1000,
     };
-    for (wrong, fault) in ROWS {
-        let entries = prints_hi(alloc, wrong)?;
-        assert_eq!(rt; judge(alloc, &setup, &image, &entries)?, fault);
+    let mut found = 0u32;
+    for row in rows {
+        let (at, lines, fault) = *row;
+        let text = with_line(alloc, trace, at, lines)?;
+        let entries = entries(alloc, text.as_str())?;
+        if judge(alloc, &setup, &image, &entries)? == fault {
+            found = found.saturating_add(1);
+        }
     }
+    Ok(found)
+}
+
+#[test]
+fn one_thing_wrong_is_found_at_its_entry(rt: HostRuntime) -> Result<(), Fail> {
+    let alloc = rt.alloc();
+    assert_eq!(rt; finds(alloc, &HI, HI_TRACE, &HI_ROWS)?, 12);
+    assert_eq!(rt; finds(alloc, &JOINS, JOINS_TRACE, &JOINS_ROWS)?, 13);
+    assert_eq!(rt; finds(alloc, &WAITS, WAITS_TRACE, &WAITS_ROWS)?, 11);
     Ok(())
 }
