@@ -127,52 +127,55 @@ heard 1
 heard 0
 ";
 
-/// A trace in which the line of this number, counted from 0, stands as these lines; and the entry at which that is found.
-type Wrong = (usize, &'static str, Option<usize>);
+/// A trace in which these lines stand for so many lines from the one of this number on, counted from 0; and the entry at which
+/// that is found.
+type Wrong = (usize, usize, &'static str, Option<usize>);
 
 const HI_ROWS: [Wrong; 12] = [
-    (99, "", None),
-    (6, "", Some(2)),
-    (9, "told 0\ntold 0", Some(3)),
-    (3, "ran 0 5", Some(1)),
-    (7, "judged 0 1", Some(2)),
-    (6, "judged 0 0\nshown 0", Some(2)),
-    (8, "@ 3 3 take", Some(3)),
-    (5, "@ 3 2 boot", Some(2)),
-    (2, "@ 2 1 take", Some(1)),
-    (4, "asked 0 16 65568 2 - 26735", Some(1)),
-    (15, "@ 6 3 take", Some(5)),
-    (7, "judged 0 0\ntold 0", Some(2)),
+    (0, 0, "", None),
+    (6, 1, "", Some(2)),
+    (9, 1, "told 0\ntold 0", Some(3)),
+    (3, 1, "ran 0 5", Some(1)),
+    (7, 1, "judged 0 1", Some(2)),
+    (6, 2, "judged 0 0\nshown 0", Some(2)),
+    (8, 1, "@ 3 3 take", Some(3)),
+    (5, 1, "@ 3 2 boot", Some(2)),
+    (2, 1, "@ 2 1 take", Some(1)),
+    (4, 1, "asked 0 16 65568 2 - 26735", Some(1)),
+    (15, 1, "@ 6 3 take", Some(5)),
+    (7, 1, "judged 0 0\ntold 0", Some(2)),
 ];
 
 const JOINS_ROWS: [Wrong; 13] = [
-    (99, "", None),
-    (5, "", Some(1)),
-    (7, "told 0\nknown 1", Some(1)),
-    (9, "ran 1 3", Some(2)),
-    (6, "judged 0 2", Some(1)),
-    (20, "judged 0 0 8", Some(5)),
-    (19, "judged 0 0 7\nheard 0", Some(5)),
-    (18, "@ 5 5 take", Some(5)),
-    (13, "@ 4 3 boot", Some(3)),
-    (2, "@ 2 1 take", Some(1)),
-    (10, "asked 1 1 8", Some(2)),
-    (5, "born 1 create 65576 7 4295163904 2", Some(1)),
-    (11, "gave 1 0", Some(2)),
+    (0, 0, "", None),
+    (5, 1, "", Some(1)),
+    (7, 1, "told 0\nknown 1", Some(1)),
+    (9, 1, "ran 1 3", Some(2)),
+    (6, 1, "judged 0 2", Some(1)),
+    (20, 1, "judged 0 0 8", Some(5)),
+    (19, 2, "judged 0 0 7\nheard 0", Some(5)),
+    (18, 1, "@ 5 5 take", Some(5)),
+    (13, 1, "@ 4 3 boot", Some(3)),
+    (2, 1, "@ 2 1 take", Some(1)),
+    (10, 1, "asked 1 1 8", Some(2)),
+    (5, 1, "born 1 create 65576 7 4295163904 2", Some(1)),
+    (11, 1, "gave 1 0", Some(2)),
 ];
 
-const WAITS_ROWS: [Wrong; 11] = [
-    (99, "", None),
-    (15, "", Some(4)),
-    (15, "heard 1\njudged 1 0 0", Some(4)),
-    (9, "ran 1 2", Some(2)),
-    (6, "judged 0 0", Some(1)),
-    (7, "", Some(1)),
-    (16, "@ 5 5 take", Some(5)),
-    (8, "@ 3 2 boot", Some(2)),
-    (11, "@ 4 3 take", Some(3)),
-    (10, "asked 1 7 1", Some(2)),
-    (17, "heard 0\njudged 0 18446744073709551614", Some(5)),
+const WAITS_ROWS: [Wrong; 13] = [
+    (0, 0, "", None),
+    (15, 1, "", Some(4)),
+    (15, 1, "heard 1\njudged 1 0 0", Some(4)),
+    (9, 1, "ran 1 2", Some(2)),
+    (6, 1, "judged 0 0", Some(1)),
+    (6, 2, "told 0\njudged 0 1", Some(1)),
+    (7, 1, "", Some(1)),
+    (16, 1, "@ 5 5 take", Some(5)),
+    (8, 1, "@ 3 2 boot", Some(2)),
+    (2, 1, "@ 2 1 take", Some(1)),
+    (11, 1, "@ 4 3 take", Some(3)),
+    (10, 1, "asked 1 7 1", Some(2)),
+    (17, 1, "heard 0\njudged 0 18446744073709551614", Some(5)),
 ];
 
 fn image(alloc: Global, words: &[u32]) -> Result<Image, Fail> {
@@ -328,13 +331,19 @@ fn entries(alloc: Global, trace: &str) -> Result<Vec<Entry>, Fail> {
     Ok(entries)
 }
 
-/// The trace with its line of that number replaced.
-fn with_line(alloc: Global, trace: &str, at: usize, lines: &str) -> Result<String, Fail> {
+/// The trace with that wrong.
+fn with_lines(alloc: Global, trace: &str, row: &Wrong) -> Result<String, Fail> {
+    let (at, count, lines, _fault) = *row;
     let mut text = String::new(alloc);
     for (number, line) in trace.lines().enumerate() {
-        let line = if number == at { lines } else { line };
-        text.push_str(line)?;
-        text.push_str("\n")?;
+        if number == at && count > 0 {
+            text.push_str(lines)?;
+            text.push_str("\n")?;
+        }
+        if number < at || number - at >= count {
+            text.push_str(line)?;
+            text.push_str("\n")?;
+        }
     }
     Ok(text)
 }
@@ -348,10 +357,9 @@ fn finds(alloc: Global, words: &[u32], trace: &str, rows: &[Wrong]) -> Result<u3
     };
     let mut found = 0u32;
     for row in rows {
-        let (at, lines, fault) = *row;
-        let text = with_line(alloc, trace, at, lines)?;
+        let text = with_lines(alloc, trace, row)?;
         let entries = entries(alloc, text.as_str())?;
-        if judge(alloc, &setup, &image, &entries)? == fault {
+        if judge(alloc, &setup, &image, &entries)? == row.3 {
             found = found.saturating_add(1);
         }
     }
@@ -363,6 +371,6 @@ fn one_thing_wrong_is_found_at_its_entry(rt: HostRuntime) -> Result<(), Fail> {
     let alloc = rt.alloc();
     assert_eq!(rt; finds(alloc, &HI, HI_TRACE, &HI_ROWS)?, 12);
     assert_eq!(rt; finds(alloc, &JOINS, JOINS_TRACE, &JOINS_ROWS)?, 13);
-    assert_eq!(rt; finds(alloc, &WAITS, WAITS_TRACE, &WAITS_ROWS)?, 11);
+    assert_eq!(rt; finds(alloc, &WAITS, WAITS_TRACE, &WAITS_ROWS)?, 13);
     Ok(())
 }
