@@ -13,3 +13,4 @@ pub mod HeapSets
 pub mod Checks
 pub mod InTheWay
 pub mod Sound
+pub mod Place

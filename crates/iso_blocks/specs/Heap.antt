@@ -1,6 +1,8 @@
 -- What a thread's block layer is seen as, where a block is placed, and what a free gives back.
 use Rattle.std.specs.Prelude.{◌≡◌, ℕ, ◌+◌, ◌*◌, ◌/◌, ◌%◌, ◌<◌, ◌≤◌, Bool, true, false, not, ◌&&◌, List, [], ◌∷◌, Option, Some, None, nat_le, ◌==◌, filter, slice_index_or, if◌then◌else◌}
-use Rattle.slot_space.specs.Sets.{minus, union, run, IsSlotSet}
+use Rattle.std.specs.Option.{option_map}
+use Rattle.slot_space.specs.Places.{slot_base}
+use Rattle.slot_space.specs.Sets.{minus, union, run, has_run, lowest_run, IsSlotSet}
 use Rattle.iso_blocks.specs.Bytes.{in_slots, in_blocks, is_met}
 
 -- the live blocks, ascending by address, and the heap slots, ascending
@@ -25,6 +27,14 @@ pub record Fits (heap : Heap) (size address : ℕ) : Type 0 where
 abbrev pub IsLowestFit : Heap → ℕ → Option ℕ → Type 0
 IsLowestFit heap size None = (address : ℕ) → Fits heap size address → ⊥
 IsLowestFit heap size (Some lowest) = Fits heap size lowest × ((address : ℕ) → Fits heap size address → lowest ≤ address)
+
+-- `size` bytes from the address on are all free
+abbrev pub has_room : Heap → ℕ → ℕ → Bool
+has_room heap size address = has_run (is_free heap) address size
+
+-- the same as a number: the least multiple of 16, below the end of the last slot, from which `size` bytes are free, or none
+unfoldable pub place : Heap → ℕ → Option ℕ
+place heap size = option_map (λ k. 16 * k) (lowest_run (λ k. has_room heap size (16 * k)) 1 (slot_base 4096 / 16))
 
 -- the ascending list with one more block
 abbrev pub with_block : ℕ × ℕ → List (ℕ × ℕ) → List (ℕ × ℕ)

@@ -3,7 +3,7 @@
 ghost use Rattle.std.specs.Prelude.{◌≡◌, ℕ, ◌+◌, ◌≤◌, ◌^◌, [], OnOk, OnErr, IfOk, OnSome, IfNone, IsTrue};
 ghost use Rattle.std.specs.Option.{SomeIff};
 ghost use Rattle.slot_space.specs.Sets.{IsSlotSet};
-ghost use Rattle.iso_blocks.specs.Heap.{Heap, rounded, IsLowestFit, placed, with_slots, starts_at, emptied, freed, IsSound};
+ghost use Rattle.iso_blocks.specs.Heap.{Heap, rounded, IsLowestFit, place, placed, with_slots, starts_at, emptied, freed, IsSound};
 
 use crate::layout::Layout;
 use crate::{check, space};
@@ -40,10 +40,12 @@ impl Blocks {
     }
 
     /// Places a block of at least `n` bytes at the lowest address at which it fits. None exactly where there is none.
+    #[tactic(auto, using(crate::proofs::Place::place_result))]
     pub fn place(&mut self, n: u64) -> Result<Option<u64>, NoMemory>
         requires some { 1 ≤ n }
         requires few { n ≤ 2 ^ 28 }
         ensures lowest { IfOk result (IsLowestFit self.old (rounded n)) }
+        ensures place { IfOk result (λ address. address ≡ place self.old (rounded n)) }
         ensures ok { IfOk result (λ address. self.new ≡ placed self.old (rounded n) address) }
         ensures err { OnErr result (self.new ≡ self.old) }
         ensures sound { IsSound self.new }

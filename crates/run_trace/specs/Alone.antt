@@ -8,7 +8,8 @@ use Rattle.run_trace.specs.declared.label.Label.{Label}
 use Rattle.run_trace.specs.declared.label.Label.TheVariants.{Born, Ran, Asked, Heard, Judged, Told, Took, Gave, Ended, Known, Left, Came, Lent, InHand, Decided, Returned, Home, Down, Burst, Gathered, Shown, Halted, Dropped}
 use Rattle.run_trace.specs.Names.{is_tid}
 use Rattle.run_trace.specs.Program.{Program, code_of}
-use Rattle.run_trace.specs.Guests.{newborn, without_slots}
+use Rattle.slot_space.specs.Sets.{run}
+use Rattle.run_trace.specs.Guests.{newborn, with_zero_slots, without_slots}
 use Rattle.run_trace.specs.Spots.{Response, no_response, stepped, second_of, Spot, unborn}
 
 -- whose label it is
@@ -53,6 +54,8 @@ alone_then p (Born t why entry a0 a1 sp slot) a =
 alone_then p (Ran t vp count stop) a = record a { state = stepped (code_of p) count a.state }
 alone_then p (Judged t reply extra) a = record a { reply = record { code = reply; second = second_of extra } }
 alone_then p (Told t) a = record a { state = hart_told a.state a.reply.code a.reply.second }
+alone_then p (Took t first count) a =
+    record a { state = record a.state { memory = with_zero_slots (run first count) a.state.memory } }
 alone_then p (Gave t slots) a = record a { state = record a.state { memory = without_slots slots a.state.memory } }
 alone_then p _ a = a
 

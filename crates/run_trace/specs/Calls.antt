@@ -1,5 +1,5 @@
 -- The calls of the library: what a guest asks, and the checks that are made before anything is done.
-use Rattle.std.specs.Prelude.{ℕ, ◌/◌, ◌%◌, ◌^◌, List, [], ◌∷◌, Bool, true, false, Option, Some, None, is_some, ◌==◌, ◌&&◌, nat_lt, nat_le, if◌then◌else◌}
+use Rattle.std.specs.Prelude.{ℕ, ◌/◌, ◌%◌, ◌*◌, ◌^◌, List, [], ◌∷◌, Bool, true, false, Option, Some, None, is_some, ◌==◌, ◌&&◌, nat_lt, nat_le, if◌then◌else◌}
 use Rattle.rv_inst.specs.Image.{image_word}
 use Rattle.rv_step.specs.Access.{readable, bytes_from}
 use Rattle.rv_step.specs.Step.{State, reg_of}
@@ -7,7 +7,9 @@ use Rattle.slot_space.specs.Replies.{tid_value}
 use Rattle.slot_space.specs.declared.names.Tid.{Tid}
 use Rattle.slot_space.specs.declared.names.Reply.{Reply}
 use Rattle.slot_space.specs.declared.names.Reply.TheVariants as replies
-use Rattle.run_trace.specs.Program.{Program, nodes_of, code_of}
+use Rattle.iso_blocks.specs.Heap.{starts_at}
+use Rattle.run_trace.specs.Program.{Program, nodes_of, slots_in, code_of}
+use Rattle.run_trace.specs.Guests.{Solo}
 
 pub data Call : Type 0 where
   Exit : (value : ℕ) → Call
@@ -17,6 +19,8 @@ pub data Call : Type 0 where
   Yield : Call
   Create : (entry argument priority : ℕ) → Call
   Join : (name : ℕ) → Call
+  Isomalloc : (len : ℕ) → Call
+  Isofree : (address : ℕ) → Call
   Print : (address len : ℕ) → Call
   Halt : Call
   Unknown : (number : ℕ) → Call
@@ -31,6 +35,8 @@ call_by number a0 a1 a2 =
     else if number == 5 then Yield
     else if number == 6 then Create a0 a1 a2
     else if number == 7 then Join a0
+    else if number == 12 then Isomalloc a0
+    else if number == 13 then Isofree a0
     else if number == 16 then Print a0 a1
     else if number == 25 then Halt
     else Unknown number
@@ -47,6 +53,8 @@ number_of Nodes = 4
 number_of Yield = 5
 number_of (Create entry argument priority) = 6
 number_of (Join name) = 7
+number_of (Isomalloc len) = 12
+number_of (Isofree address) = 13
 number_of (Print address len) = 16
 number_of Halt = 25
 number_of (Unknown number) = number
@@ -59,6 +67,8 @@ args_of Nodes = []
 args_of Yield = []
 args_of (Create entry argument priority) = entry ∷ argument ∷ priority ∷ []
 args_of (Join name) = name ∷ []
+args_of (Isomalloc len) = len ∷ []
+args_of (Isofree address) = address ∷ []
 args_of (Print address len) = address ∷ len ∷ []
 args_of Halt = []
 args_of (Unknown number) = []
@@ -72,33 +82,23 @@ refuse_if true reply rest = Some reply
 refuse_if false reply rest = rest
 
 -- the first check that fails for a call of thread t, and its reply
-abbrev pub refusal : Program → Tid → State → Call → Option Reply
-refusal p t s (Create entry argument priority) =
+abbrev pub refusal : Program → Tid → Solo → Call → Option Reply
+refusal p t x (Create entry argument priority) =
     refuse_if (if is_entry p entry then nat_lt 7 priority else true) replies.BadArgument None
-refusal p t s (Join name) =
+refusal p t x (Join name) =
     refuse_if (name == tid_value t) replies.BadArgument (refuse_if (nat_le (nodes_of p) (name / 2 ^ 32)) replies.NoSuch None)
-refusal p t s (Print address len) =
+refusal p t x (Isomalloc len) =
+    refuse_if (len == 0) replies.BadArgument (refuse_if (nat_lt (65536 * slots_in p) len) replies.TooLong None)
+refusal p t x (Isofree address) = refuse_if (if starts_at x.live address then false else true) replies.NoSuch None
+refusal p t x (Print address len) =
     refuse_if (nat_lt 256 len) replies.TooLong
-    (refuse_if (if readable (code_of p) s.memory address len then false else true) replies.BadArgument None)
-refusal p t s (Unknown number) = Some replies.BadArgument
-refusal p t s (Exit value) = None
-refusal p t s Self = None
-refusal p t s Node = None
-refusal p t s Nodes = None
-refusal p t s Yield = None
-refusal p t s Halt = None
+    (refuse_if (if readable (code_of p) x.state.memory address len then false else true) replies.BadArgument None)
+refusal p t x (Unknown number) = Some replies.BadArgument
+refusal p t x _ = None
 
 abbrev pub bytes_of : Program → State → Call → List ℕ
 bytes_of p s (Print address len) = bytes_from (code_of p) s.memory address len
-bytes_of p s (Exit value) = []
-bytes_of p s Self = []
-bytes_of p s Node = []
-bytes_of p s Nodes = []
-bytes_of p s Yield = []
-bytes_of p s (Create entry argument priority) = []
-bytes_of p s (Join name) = []
-bytes_of p s Halt = []
-bytes_of p s (Unknown number) = []
+bytes_of p s _ = []
 
 -- the bytes that a call names, told where its checks pass
 abbrev pub said_bytes : Program → State → Call → Option Reply → List ℕ

@@ -1,8 +1,9 @@
 -- One node as a machine: what an act does, composed of small steps. Here alone stand the rules of the calls.
-use Rattle.std.specs.Prelude.{ℕ, ◌^◌, List, Option, Some, None, Bool, true, false, ◌==◌, ◌&&◌, not, nat_lt, nat_le, slice_get, if◌then◌else◌}
+use Rattle.std.specs.Prelude.{ℕ, ◌^◌, List, [], ◌∷◌, Option, Some, None, Bool, true, false, ◌==◌, ◌&&◌, not, nat_lt, nat_le, slice_get, if◌then◌else◌}
 use Rattle.std.specs.Map.{lookup}
 use Rattle.slot_space.specs.Replies.{reply_code, tid_value}
-use Rattle.slot_space.specs.Sets.{has, lowest_run}
+use Rattle.slot_space.specs.Sets.{has, run, lowest_run}
+use Rattle.iso_blocks.specs.Heap.{rounded, place, emptied}
 use Rattle.slot_space.specs.declared.names.Tid.{Tid}
 use Rattle.slot_space.specs.declared.names.Reply.{Reply}
 use Rattle.slot_space.specs.declared.names.Reply.TheVariants as replies
@@ -24,11 +25,11 @@ use Rattle.run_trace.specs.declared.node.Wait.{Wait}
 use Rattle.run_trace.specs.declared.node.Wait.TheVariants as wait
 use Rattle.run_trace.specs.Names.{is_tid, tid_of}
 use Rattle.run_trace.specs.Program.{Program, nodes_of, code_of, processors_of, quantum_limit, main_priority}
-use Rattle.run_trace.specs.Guests.{Thread, Run, run_of, with_state}
-use Rattle.run_trace.specs.Calls.{Call, Exit, Self, Node, Nodes, Yield, Create, Join, Print, Halt, Unknown, call_of, refusal, bytes_of}
+use Rattle.run_trace.specs.Guests.{Guest, Thread, Run, run_of, with_state, takes_slots, gives_slots, heap_of, with_placed, without_block, slots_for}
+use Rattle.run_trace.specs.Calls.{Call, Exit, Self, Node, Nodes, Yield, Create, Join, Isomalloc, Isofree, Print, Halt, Unknown, call_of, refusal, bytes_of}
 use Rattle.run_trace.specs.Places.{best}
 use Rattle.run_trace.specs.Local.{Local, Doing, nothing, with_booted}
-use Rattle.run_trace.specs.Steps.{birth, ran, runs_out, asks, asks_show, asks_join, halts, judge, tell, reply_by_link, gives, ends, shows, acknowledges, hears, knows, next_name}
+use Rattle.run_trace.specs.Steps.{birth, ran, runs_out, asks, asks_show, asks_join, halts, judge, tell, settle, reply_by_link, takes_run, returns, gives, ends, shows, acknowledges, hears, knows, next_name}
 
 -- ## Compositions
 
@@ -39,9 +40,12 @@ answer t code d = tell t code None (judge t code None d)
 abbrev pub end_thread : Tid → Thread → End → Doing → Doing
 end_thread t x end d = ends t end (gives t x d)
 
--- the least slot that no thread holds
+-- the lowest run of so many slots that no thread holds
+abbrev pub free_run : List ℕ → ℕ → Option ℕ
+free_run own count = lowest_run (λ s. has s own) count 4096
+
 abbrev pub free_slot : List ℕ → Option ℕ
-free_slot own = lowest_run (λ s. has s own) 1 4096
+free_slot own = free_run own 1
 
 abbrev pub creates_in : ℕ → Tid → (entry argument priority : ℕ) → Option ℕ → Doing → Doing
 creates_in me t entry argument priority None d = answer t (reply_code replies.Full) d
@@ -50,6 +54,48 @@ creates_in me t entry argument priority (Some slot) d =
 
 abbrev pub creates : ℕ → Tid → (entry argument priority : ℕ) → Doing → Doing
 creates me t entry argument priority d = creates_in me t entry argument priority (free_slot d.node.slots.own) d
+
+-- ## Blocks; g is the guest, as it is on the node
+
+-- a thread that is here has its reply at once, and is this guest then
+abbrev pub settles : Tid → ℕ → Guest → Doing → Doing
+settles t code g d = tell t code None (settle t code g d)
+
+abbrev pub place_code : Option ℕ → ℕ
+place_code None = reply_code replies.Full
+place_code (Some address) = address
+
+-- the block is placed where it has a place, else the reply is Full
+abbrev pub places : Tid → ℕ → Guest → Doing → Doing
+places t size g d =
+    let address : Option ℕ = place (heap_of g.solo) size in
+    settles t (place_code address) (with_placed size address g) d
+
+-- what a block that has this place or none lets its thread take
+abbrev pub claimed : Option ℕ → Option ℕ → Option ℕ
+claimed (Some address) free = None
+claimed None free = free
+
+-- the run is taken, if there is one, and then the block is placed
+abbrev pub allocates_with : Tid → ℕ → Option ℕ → Guest → Doing → Doing
+allocates_with t size None g d = places t size g d
+allocates_with t size (Some first) g d =
+    places t size (takes_slots (run first (slots_for size)) g) (takes_run t first (slots_for size) g d)
+
+-- where a block has no place, its thread takes the node's lowest run of as many slots as the block needs
+abbrev pub allocates : Tid → ℕ → Guest → Doing → Doing
+allocates t size g d =
+    allocates_with t size (claimed (place (heap_of g.solo) size) (free_run d.node.slots.own (slots_for size))) g d
+
+abbrev pub returns_any : Tid → List ℕ → Guest → Doing → Doing
+returns_any t [] g d = d
+returns_any t (s ∷ slots) g d = returns t (s ∷ slots) g d
+
+-- the heap slots that no other block meets go to the node, and then the block is gone
+abbrev pub frees : Tid → ℕ → Guest → Doing → Doing
+frees t address g d =
+    let slots : List ℕ = emptied (heap_of g.solo) address in
+    settles t 0 (without_block address (gives_slots slots g)) (returns_any t slots g d)
 
 -- a call past its checks
 abbrev pub does : Program → ℕ → Tid → Thread → Call → Doing → Doing
@@ -61,6 +107,8 @@ does p me t x Yield d = answer t 0 (asks t Yield d)
 does p me t x (Create entry argument priority) d =
     creates me t entry argument priority (asks t (Create entry argument priority) d)
 does p me t x (Join name) d = asks_join t (Join name) (tid_of name) x d
+does p me t x (Isomalloc len) d = allocates t (rounded len) x.guest (asks t (Isomalloc len) d)
+does p me t x (Isofree address) d = frees t address x.guest (asks t (Isofree address) d)
 does p me t x (Print address len) d =
     asks_show t (Print address len) (bytes_of p x.guest.solo.state (Print address len)) x d
 does p me t x Halt d = halts t x (asks t Halt d)
@@ -84,7 +132,7 @@ abbrev pub stops_by : Program → (me vp : ℕ) → Tid → Thread → Run → S
 stops_by p me vp t x r stops.Quantum d = runs_out t vp r x d
 stops_by p me vp t x r stops.Call d =
     let y : Thread = record x { guest = with_state r.state x.guest } in
-    calls p me t y (call_of r.state) (refusal p t r.state (call_of r.state)) (ran t vp r x d)
+    calls p me t y (call_of r.state) (refusal p t y.guest.solo (call_of r.state)) (ran t vp r x d)
 stops_by p me vp t x r (stops.Fault kind) d =
     let y : Thread = record x { guest = with_state r.state x.guest } in
     end_thread t y (end_of.Fault kind r.state.pc) (ran t vp r x d)

@@ -1,7 +1,8 @@
 -- The rules of a trace, each by what the labels before tell: what a label on node n must have found.
 use Rattle.std.specs.Prelude.{◌≡◌, ◌==◌, ℕ, List, [], ◌∷◌, ◌++◌, length, Option, Some, None, Bool, true, false, ⊤}
 use Rattle.slot_space.specs.Replies.{reply_code}
-use Rattle.slot_space.specs.Sets.{has, lowest_run}
+use Rattle.slot_space.specs.Sets.{has, run, lowest_run}
+use Rattle.iso_blocks.specs.Heap.{rounded, place, emptied}
 use Rattle.slot_space.specs.declared.names.Tid.{Tid}
 use Rattle.slot_space.specs.declared.names.Reply.TheVariants as replies
 use Rattle.rv_step.specs.Run.{after, StopsBy}
@@ -10,7 +11,7 @@ use Rattle.run_trace.specs.declared.entry.Act.{Act}
 use Rattle.run_trace.specs.declared.entry.Act.TheVariants.{Boot, Run, Take, Move}
 use Rattle.run_trace.specs.declared.entry.Entry.{Entry}
 use Rattle.run_trace.specs.declared.label.Label.{Label}
-use Rattle.run_trace.specs.declared.label.Label.TheVariants.{Born, Ran, Asked, Heard, Judged, Told, Gave, Ended, Known, Shown, Halted}
+use Rattle.run_trace.specs.declared.label.Label.TheVariants.{Born, Ran, Asked, Heard, Judged, Told, Took, Gave, Ended, Known, Shown, Halted}
 use Rattle.run_trace.specs.declared.label.Why.{Why}
 use Rattle.run_trace.specs.declared.label.Why.TheVariants as why
 use Rattle.run_trace.specs.declared.label.Extra.{Extra}
@@ -20,13 +21,14 @@ use Rattle.run_trace.specs.declared.packet.Body.TheVariants.{Show, ShowDone, Joi
 use Rattle.run_trace.specs.declared.packet.Send.{Send}
 use Rattle.run_trace.specs.Names.{tid}
 use Rattle.run_trace.specs.Program.{Program, code_of}
-use Rattle.run_trace.specs.Guests.{stack_end, guest_slots}
-use Rattle.run_trace.specs.Calls.{call_of, number_of, args_of, refusal, said_bytes}
+use Rattle.run_trace.specs.Guests.{Solo, Guest, stack_end, guest_slots, heap_of, slots_for}
+use Rattle.run_trace.specs.Calls.{Call, Create, Isomalloc, Isofree, call_of, number_of, args_of, refusal, said_bytes}
 use Rattle.run_trace.specs.Places.{IsBest}
 use Rattle.run_trace.specs.Steps.{extra_of}
+use Rattle.run_trace.specs.Machine.{place_code}
 use Rattle.run_trace.specs.Cluster.{Net}
 use Rattle.run_trace.specs.Trace.{net_after_trace, sends_or, done_for}
-use Rattle.run_trace.specs.Spots.{Stage, Ready, Running, Due, Needs, Told_next, Ends, Leaves, Halts, Shows, Showing, Shown_there, Asks, Answers, Answered, Life, Unborn, On, Noting, Spots, Holder, Of_node, Of_thread, stepped, stage_of_call, after_label, after_labels}
+use Rattle.run_trace.specs.Spots.{Stage, Ready, Running, Due, Served, Told_next, Ends, Leaves, Halts, Shows, Showing, Shown_there, Asks, Answers, Answered, Life, Unborn, On, Noting, Spots, Holder, Of_node, Of_thread, stepped, stage_of_call, after_label, after_labels}
 
 -- a rule says of a label on node n, in an act of this quantum, what must have been told before
 abbrev pub Rule : Type 1
@@ -37,7 +39,7 @@ Rule = Program → (quantum n : ℕ) → Label → Spots → Type 0
 -- with what a thread is born
 abbrev pub IsBorn : Program → ℕ → Why → (entry a0 : ℕ) → Spots → Type 0
 IsBorn p n why.Main entry a0 w = (entry ≡ p.image.main) × (a0 ≡ 0) × (n ≡ 0)
-IsBorn p n (why.Create by) entry a0 w = (priority : ℕ) × ((w.threads by).life ≡ On n (Needs entry a0 priority))
+IsBorn p n (why.Create by) entry a0 w = (priority : ℕ) × ((w.threads by).life ≡ On n (Served (Create entry a0 priority)))
 IsBorn p n _ entry a0 w = ⊥
 
 abbrev pub SoloRule : Rule
@@ -46,14 +48,15 @@ SoloRule p quantum n (Ran t vp count stop) w =
     let s : State = (w.threads t).guest.solo.state in
     (after (code_of p) s count ≡ Some (stepped (code_of p) count s)) × StopsBy (code_of p) (stepped (code_of p) count s) quantum count stop
 SoloRule p quantum n (Asked t call args bytes) w =
-    let s : State = (w.threads t).guest.solo.state in
-    (call ≡ number_of (call_of s)) × (args ≡ args_of (call_of s)) × (bytes ≡ said_bytes p s (call_of s) (refusal p t s (call_of s)))
+    let x : Solo = (w.threads t).guest.solo in let c : Call = call_of x.state in
+    (call ≡ number_of c) × (args ≡ args_of c) × (bytes ≡ said_bytes p x.state c (refusal p t x c))
 SoloRule p quantum n _ w = ⊤
 
 -- ## Holders: a slot goes only from the holder that the rule names
 
 abbrev pub HoldersRule : Rule
 HoldersRule p quantum n (Born t why entry a0 a1 sp slot) w = w.slots slot ≡ Of_node n
+HoldersRule p quantum n (Took t first count) w = (s : ℕ) → has s (run first count) ≡ true → w.slots s ≡ Of_node n
 HoldersRule p quantum n (Gave t slots) w = (s : ℕ) → has s slots ≡ true → w.slots s ≡ Of_thread t
 HoldersRule p quantum n _ w = ⊤
 
@@ -61,7 +64,7 @@ HoldersRule p quantum n _ w = ⊤
 
 abbrev pub MayJudge : ℕ → Life → Type 0
 MayJudge n (On m (Due code)) = m ≡ n
-MayJudge n (On m (Needs entry argument priority)) = m ≡ n
+MayJudge n (On m (Served c)) = m ≡ n
 MayJudge n (On m Showing) = n ≡ 0
 MayJudge n (On m (Answers h reply second)) = h ≡ n
 MayJudge n _ = ⊥
@@ -77,9 +80,15 @@ abbrev pub MayHear : ℕ → Life → Type 0
 MayHear n (On m (Asks u)) = u.home ≡ n
 MayHear n _ = ⊥
 
-abbrev pub MayGive : ℕ → Life → Type 0
-MayGive n (On m (Ends end)) = m ≡ n
-MayGive n _ = ⊥
+abbrev pub MayTake : ℕ → Life → Type 0
+MayTake n (On m (Served (Isomalloc len))) = m ≡ n
+MayTake n _ = ⊥
+
+-- a thread that ends gives all its slots; one that frees a block gives the heap slots that no other block meets, where there are any
+abbrev pub MayGive : ℕ → Life → Guest → List ℕ → Type 0
+MayGive n (On m (Ends end)) g slots = (m ≡ n) × (slots ≡ guest_slots g)
+MayGive n (On m (Served (Isofree address))) g slots = (m ≡ n) × (slots ≡ emptied (heap_of g.solo) address) × (slots ≡ [] → ⊥)
+MayGive n _ g slots = ⊥
 
 abbrev pub MayShow : ℕ → Life → Type 0
 MayShow n (On m (Shows bytes)) = n ≡ 0
@@ -96,7 +105,8 @@ LifeRule p quantum n (Asked t call args bytes) w = (w.threads t).life ≡ On n R
 LifeRule p quantum n (Heard t) w = MayHear n (w.threads t).life
 LifeRule p quantum n (Judged t reply extra) w = MayJudge n (w.threads t).life
 LifeRule p quantum n (Told t) w = MayTell n (w.threads t).life
-LifeRule p quantum n (Gave t slots) w = MayGive n (w.threads t).life × (slots ≡ guest_slots (w.threads t).guest)
+LifeRule p quantum n (Took t first count) w = MayTake n (w.threads t).life
+LifeRule p quantum n (Gave t slots) w = MayGive n (w.threads t).life (w.threads t).guest slots
 LifeRule p quantum n (Ended t end) w = (w.threads t).life ≡ On n (Leaves end)
 LifeRule p quantum n (Known t) w = MayKnow (w.threads t).life × (t.home ≡ n)
 LifeRule p quantum n (Shown t) w = MayShow n (w.threads t).life
@@ -105,35 +115,55 @@ LifeRule p quantum n _ w = ⊥
 
 -- ## Replies: each is the library's
 
-abbrev pub IsReply : Life → ℕ → Extra → Type 0
-IsReply (On m (Due code)) reply extra = (reply ≡ code) × (extra ≡ extra_of None)
-IsReply (On m (Needs entry argument priority)) reply extra = (reply ≡ reply_code replies.Full) × (extra ≡ extra_of None)
-IsReply (On m Showing) reply extra = (reply ≡ 0) × (extra ≡ extra_of None)
-IsReply (On m (Answers h answer second)) reply extra = (reply ≡ reply_code answer) × (extra ≡ extra_of second)
-IsReply _ reply extra = ⊤
+-- what a call comes to that its node does: create is answered Full here, since its birth makes the new name due; isomalloc is
+-- answered the place of its block; isofree is answered 0 once no slot is left to be given
+abbrev pub IsServed : Call → Guest → ℕ → Type 0
+IsServed (Create entry argument priority) g reply = reply ≡ reply_code replies.Full
+IsServed (Isomalloc len) g reply = reply ≡ place_code (place (heap_of g.solo) (rounded len))
+IsServed (Isofree address) g reply = (reply ≡ 0) × (emptied (heap_of g.solo) address ≡ [])
+IsServed _ g reply = ⊥
+
+abbrev pub IsReply : Life → Guest → ℕ → Extra → Type 0
+IsReply (On m (Due code)) g reply extra = (reply ≡ code) × (extra ≡ extra_of None)
+IsReply (On m (Served c)) g reply extra = IsServed c g reply × (extra ≡ extra_of None)
+IsReply (On m Showing) g reply extra = (reply ≡ 0) × (extra ≡ extra_of None)
+IsReply (On m (Answers h answer second)) g reply extra = (reply ≡ reply_code answer) × (extra ≡ extra_of second)
+IsReply _ g reply extra = ⊤
 
 abbrev pub RepliesRule : Rule
-RepliesRule p quantum n (Judged t reply extra) w = IsReply (w.threads t).life reply extra
+RepliesRule p quantum n (Judged t reply extra) w = IsReply (w.threads t).life (w.threads t).guest reply extra
 RepliesRule p quantum n _ w = ⊤
 
--- ## Grants: the least slot that no thread holds, of the node; Full only where it has none
+-- ## Grants: the lowest run of slots that no thread holds, of the node; Full only where it has none
 
 abbrev pub is_free : ℕ → Holder → Bool
 is_free n (Of_node m) = m == n
 is_free n (Of_thread t) = false
 is_free n _ = false
 
--- the least slot of node n
-abbrev pub least_free : ℕ → Spots → Option ℕ
-least_free n w = lowest_run (λ s. is_free n (w.slots s)) 1 4096
+-- the lowest run of so many slots of node n
+abbrev pub lowest_free : ℕ → ℕ → Spots → Option ℕ
+lowest_free n count w = lowest_run (λ s. is_free n (w.slots s)) count 4096
 
-abbrev pub IsRefusedFull : ℕ → Spots → Life → Type 0
-IsRefusedFull n w (On m (Needs entry argument priority)) = least_free n w ≡ None
-IsRefusedFull n w _ = ⊤
+-- a block takes as many slots as it needs, and only where it has no place
+abbrev pub IsClaim : Life → Guest → ℕ → Type 0
+IsClaim (On m (Served (Isomalloc len))) g count = (place (heap_of g.solo) (rounded len) ≡ None) × (count ≡ slots_for (rounded len))
+IsClaim _ g count = ⊥
+
+abbrev pub IsRefusedFull : ℕ → Spots → Call → Guest → Type 0
+IsRefusedFull n w (Create entry argument priority) g = lowest_free n 1 w ≡ None
+IsRefusedFull n w (Isomalloc len) g = place (heap_of g.solo) (rounded len) ≡ None → lowest_free n (slots_for (rounded len)) w ≡ None
+IsRefusedFull n w _ g = ⊤
+
+abbrev pub IsRefusedRightly : ℕ → Spots → Life → Guest → Type 0
+IsRefusedRightly n w (On m (Served c)) g = IsRefusedFull n w c g
+IsRefusedRightly n w _ g = ⊤
 
 abbrev pub GrantsRule : Rule
-GrantsRule p quantum n (Born t why entry a0 a1 sp slot) w = least_free n w ≡ Some slot
-GrantsRule p quantum n (Judged t reply extra) w = IsRefusedFull n w (w.threads t).life
+GrantsRule p quantum n (Born t why entry a0 a1 sp slot) w = lowest_free n 1 w ≡ Some slot
+GrantsRule p quantum n (Took t first count) w =
+    IsClaim (w.threads t).life (w.threads t).guest count × (lowest_free n count w ≡ Some first)
+GrantsRule p quantum n (Judged t reply extra) w = IsRefusedRightly n w (w.threads t).life (w.threads t).guest
 GrantsRule p quantum n _ w = ⊤
 
 -- ## A rule over a trace
@@ -189,7 +219,7 @@ judged_causes t (On m (Answers h reply second)) = send_to m (Answer t reply seco
 judged_causes t _ = []
 
 abbrev pub causes : Program → ℕ → Label → Spots → List Send
-causes p n (Asked t call args bytes) w = asked_causes t (stage_of_call p n t (w.threads t).guest.solo.state)
+causes p n (Asked t call args bytes) w = asked_causes t (stage_of_call p n t (w.threads t).guest.solo)
 causes p n (Judged t reply extra) w = judged_causes t (w.threads t).life
 causes p n (Ended t end) w = send_to t.home (EndNote t.seq end)
 causes p n _ w = []
@@ -208,7 +238,7 @@ Carried p old base (x ∷ xs) = Carried p old base xs
 abbrev pub IsSettled : Life → Type 0
 IsSettled (On m Running) = ⊥
 IsSettled (On m (Due code)) = ⊥
-IsSettled (On m (Needs entry argument priority)) = ⊥
+IsSettled (On m (Served c)) = ⊥
 IsSettled (On m Told_next) = ⊥
 IsSettled (On m (Ends end)) = ⊥
 IsSettled (On m (Leaves end)) = ⊥

@@ -2,7 +2,8 @@
 -- was answered last, of each slot who holds it, of each home its births, and of each node whether a thread has halted it.
 use Rattle.std.specs.Prelude.{ℕ, ◌%◌, List, [], ◌∷◌, ◌++◌, Option, Some, None, Bool, true, false, ◌==◌, nat_lt, if◌then◌else◌, slice_get, unwrap_or}
 use Rattle.slot_space.specs.Replies.{reply_code, tid_value}
-use Rattle.slot_space.specs.Sets.{has}
+use Rattle.slot_space.specs.Sets.{has, run}
+use Rattle.iso_blocks.specs.Heap.{rounded, place}
 use Rattle.slot_space.specs.declared.names.Tid.{Tid}
 use Rattle.slot_space.specs.declared.names.Reply.{Reply}
 use Rattle.slot_space.specs.declared.names.Reply.TheVariants as replies
@@ -18,15 +19,15 @@ use Rattle.marcel_core.specs.declared.birth.Verdict.{Verdict}
 use Rattle.marcel_core.specs.declared.birth.Verdict.TheVariants as verdicts
 use Rattle.marcel_core.specs.Homes.{verdict, with_birth, joined, ended, joiner, end_reply, end_value}
 use Rattle.run_trace.specs.declared.label.Label.{Label}
-use Rattle.run_trace.specs.declared.label.Label.TheVariants.{Born, Ran, Asked, Heard, Judged, Told, Gave, Ended, Known, Shown, Halted}
+use Rattle.run_trace.specs.declared.label.Label.TheVariants.{Born, Ran, Asked, Heard, Judged, Told, Took, Gave, Ended, Known, Shown, Halted}
 use Rattle.run_trace.specs.declared.label.Why.{Why}
 use Rattle.run_trace.specs.declared.label.Why.TheVariants as why
 use Rattle.run_trace.specs.declared.label.Extra.{Extra}
 use Rattle.run_trace.specs.declared.label.Extra.TheVariants.{Nothing, Second, Bytes}
 use Rattle.run_trace.specs.Names.{is_tid, tid_of}
 use Rattle.run_trace.specs.Program.{Program, nodes_of, slots_in, code_of, main_priority}
-use Rattle.run_trace.specs.Guests.{Guest, with_state, newborn, told, gives_slots}
-use Rattle.run_trace.specs.Calls.{Call, Exit, Self, Node, Nodes, Yield, Create, Join, Print, Halt, Unknown, call_of, refusal, bytes_of}
+use Rattle.run_trace.specs.Guests.{Solo, Guest, with_state, newborn, told, takes_slots, gives_slots, heap_of, with_placed, without_block}
+use Rattle.run_trace.specs.Calls.{Call, Exit, Self, Node, Nodes, Yield, Create, Join, Isomalloc, Isofree, Print, Halt, Unknown, call_of, refusal, bytes_of}
 
 -- What a thread that is on a node is about. Those marked * are never there at the end of an entry.
 pub data Stage : Type 0 where
@@ -36,8 +37,8 @@ pub data Stage : Type 0 where
   Running : Stage
   -- * it is to be answered this
   Due : (code : ℕ) → Stage
-  -- * it is to get a slot for a new thread
-  Needs : (entry argument priority : ℕ) → Stage
+  -- * it is past the checks of this call, which its node does now
+  Served : (call : Call) → Stage
   -- * it is to be told what was judged
   Told_next : Stage
   -- * it is to give its slots, and then to end
@@ -98,7 +99,7 @@ at_node f n x m = if n == m then x else f m
 
 -- the priority that a creator asked for
 abbrev pub asked_priority : Life → ℕ
-asked_priority (On n (Needs entry argument priority)) = priority
+asked_priority (On n (Served (Create entry argument priority))) = priority
 asked_priority _ = 0
 
 abbrev pub priority_by : (Tid → Spot) → Why → ℕ
@@ -134,22 +135,26 @@ ran_spot p n count stop s =
     let next : State = stepped (code_of p) count s.guest.solo.state in
     record s { life = On n (ran_stage stop next); guest = with_state next s.guest }
 
--- what follows on a call, past its checks and where one fails
-abbrev pub asked_stage : Program → ℕ → Tid → State → Call → Option Reply → Stage
-asked_stage p n t s c (Some reply) = Due (reply_code reply)
-asked_stage p n t s (Exit value) None = Ends (end_of.Exit value)
-asked_stage p n t s Self None = Due (tid_value t)
-asked_stage p n t s Node None = Due n
-asked_stage p n t s Nodes None = Due (nodes_of p)
-asked_stage p n t s Yield None = Due 0
-asked_stage p n t s (Create entry argument priority) None = Needs entry argument priority
-asked_stage p n t s (Join name) None = Asks (tid_of name)
-asked_stage p n t s (Print address len) None = Shows (bytes_of p s (Print address len))
-asked_stage p n t s Halt None = Halts
-asked_stage p n t s (Unknown number) None = Due (reply_code replies.BadArgument)
+-- what follows on a call that is past its checks
+abbrev pub passed_stage : Program → ℕ → Tid → Solo → Call → Stage
+passed_stage p n t x (Exit value) = Ends (end_of.Exit value)
+passed_stage p n t x Self = Due (tid_value t)
+passed_stage p n t x Node = Due n
+passed_stage p n t x Nodes = Due (nodes_of p)
+passed_stage p n t x Yield = Due 0
+passed_stage p n t x (Join name) = Asks (tid_of name)
+passed_stage p n t x (Print address len) = Shows (bytes_of p x.state (Print address len))
+passed_stage p n t x Halt = Halts
+passed_stage p n t x (Unknown number) = Due (reply_code replies.BadArgument)
+passed_stage p n t x c = Served c
 
-abbrev pub stage_of_call : Program → ℕ → Tid → State → Stage
-stage_of_call p n t s = asked_stage p n t s (call_of s) (refusal p t s (call_of s))
+-- what follows on a call, and where a check of it fails
+abbrev pub asked_stage : Program → ℕ → Tid → Solo → Call → Option Reply → Stage
+asked_stage p n t x c (Some reply) = Due (reply_code reply)
+asked_stage p n t x c None = passed_stage p n t x c
+
+abbrev pub stage_of_call : Program → ℕ → Tid → Solo → Stage
+stage_of_call p n t x = asked_stage p n t x (call_of x.state) (refusal p t x (call_of x.state))
 
 -- ## Joins, replies and ends
 
@@ -175,10 +180,16 @@ second_of (Bytes bytes) = None
 
 abbrev pub judged_life : Life → Life
 judged_life (On m (Due code)) = On m Told_next
-judged_life (On m (Needs entry argument priority)) = On m Told_next
+judged_life (On m (Served c)) = On m Told_next
 judged_life (On m Showing) = On m Shown_there
 judged_life (On m (Answers h reply second)) = On m (Answered h)
 judged_life life = life
+
+-- a block lives from the reply of its isomalloc to the reply of its isofree
+abbrev pub judged_guest : Life → Guest → Guest
+judged_guest (On m (Served (Isomalloc len))) g = with_placed (rounded len) (place (heap_of g.solo) (rounded len)) g
+judged_guest (On m (Served (Isofree address))) g = without_block address g
+judged_guest life g = g
 
 abbrev pub gave_life : Life → Life
 gave_life (On m (Ends end)) = On m (Leaves end)
@@ -207,12 +218,18 @@ threads_after p n (Born t why entry a0 a1 sp slot) w =
     update (creator_served n t why w.threads) t (born_spot n entry a0 a1 sp slot (priority_by w.threads why))
 threads_after p n (Ran t vp count stop) w = update w.threads t (ran_spot p n count stop (w.threads t))
 threads_after p n (Asked t call args bytes) w =
-    update w.threads t (record (w.threads t) { life = On n (stage_of_call p n t (w.threads t).guest.solo.state) })
+    update w.threads t (record (w.threads t) { life = On n (stage_of_call p n t (w.threads t).guest.solo) })
 threads_after p n (Heard t) w = update w.threads t (record (w.threads t) { life = heard_at w.births (w.threads t).life })
 threads_after p n (Judged t reply extra) w =
-    update w.threads t (record (w.threads t) { life = judged_life (w.threads t).life; verdict = record { code = reply; second = second_of extra } })
+    update w.threads t (record {
+      life = judged_life (w.threads t).life;
+      guest = judged_guest (w.threads t).life (w.threads t).guest;
+      verdict = record { code = reply; second = second_of extra };
+    })
 threads_after p n (Told t) w =
     update w.threads t (record (w.threads t) { life = On n Ready; guest = told (w.threads t).verdict.code (w.threads t).verdict.second (w.threads t).guest })
+threads_after p n (Took t first count) w =
+    update w.threads t (record (w.threads t) { guest = takes_slots (run first count) (w.threads t).guest })
 threads_after p n (Gave t slots) w =
     update w.threads t (record (w.threads t) { life = gave_life (w.threads t).life; guest = gives_slots slots (w.threads t).guest })
 threads_after p n (Ended t end) w = update w.threads t (record (w.threads t) { life = Noting n end })
@@ -225,6 +242,7 @@ threads_after p n _ w = w.threads
 
 abbrev pub slots_after : ℕ → Label → (ℕ → Holder) → ℕ → Holder
 slots_after n (Born t why entry a0 a1 sp slot) f = at_node f slot (Of_thread t)
+slots_after n (Took t first count) f = λ s. if has s (run first count) then Of_thread t else f s
 slots_after n (Gave t slots) f = λ s. if has s slots then Of_node n else f s
 slots_after n _ f = f
 

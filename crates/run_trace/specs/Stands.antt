@@ -1,7 +1,9 @@
 -- What it means that nodes and links stand for what the labels tell: each list has exactly its part of it.
-use Rattle.std.specs.Prelude.{◌≡◌, ℕ, List, [], ◌∷◌, map, Option, Some, None, true, Bool, false, ◌==◌, ◌&&◌, nat_lt, if◌then◌else◌, slice_get}
+use Rattle.std.specs.Prelude.{◌≡◌, ℕ, List, [], ◌∷◌, map, Option, Some, None, true, Bool, false, ◌==◌, ◌&&◌, nat_lt, if◌then◌else◌, slice_get, ⊤}
 use Rattle.slot_space.specs.Replies.{reply_code}
-use Rattle.slot_space.specs.Sets.{has}
+use Rattle.slot_space.specs.Sets.{has, minus}
+use Rattle.iso_blocks.specs.Bytes.{in_blocks, in_slots}
+use Rattle.iso_blocks.specs.Heap.{without}
 use Rattle.slot_space.specs.declared.names.Tid.{Tid}
 use Rattle.marcel_core.specs.declared.end.End.{End}
 use Rattle.marcel_core.specs.declared.birth.Birth.{Birth}
@@ -19,7 +21,8 @@ use Rattle.run_trace.specs.Local.{Local}
 use Rattle.run_trace.specs.Cluster.{Net}
 use Rattle.run_trace.specs.Keyed.{StandsFor, MapStandsFor}
 use Rattle.run_trace.specs.Rules.{is_free}
-use Rattle.run_trace.specs.Spots.{Stage, Ready, Running, Due, Needs, Told_next, Ends, Leaves, Halts, Stays, Shows, Showing, Shown_there, Asks, Awaits, Answers, Answered, Life, Unborn, On, Noting, Gone, Response, Spot, Spots, Holder, Of_node, Of_thread, Nobody}
+use Rattle.run_trace.specs.Calls.{Call, Isofree}
+use Rattle.run_trace.specs.Spots.{Stage, Ready, Running, Due, Served, Told_next, Ends, Leaves, Halts, Stays, Shows, Showing, Shown_there, Asks, Awaits, Answers, Answered, Life, Unborn, On, Noting, Gone, Response, Spot, Spots, Holder, Of_node, Of_thread, Nobody}
 
 -- ## The threads of a node: those that are there, but one that has given its slots
 
@@ -83,7 +86,7 @@ busy_name x = x.tid
 abbrev pub is_busy : ℕ → Life → Bool
 is_busy n (On m Running) = m == n
 is_busy n (On m (Due code)) = m == n
-is_busy n (On m (Needs entry argument priority)) = m == n
+is_busy n (On m (Served c)) = m == n
 is_busy n (On m Told_next) = m == n
 is_busy n (On m (Ends end)) = m == n
 is_busy n (On m (Leaves end)) = m == n
@@ -184,19 +187,52 @@ is_thread t (Of_thread u) = is_tid t u
 is_thread t (Of_node n) = false
 is_thread t Nobody = false
 
-abbrev pub slots_in_life : Life → Guest → List ℕ
-slots_in_life (On n (Leaves end)) g = []
-slots_in_life (On n stage) g = guest_slots g
-slots_in_life _ g = []
+-- what a thread holds: its slots, which of them is its stack, and its blocks
+pub record Holding : Type 0 where
+  pub slots : List ℕ
+  pub stack : ℕ
+  pub live : List (ℕ × ℕ)
 
--- homes, births, joiners, halts and slots agree
+abbrev pub holding_of : Guest → Holding
+holding_of g = record { slots = guest_slots g; stack = g.solo.stack; live = g.solo.live }
+
+-- a block that is being freed counts no longer
+abbrev pub kept_by : Call → List (ℕ × ℕ) → List (ℕ × ℕ)
+kept_by (Isofree address) live = without live address
+kept_by _ live = live
+
+abbrev pub held_in_stage : Stage → Guest → Option Holding
+held_in_stage (Leaves end) g = None
+held_in_stage (Served c) g = Some (record (holding_of g) { live = kept_by c g.solo.live })
+held_in_stage _ g = Some (holding_of g)
+
+-- None where it holds nothing
+abbrev pub held : Life → Guest → Option Holding
+held (On n stage) g = held_in_stage stage g
+held _ g = None
+
+abbrev pub slots_held : Option Holding → List ℕ
+slots_held None = []
+slots_held (Some h) = h.slots
+
+-- the stack is among the slots, and all bytes of blocks lie in the others
+pub record IsWell (h : Holding) : Type 0 where
+  pub stack : has h.stack h.slots ≡ true
+  pub blocks : (x : ℕ) → in_blocks h.live x ≡ true → in_slots (minus h.slots (h.stack ∷ [])) x ≡ true
+
+abbrev pub IsWellHeld : Option Holding → Type 0
+IsWellHeld None = ⊤
+IsWellHeld (Some h) = IsWell h
+
+-- homes, births, joiners, halts, slots and blocks agree
 pub record Agrees (p : Program) (w : Spots) : Type 0 where
   pub homes : (t : Tid) → nat_lt t.home (nodes_of p) ≡ false → (w.threads t).life ≡ Unborn
   pub named : (t : Tid) → phase_at (slice_get (w.births t.home) t.seq) ≡ phase_of (w.threads t).life
   pub awaits : (t by : Tid) (at : ℕ) → slice_get (w.births t.home) t.seq ≡ Some (Awaited by at) → (w.threads by).life ≡ On at (Awaits t)
   pub waits : (t by : Tid) (at : ℕ) → (w.threads by).life ≡ On at (Awaits t) → slice_get (w.births t.home) t.seq ≡ Some (Awaited by at)
   pub stays : (t : Tid) (n : ℕ) → (w.threads t).life ≡ On n Stays → w.halts n ≡ true
-  pub slots : (t : Tid) (x : ℕ) → has x (slots_in_life (w.threads t).life (w.threads t).guest) ≡ is_thread t (w.slots x)
+  pub slots : (t : Tid) (x : ℕ) → has x (slots_held (held (w.threads t).life (w.threads t).guest)) ≡ is_thread t (w.slots x)
+  pub blocks : (t : Tid) → IsWellHeld (held (w.threads t).life (w.threads t).guest)
 
 -- the nodes and links are exactly their parts of what the labels tell
 pub record Stands (p : Program) (w : Spots) (net : Net) : Type 0 where

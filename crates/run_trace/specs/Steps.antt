@@ -4,7 +4,7 @@ use Rattle.std.specs.Map.{lookup, set_value, remove_entry}
 use Rattle.std.specs.BTreeMap.{insert_entry}
 use Rattle.std.specs.Fmt.{decimal}
 use Rattle.slot_space.specs.Replies.{reply_code}
-use Rattle.slot_space.specs.Sets.{union, minus}
+use Rattle.slot_space.specs.Sets.{union, minus, run}
 use Rattle.slot_space.specs.declared.names.Tid.{Tid}
 use Rattle.slot_space.specs.declared.names.Reply.{Reply}
 use Rattle.marcel_core.specs.declared.end.End.{End}
@@ -12,7 +12,7 @@ use Rattle.marcel_core.specs.declared.birth.Birth.{Birth}
 use Rattle.marcel_core.specs.declared.birth.Birth.TheVariants.{Lives}
 use Rattle.marcel_core.specs.Homes.{with_birth, joined, ended}
 use Rattle.run_trace.specs.declared.label.Label.{Label}
-use Rattle.run_trace.specs.declared.label.Label.TheVariants.{Born, Ran, Asked, Heard, Judged, Told, Gave, Ended, Known, Shown, Halted}
+use Rattle.run_trace.specs.declared.label.Label.TheVariants.{Born, Ran, Asked, Heard, Judged, Told, Took, Gave, Ended, Known, Shown, Halted}
 use Rattle.run_trace.specs.declared.label.Why.{Why}
 use Rattle.run_trace.specs.declared.label.Extra.{Extra}
 use Rattle.run_trace.specs.declared.label.Extra.TheVariants.{Nothing, Second}
@@ -20,7 +20,7 @@ use Rattle.run_trace.specs.declared.packet.Body.{Body}
 use Rattle.run_trace.specs.declared.packet.Body.TheVariants.{Show, ShowDone, JoinAsk, Answer, EndNote}
 use Rattle.run_trace.specs.declared.node.Wait.TheVariants as wait
 use Rattle.run_trace.specs.Names.{tid, tid_cmp, is_tid}
-use Rattle.run_trace.specs.Guests.{Thread, Run, waits, with_state, newborn, stack_end, told, guest_slots}
+use Rattle.run_trace.specs.Guests.{Guest, Thread, Run, waits, with_state, newborn, stack_end, told, takes_slots, gives_slots, guest_slots}
 use Rattle.run_trace.specs.Calls.{Call, number_of, args_of}
 use Rattle.run_trace.specs.Places.{arrived, taken_off}
 use Rattle.run_trace.specs.Local.{Doing, with_own, with_threads, with_places, with_names, with_halted}
@@ -56,8 +56,8 @@ thread_in t x d = with_threads (insert_entry tid_cmp d.node.threads t x) d
 unfoldable pub thread_out : Tid → Doing → Doing
 thread_out t d = with_threads (remove_entry (is_tid t) d.node.threads) d
 
-unfoldable pub slot_out : ℕ → Doing → Doing
-slot_out slot d = with_own (minus d.node.slots.own (slot ∷ [])) d
+unfoldable pub slots_out : List ℕ → Doing → Doing
+slots_out slots d = with_own (minus d.node.slots.own slots) d
 
 unfoldable pub slots_in : List ℕ → Doing → Doing
 slots_in slots d = with_own (union d.node.slots.own slots) d
@@ -81,7 +81,7 @@ unfoldable pub birth : ℕ → Why → (entry a0 priority slot : ℕ) → Doing 
 birth me why entry a0 priority slot d =
     let t : Tid = next_name me d in
     let x : Thread = waits wait.No (newborn entry a0 0 (stack_end slot) slot priority) in
-    arrive t priority (thread_in t x (name_in (slot_out slot (say (Born t why entry a0 0 (stack_end slot) slot) d))))
+    arrive t priority (thread_in t x (name_in (slots_out (slot ∷ []) (say (Born t why entry a0 0 (stack_end slot) slot) d))))
 
 -- ## Runs and calls; x is the thread, as it is on the node
 
@@ -125,9 +125,24 @@ tell_found t code second (Some x) d =
 unfoldable pub tell : Tid → ℕ → Option ℕ → Doing → Doing
 tell t code second d = tell_found t code second (thread_at t d) d
 
+-- the reply is settled, and with it the thread is this guest
+unfoldable pub settle : Tid → ℕ → Guest → Doing → Doing
+settle t code g d = say (Judged t code Nothing) (keep t (waits wait.No g) d)
+
 -- the reply goes to the node of the thread
 unfoldable pub reply_by_link : Tid → ℕ → Reply → Option ℕ → Doing → Doing
 reply_by_link t at reply second d = put at (Answer t reply second) (say (Judged t (reply_code reply) (extra_of second)) d)
+
+-- ## Heap slots; g is the guest, as it is on the node
+
+-- the thread gets a run of the node's slots
+unfoldable pub takes_run : Tid → (first count : ℕ) → Guest → Doing → Doing
+takes_run t first count g d =
+    keep t (waits wait.No (takes_slots (run first count) g)) (slots_out (run first count) (say (Took t first count) d))
+
+-- the node gets these slots of the thread, which goes on
+unfoldable pub returns : Tid → List ℕ → Guest → Doing → Doing
+returns t slots g d = keep t (waits wait.No (gives_slots slots g)) (slots_in slots (say (Gave t slots) d))
 
 -- ## Ends: all slots go to the node, and the home gets a note
 

@@ -16,8 +16,8 @@ use Rattle.run_trace.specs.Program.{Program}
 use Rattle.run_trace.specs.Guests.{Guest, Thread, guest_slots}
 use Rattle.run_trace.specs.Cluster.{Net}
 use Rattle.run_trace.specs.Rules.{spots_of, is_free}
-use Rattle.run_trace.specs.Spots.{Stage, Life, Unborn, On, Noting, Gone, Spot, Spots, Holder, Of_node, Of_thread, Nobody, update, creator_served, joiner_served, end_in, at_first, after_label, after_labels}
-use Rattle.run_trace.specs.Stands.{Stands, thread_part, thread_in_life, thread_in_stage, slots_in_life, is_thread}
+use Rattle.run_trace.specs.Spots.{Stage, Life, Unborn, On, Noting, Gone, Spot, Spots, Holder, Of_node, Of_thread, Nobody, update, creator_served, joiner_served, end_in, at_first, after_label, after_labels, judged_guest, second_of}
+use Rattle.run_trace.specs.Stands.{Stands, thread_part, thread_in_life, thread_in_stage, held, slots_held, is_thread}
 use Rattle.run_trace.specs.Alone.{Alone, alone_then, alone_after, alone_in, alone_of, subject, is_subject}
 use Rattle.run_trace.specs.Holding.{IsOn, Has}
 use Rattle.trace_laws.proofs.Tids.{is-true}
@@ -28,9 +28,9 @@ pub record OnNode (n : ℕ) (s : Spot) (x : Thread) : Type 0 where
   pub stage : Stage
   pub life : s.life ≡ On n stage
   pub guest : s.guest ≡ x.guest
-  pub slots : slots_in_life s.life s.guest ≡ guest_slots x.guest
+  pub slots : slots_held (held s.life s.guest) ≡ guest_slots x.guest
 
-in_stage : (n : ℕ) (stage : Stage) (g : Guest) (x : Thread) → thread_in_stage stage g ≡ Some x → (g ≡ x.guest) × (slots_in_life (On n stage) g ≡ guest_slots x.guest)
+in_stage : (n : ℕ) (stage : Stage) (g : Guest) (x : Thread) → thread_in_stage stage g ≡ Some x → (g ≡ x.guest) × (slots_held (held (On n stage) g) ≡ guest_slots x.guest)
 in_stage n stage g x h = grind (arith, h)
 
 pub on_node_is : (n : ℕ) (t : Tid) (s : Spot) (x : Thread) → thread_part n t s ≡ Some x → OnNode n s x
@@ -46,7 +46,7 @@ on_node_is n t s x h = by s.life refl h
         by_node true k f =
             let same : m ≡ n = eqb-true m n k in
             let parts = in_stage m stage s.guest x f in
-            record { stage = stage; life = e ∙ ap (λ j. On j stage) same; guest = parts.0; slots = ap (λ z. slots_in_life z s.guest) e ∙ parts.1 }
+            record { stage = stage; life = e ∙ ap (λ j. On j stage) same; guest = parts.0; slots = ap (λ z. slots_held (held z s.guest)) e ∙ parts.1 }
         by_node false k f = absurd (cc f)
 
 -- ## No slot has two holders
@@ -102,6 +102,10 @@ same_either : (b : Bool) (a : Alone) → cond b a a ≡ a
 same_either true a = refl
 same_either false a = refl
 
+-- a reply changes no register and no byte
+judged_state : (life : Life) (g : Guest) → (judged_guest life g).solo.state ≡ g.solo.state
+judged_state life g = grind arith
+
 label_alone : (p : Program) (n : ℕ) (l : Label) (w : Spots) (t : Tid) → alone_in ((after_label p n l w).threads t) ≡ cond (is_subject t (subject l)) (alone_then p l (alone_in (w.threads t))) (alone_in (w.threads t))
 label_alone p n (Born u why entry a0 a1 sp slot) w t =
     seen (creator_served n u why w.threads) u t _ (λ a. alone_then p (Born u why entry a0 a1 sp slot) a) refl
@@ -109,7 +113,7 @@ label_alone p n (Born u why entry a0 a1 sp slot) w t =
 label_alone p n (Ran u vp count stop) w t = seen w.threads u t _ (λ a. alone_then p (Ran u vp count stop) a) refl
 label_alone p n (Asked u call args bytes) w t = seen w.threads u t _ (λ a. a) refl
 label_alone p n (Heard u) w t = seen w.threads u t _ (λ a. a) refl
-label_alone p n (Judged u reply extra) w t = seen w.threads u t _ (λ a. alone_then p (Judged u reply extra) a) refl
+label_alone p n (Judged u reply extra) w t = seen w.threads u t _ (λ a. alone_then p (Judged u reply extra) a) (ap (λ z. record { state = z; reply = record { code = reply; second = second_of extra } }) (judged_state (w.threads u).life (w.threads u).guest))
 label_alone p n (Told u) w t = seen w.threads u t _ (λ a. alone_then p (Told u) a) refl
 label_alone p n (Gave u slots) w t = seen w.threads u t _ (λ a. alone_then p (Gave u slots) a) refl
 label_alone p n (Ended u end) w t = seen w.threads u t _ (λ a. a) refl
@@ -120,7 +124,7 @@ label_alone p n (Known u) w t =
     ∙ ap (λ a. cond (is_tid u t) a a) (served_joiner u end o w.threads t)
 label_alone p n (Shown u) w t = seen w.threads u t _ (λ a. a) refl
 label_alone p n (Halted u) w t = seen w.threads u t _ (λ a. a) refl
-label_alone p n (Took u first count) w t = sym (same_either (is_tid u t) _)
+label_alone p n (Took u first count) w t = seen w.threads u t _ (λ a. alone_then p (Took u first count) a) refl
 label_alone p n (Left u to) w t = sym (same_either (is_tid u t) _)
 label_alone p n (Came u) w t = sym (same_either (is_tid u t) _)
 label_alone p n (Decided u count first) w t = sym (same_either (is_tid u t) _)

@@ -9,11 +9,11 @@ use Rattle.run_trace.specs.declared.label.Label.{Label}
 use Rattle.run_trace.specs.declared.label.Label.TheVariants.{Ran}
 use Rattle.run_trace.specs.declared.label.Why.{Why}
 use Rattle.run_trace.specs.Program.{Program}
-use Rattle.run_trace.specs.Guests.{Thread, Run}
-use Rattle.run_trace.specs.Calls.{Call, Exit, Self, Node, Nodes, Yield, Create, Join, Print, Halt, Unknown}
+use Rattle.run_trace.specs.Guests.{Guest, Thread, Run}
+use Rattle.run_trace.specs.Calls.{Call, Exit, Self, Node, Nodes, Yield, Create, Join, Isomalloc, Isofree, Print, Halt, Unknown}
 use Rattle.run_trace.specs.Local.{Local, Doing, nothing}
-use Rattle.run_trace.specs.Steps.{say, put, arrive, take_off, keep, thread_in, thread_out, slot_out, slots_in, name_in, halt, birth, ran, runs_out, asks, asks_show, asks_join, halts, judge, tell, tell_found, gives, ends}
-use Rattle.run_trace.specs.Machine.{answer, end_thread, creates_in, does, calls, stops_by}
+use Rattle.run_trace.specs.Steps.{say, put, arrive, take_off, keep, thread_in, thread_out, slots_out, slots_in, name_in, halt, birth, ran, runs_out, asks, asks_show, asks_join, halts, judge, tell, tell_found, settle, takes_run, returns, gives, ends}
+use Rattle.run_trace.specs.Machine.{answer, settles, allocates_with, returns_any, end_thread, creates_in, does, calls, stops_by}
 use Rattle.run_trace.specs.Rules.{RunsFirst}
 
 append-first : (t : Tid) (vp : ℕ) (ls more : List Label) → RunsFirst t vp ls → RunsFirst t vp (ls ++ more)
@@ -55,12 +55,27 @@ module _ (t : Tid) (vp : ℕ) where
   halt-first u x d h = append-first t vp d.labels _ h
 
   birth-first : (me : ℕ) (why : Why) (entry a0 priority slot : ℕ) (d : Doing) → First d → First (birth me why entry a0 priority slot d)
-  unfolding birth arrive thread_in name_in slot_out say
+  unfolding birth arrive thread_in name_in slots_out say
   birth-first me why entry a0 priority slot d h = append-first t vp d.labels _ h
 
   create-first : (me : ℕ) (u : Tid) (entry argument priority : ℕ) (o : Option ℕ) (d : Doing) → First d → First (creates_in me u entry argument priority o d)
   create-first me u entry argument priority None d h = answer-first u _ d h
   create-first me u entry argument priority (Some slot) d h = answer-first u _ _ (birth-first me _ entry argument priority slot d h)
+
+  -- a reply that changes its thread
+  settles-first : (u : Tid) (code : ℕ) (g : Guest) (d : Doing) → First d → First (settles u code g d)
+  unfolding tell settle keep say
+  settles-first u code g d h = tell-found u code None _ _ (append-first t vp d.labels _ h)
+
+  allocate-first : (u : Tid) (size : ℕ) (o : Option ℕ) (g : Guest) (d : Doing) → First d → First (allocates_with u size o g d)
+  unfolding takes_run keep slots_out say
+  allocate-first u size None g d h = settles-first u _ _ d h
+  allocate-first u size (Some first) g d h = settles-first u _ _ _ (append-first t vp d.labels _ h)
+
+  return-first : (u : Tid) (slots : List ℕ) (g : Guest) (d : Doing) → First d → First (returns_any u slots g d)
+  unfolding returns keep slots_in say
+  return-first u [] g d h = h
+  return-first u (s ∷ slots) g d h = append-first t vp d.labels _ h
 
   does-first : (p : Program) (me : ℕ) (u : Tid) (x : Thread) (c : Call) (d : Doing) → First d → First (does p me u x c d)
   does-first p me u x (Exit value) d h = end-first u x _ _ (asks-first u (Exit value) d h)
@@ -70,6 +85,8 @@ module _ (t : Tid) (vp : ℕ) where
   does-first p me u x Yield d h = answer-first u _ _ (asks-first u Yield d h)
   does-first p me u x (Create e a k) d h = create-first me u e a k _ _ (asks-first u (Create e a k) d h)
   does-first p me u x (Join name) d h = join-first u (Join name) _ x d h
+  does-first p me u x (Isomalloc len) d h = allocate-first u _ _ _ _ (asks-first u (Isomalloc len) d h)
+  does-first p me u x (Isofree address) d h = settles-first u _ _ _ (return-first u _ _ _ (asks-first u (Isofree address) d h))
   does-first p me u x (Print address len) d h = show-first u (Print address len) _ x d h
   does-first p me u x Halt d h = halt-first u x _ (asks-first u Halt d h)
   does-first p me u x (Unknown number) d h = answer-first u _ _ (asks-first u (Unknown number) d h)

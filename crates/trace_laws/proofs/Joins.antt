@@ -15,14 +15,13 @@ use Rattle.marcel_core.specs.Homes.{verdict, joined, ended, joiner, with_birth, 
 use Rattle.run_trace.specs.declared.label.Label.TheVariants.{Heard, Known}
 use Rattle.run_trace.specs.Names.{is_tid, tid}
 use Rattle.run_trace.specs.Program.{Program}
-use Rattle.run_trace.specs.Guests.{guest_slots}
 use Rattle.run_trace.specs.Local.{Local, nothing}
 use Rattle.run_trace.specs.Steps.{say, change_name, reply_by_link, hears, knows}
 use Rattle.run_trace.specs.Machine.{judges_join, tells_joiner}
 use Rattle.run_trace.specs.Cluster.{Net}
 use Rattle.run_trace.specs.Keyed.{StandsFor}
 use Rattle.run_trace.specs.Spots.{Stays, Asks, Awaits, Answers, Life, Unborn, On, Noting, Gone, Spot, Spots, update, at_node, heard_life, heard_at, joined_at, end_in, joiner_served}
-use Rattle.run_trace.specs.Stands.{Agrees, Busy, busy, busy_name, is_busy, busy_part, thread_part, thread_in_life, row_part, row_in_life, listed, listed_name, Joins, Ended_word, way_of, phase_of, phase_at, During, After, slots_in_life, is_thread}
+use Rattle.run_trace.specs.Stands.{Agrees, Busy, busy, busy_name, is_busy, busy_part, thread_part, thread_in_life, row_part, row_in_life, listed, listed_name, Joins, Ended_word, way_of, phase_of, phase_at, During, After, held, holding_of, slots_held, IsWellHeld, is_thread}
 use Rattle.trace_laws.proofs.Tids.{is-true, is-refl, is-false, is-other, same_name}
 use Rattle.trace_laws.proofs.KeyedLemmas.{kept, fronted, map_kept}
 use Rattle.trace_laws.proofs.Births.{get-with, with-none}
@@ -72,9 +71,9 @@ phase_same w t r h u = elim (is_tid t u) as (λ b. is_tid t u ≡ b → phase_of
   | false ↦ λ e. refl
 ] refl
 
-slots_same : (w : Tid → Spot) (t : Tid) (r : Spot) → slots_in_life r.life r.guest ≡ slots_in_life (w t).life (w t).guest → (u : Tid) → slots_in_life (update w t r u).life (update w t r u).guest ≡ slots_in_life (w u).life (w u).guest
-slots_same w t r h u = elim (is_tid t u) as (λ b. is_tid t u ≡ b → slots_in_life (cond b r (w u)).life (cond b r (w u)).guest ≡ slots_in_life (w u).life (w u).guest) [
-  | true ↦ λ e. h ∙ ap (λ z. slots_in_life (w z).life (w z).guest) (is-true t u e)
+held_same : (w : Tid → Spot) (t : Tid) (r : Spot) → held r.life r.guest ≡ held (w t).life (w t).guest → (u : Tid) → held (update w t r u).life (update w t r u).guest ≡ held (w u).life (w u).guest
+held_same w t r h u = elim (is_tid t u) as (λ b. is_tid t u ≡ b → held (cond b r (w u)).life (cond b r (w u)).guest ≡ held (w u).life (w u).guest) [
+  | true ↦ λ e. h ∙ ap (λ z. held (w z).life (w z).guest) (is-true t u e)
   | false ↦ λ e. refl
 ] refl
 
@@ -92,7 +91,7 @@ awaits_same w t r by u at h e = elim (is_tid t by) as (λ b. is_tid t by ≡ b �
 
 -- what all nodes share, at a join
 joins_agree : (p : Program) (n seq from : ℕ) (w : Spots) (by : Tid) (r : Spot) (births : List Birth) (new : Option Birth) → ((j : ℕ) → slice_get births j ≡ cond (eqb seq j) new (slice_get (w.births n) j))
-    → Agrees p w → (w.threads by).life ≡ On from (Asks (tid n seq)) → phase_of r.life ≡ During → slots_in_life r.life r.guest ≡ guest_slots (w.threads by).guest
+    → Agrees p w → (w.threads by).life ≡ On from (Asks (tid n seq)) → phase_of r.life ≡ During → held r.life r.guest ≡ Some (holding_of (w.threads by).guest)
     → phase_at new ≡ phase_at (slice_get (w.births n) seq)
     → ((b : Tid) (at : ℕ) → new ≡ Some (Awaited b at) → (update w.threads by r b).life ≡ On at (Awaits (tid n seq)))
     → ((u : Tid) (at : ℕ) → r.life ≡ On at (Awaits u) → slice_get (at_node w.births n births u.home) u.seq ≡ Some (Awaited by at))
@@ -119,9 +118,13 @@ joins_agree p n seq from w by r births new gets a x during slots phase awaited w
     | true ↦ λ f. awaited b at (sym (birth_of p n seq w births new gets u f) ∙ e) ∙ ap (λ z. On at (Awaits z)) (is-true (tid n seq) u f)
     | false ↦ λ f. awaits_same w.threads by r b u at (λ g. absurd (cc (g, x))) (a.awaits u b at (sym (other_birth p n seq w births new gets u f) ∙ e))
   ] refl;
-  slots = λ u y. ap (has y) (slots_same w.threads by r (slots ∙ sym (ap (λ z. slots_in_life z (w.threads by).guest) x)) u) ∙ a.slots u y;
+  slots = λ u y. ap (λ z. has y (slots_held z)) (same_held u) ∙ a.slots u y;
+  blocks = λ u. subst (λ z. IsWellHeld z) (sym (same_held u)) (a.blocks u);
 }
   where
+    same_held : (u : Tid) → held (update w.threads by r u).life (update w.threads by r u).guest ≡ held (w.threads u).life (w.threads u).guest
+    same_held u = held_same w.threads by r (slots ∙ sym (ap (λ z. held z (w.threads by).guest) x)) u
+
     was : phase_of r.life ≡ phase_of (w.threads by).life
     was = during ∙ sym (ap phase_of x)
 
@@ -238,7 +241,7 @@ ended_phase end Over = refl
 ends_agree : (p : Program) (n seq from : ℕ) (end : End) (w : Spots) (f : Tid → Spot) (r : Spot) (births : List Birth) (new : Option Birth) → ((j : ℕ) → slice_get births j ≡ cond (eqb seq j) new (slice_get (w.births n) j))
     → Agrees p w → (w.threads (tid n seq)).life ≡ Noting from end → r.life ≡ Gone end
     → ((u : Tid) → phase_of (f u).life ≡ phase_of (w.threads u).life)
-    → ((u : Tid) → slots_in_life (f u).life (f u).guest ≡ slots_in_life (w.threads u).life (w.threads u).guest)
+    → ((u : Tid) → held (f u).life (f u).guest ≡ held (w.threads u).life (w.threads u).guest)
     → ((u : Tid) → (w.threads u).life ≡ Unborn → (f u).life ≡ Unborn)
     → ((u b : Tid) (at : ℕ) → is_tid (tid n seq) u ≡ false → (w.threads b).life ≡ On at (Awaits u) → (f b).life ≡ On at (Awaits u))
     → phase_at new ≡ After → ((b : Tid) (at : ℕ) → new ≡ Some (Awaited b at) → ⊥)
@@ -268,11 +271,15 @@ ends_agree p n seq from end w f r births new gets a x gone phases slots unborn a
           | false ↦ λ g. awaits u b at h was
         ] refl
   ] refl;
-  slots = λ u y. elim (is_tid t u) as (λ b. is_tid t u ≡ b → has y (slots_in_life (cond b r (f u)).life (cond b r (f u)).guest) ≡ is_thread u (w.slots y)) [
-    | true ↦ λ e. subst (λ z. has y (slots_in_life r.life r.guest) ≡ is_thread z (w.slots y)) (is-true t u e)
-        (ap (λ z. has y (slots_in_life z r.guest)) gone ∙ ap (λ z. has y (slots_in_life z (w.threads t).guest)) (sym x) ∙ a.slots t y)
-    | false ↦ λ e. ap (has y) (slots u) ∙ a.slots u y
+  slots = λ u y. elim (is_tid t u) as (λ b. is_tid t u ≡ b → has y (slots_held (held (cond b r (f u)).life (cond b r (f u)).guest)) ≡ is_thread u (w.slots y)) [
+    | true ↦ λ e. subst (λ z. has y (slots_held (held r.life r.guest)) ≡ is_thread z (w.slots y)) (is-true t u e)
+        (ap (λ z. has y (slots_held (held z r.guest))) gone ∙ ap (λ z. has y (slots_held (held z (w.threads t).guest))) (sym x) ∙ a.slots t y)
+    | false ↦ λ e. ap (λ z. has y (slots_held z)) (slots u) ∙ a.slots u y
   ] refl;
+  blocks = λ u. elim (is_tid t u) as (λ b. IsWellHeld (held (cond b r (f u)).life (cond b r (f u)).guest)) [
+    | true ↦ subst (λ z. IsWellHeld (held z r.guest)) (sym gone) tt
+    | false ↦ subst (λ z. IsWellHeld z) (sym (slots u)) (a.blocks u)
+  ];
 }
   where
     t : Tid
@@ -371,7 +378,7 @@ module _ (p : Program) (net : Net) (q n : ℕ) (w : Spots) (L : Links) where
       (take_link from n (Ended_word t end) t r L f (λ a b. links_kept by r1 w.threads L (links_whole p net q n w L s m) (sym (ap (λ z. way_of by z c.verdict) y)) a b) (ap (λ z. way_of t z (f t).verdict) x1) refl i j))
       (ends_agree p n seq from end w f r births (Some Over) (λ j. get-with (w.births n) seq j (ended end) (Awaited by at) e) m.agrees x refl
       (λ u. phase_same w.threads by r1 (sym (ap phase_of y)) u)
-      (λ u. slots_same w.threads by r1 (sym (ap (λ z. slots_in_life z c.guest) y)) u)
+      (λ u. held_same w.threads by r1 (sym (ap (λ z. held z c.guest) y)) u)
       (λ u g. unborn_same w.threads by r1 u (λ h. absurd (cc (h, y))) g)
       (λ u b k g h. awaits_same w.threads by r1 b u k (λ i. (let same : Awaits t ≡ Awaits u = cc (sym y ∙ i) in let one : t ≡ u = cc same in absurd (is-false t u g one))) h)
       refl (λ b k g. absurd (cc g))

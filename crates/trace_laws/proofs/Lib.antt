@@ -9,7 +9,9 @@ pub mod RunLemmas
 pub mod Midst
 pub mod Parts
 pub mod Steps
+pub mod Heaps
 pub mod Lifetimes
+pub mod HeapSteps
 pub mod Takes
 pub mod Joins
 pub mod Firsts

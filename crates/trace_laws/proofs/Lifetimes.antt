@@ -1,16 +1,17 @@
 -- Births and ends, on an event in its midst: the steps that move slots and change births.
-use Rattle.std.proofs.Common.{◌≡◌, ℕ, ◌+◌, List, [], ◌∷◌, ◌++◌, length, Some, None, true, false, eqb, cond, refl, sym, ap, ◌∙◌, subst, arith, map}
+use Rattle.std.proofs.Common.{◌≡◌, ℕ, ◌+◌, List, [], ◌∷◌, ◌++◌, length, Some, None, Bool, true, false, eqb, cond, refl, sym, ap, ◌∙◌, subst, arith, map}
 use Rattle.std.specs.Prelude.{slice_get, nat_lt}
 use Rattle.std.specs.BTreeMap.{insert_entry}
 use Rattle.std.proofs.lemmas.Bool.{eq-eqb, eqb-true, lt-ltb, ltb-true}
 use Rattle.std.proofs.lemmas.List.{append-nil}
-use Rattle.slot_space.specs.Sets.{has, minus, run}
+use Rattle.slot_space.specs.Sets.{has, minus, union, run}
 use Rattle.slot_space.specs.Replies.{tid_value}
 use Rattle.slot_space.specs.declared.names.Tid.{Tid}
 use Rattle.slot_space.proofs.Sets.{has-union, has-minus, has-run}
 use Rattle.slot_space.proofs.Runs.{lowest_run-same, found}
 use Rattle.marcel_core.specs.declared.end.End.{End}
 use Rattle.marcel_core.specs.declared.birth.Birth.TheVariants.{Lives, Awaited}
+use Rattle.run_trace.specs.declared.label.Label.{Label}
 use Rattle.run_trace.specs.declared.label.Label.TheVariants.{Born, Gave, Ended}
 use Rattle.run_trace.specs.declared.label.Why.TheVariants as why
 use Rattle.run_trace.specs.declared.packet.Body.TheVariants.{EndNote}
@@ -18,30 +19,32 @@ use Rattle.run_trace.specs.declared.node.Wait.TheVariants as wait
 use Rattle.run_trace.specs.Names.{is_tid, tid, tid_cmp}
 use Rattle.run_trace.specs.Program.{Program, nodes_of, main_priority}
 use Rattle.run_trace.specs.Guests.{Guest, Thread, waits, newborn, stack_end, guest_slots, gives_slots}
+use Rattle.run_trace.specs.Calls.{Create}
 use Rattle.run_trace.specs.Places.{arrived}
 use Rattle.run_trace.specs.Local.{Local, Doing}
-use Rattle.run_trace.specs.Steps.{say, put, arrive, thread_in, thread_out, slot_out, slots_in, name_in, next_name, birth, gives, ends}
-use Rattle.run_trace.specs.Machine.{free_slot, end_thread}
+use Rattle.run_trace.specs.Steps.{say, put, arrive, thread_in, thread_out, slots_out, slots_in, name_in, next_name, birth, gives, ends}
+use Rattle.run_trace.specs.Machine.{free_run, free_slot, end_thread}
 use Rattle.run_trace.specs.Cluster.{Net}
 use Rattle.run_trace.specs.Keyed.{StandsFor}
-use Rattle.run_trace.specs.Spots.{Stays, Ready, Due, Needs, Ends, Leaves, Awaits, Life, Unborn, On, Noting, Gone, Response, Spot, Spots, Holder, Of_node, Of_thread, Nobody, update, at_node, after_label, gave_life, born_spot, asked_priority}
-use Rattle.run_trace.specs.Rules.{is_free, least_free}
-use Rattle.run_trace.specs.Stands.{Here, Agrees, Busy, busy, busy_name, busy_part, thread_part, thread_in_life, row_part, row_in_life, listed, listed_name, way_of, phase_of, phase_at, Before, During, slots_in_life, is_thread}
+use Rattle.run_trace.specs.Spots.{Stage, Stays, Ready, Due, Served, Ends, Leaves, Awaits, Life, Unborn, On, Noting, Gone, Response, Spot, Spots, Holder, Of_node, Of_thread, Nobody, update, at_node, after_label, gave_life, born_spot, asked_priority}
+use Rattle.run_trace.specs.Rules.{is_free, lowest_free, MayGive, causes}
+use Rattle.run_trace.specs.Console.{shown_by}
+use Rattle.run_trace.specs.Stands.{Here, Agrees, Busy, busy, busy_name, busy_part, thread_part, thread_in_life, row_part, row_in_life, listed, listed_name, way_of, phase_of, phase_at, Before, During, held, slots_held, IsWellHeld, is_thread}
 use Rattle.trace_laws.proofs.Tids.{is-true, is-refl, is-false, is-flip, same_name}
 use Rattle.trace_laws.proofs.KeyedLemmas.{kept, added, unfronted, refronted, map_kept, map_removed, map_added}
 use Rattle.trace_laws.proofs.Births.{get-push, get-past}
-use Rattle.trace_laws.proofs.Midst.{Links, Midst, Plain, plain, under, LinkStands, spots_with, spots_at, labelled, here_kept, agrees_kept, links_kept}
-use Rattle.trace_laws.proofs.Parts.{listed_arrived, home_quiet, frame_home, away_thread, away_row, busy_none}
-use Rattle.trace_laws.proofs.Steps.{in_hand, thread_was, row_was, busy_was, send_step}
+use Rattle.trace_laws.proofs.Midst.{Links, Midst, Plain, plain, keeps, under, LinkStands, Allowed, spots_with, spots_at, labelled, here_kept, agrees_kept, links_kept}
+use Rattle.trace_laws.proofs.Parts.{listed_arrived, is_home, home_way, home_quiet, home_plain, frame_home, away_thread, away_row, busy_none}
+use Rattle.trace_laws.proofs.Steps.{Ties, in_hand, thread_was, row_was, busy_was, send_step}
 
 -- ## Holders
 
-thread_holds : (t : Tid) (h : Holder) → is_thread t h ≡ true → h ≡ Of_thread t
+pub thread_holds : (t : Tid) (h : Holder) → is_thread t h ≡ true → h ≡ Of_thread t
 thread_holds t (Of_node m) e = absurd (cc e)
 thread_holds t Nobody e = absurd (cc e)
 thread_holds t (Of_thread u) e = ap Of_thread (sym (is-true t u e))
 
-node_holds : (n : ℕ) (h : Holder) → is_free n h ≡ true → h ≡ Of_node n
+pub node_holds : (n : ℕ) (h : Holder) → is_free n h ≡ true → h ≡ Of_node n
 node_holds n (Of_node m) e = ap Of_node (eqb-true m n e)
 node_holds n (Of_thread u) e = absurd (cc e)
 node_holds n Nobody e = absurd (cc e)
@@ -58,9 +61,10 @@ agrees_slots : (p : Program) (w : Spots) (t : Tid) (s : Spot) (f : ℕ → Holde
     → ((u : Tid) (m : ℕ) → (w.threads t).life ≡ On m (Awaits u) → ⊥)
     → ((w.threads t).life ≡ Unborn → ⊥)
     → Plain s.life
-    → ((u : Tid) (y : ℕ) → has y (slots_in_life (update w.threads t s u).life (update w.threads t s u).guest) ≡ is_thread u (f y))
+    → ((u : Tid) (y : ℕ) → has y (slots_held (held (update w.threads t s u).life (update w.threads t s u).guest)) ≡ is_thread u (f y))
+    → IsWellHeld (held s.life s.guest)
     → Agrees p (spots_with (update w.threads t s) f w.births w.halts)
-agrees_slots p w t s f a phase quiet born idle slots = record {
+agrees_slots p w t s f a phase quiet born idle slots well = record {
   waits = λ u by at e. elim (is_tid t by) as (λ v. (cond v s (w.threads by)).life ≡ On at (Awaits u) → slice_get (w.births u.home) u.seq ≡ Some (Awaited by at)) [ true ↦ λ g. absurd (idle.waits u at g) | false ↦ λ g. a.waits u by at g ] e;
   stays = λ u m e. elim (is_tid t u) as (λ v. (cond v s (w.threads u)).life ≡ On m Stays → w.halts m ≡ true) [ true ↦ λ g. absurd (idle.stays m g) | false ↦ λ g. a.stays u m g ] e;
   homes = λ u out. elim (is_tid t u) as (λ v. is_tid t u ≡ v → (cond v s (w.threads u)).life ≡ Unborn) [
@@ -76,7 +80,67 @@ agrees_slots p w t s f a phase quiet born idle slots = record {
     | false ↦ λ f. a.awaits u by at e
   ] refl;
   slots = slots;
+  blocks = λ u. elim (is_tid t u) as (λ v. IsWellHeld (held (cond v s (w.threads u)).life (cond v s (w.threads u)).guest)) [ true ↦ well | false ↦ a.blocks u ];
 }
+
+-- ## Slots that change hands
+
+-- these slots go to node n
+abbrev pub given : ℕ → List ℕ → (ℕ → Holder) → ℕ → Holder
+given n slots f y = cond (has y slots) (Of_node n) (f y)
+
+-- these slots go to thread t
+abbrev pub taken : Tid → List ℕ → (ℕ → Holder) → ℕ → Holder
+taken t slots f y = cond (has y slots) (Of_thread t) (f y)
+
+-- who holds what, once it has changed hands between node n and thread t, whose spot is s then
+pub record Changes (n : ℕ) (w : Spots) (t : Tid) (s : Spot) (now : List ℕ) (f : ℕ → Holder) : Type 0 where
+  pub own : (y : ℕ) → has y now ≡ is_free n (f y)
+  pub there : (k : ℕ) → eqb n k ≡ false → (y : ℕ) → is_free k (f y) ≡ is_free k (w.slots y)
+  pub slots : (u : Tid) (y : ℕ) → has y (slots_held (held (update w.threads t s u).life (update w.threads t s u).guest)) ≡ is_thread u (f y)
+
+module _ (p : Program) (n : ℕ) (w : Spots) (t : Tid) (s : Spot) (old slots : List ℕ) (a : Agrees p w) (mine : (y : ℕ) → has y old ≡ is_free n (w.slots y)) where
+  -- the node's slots
+  abbrev before : ℕ → Bool
+  before y = has y (slots_held (held (w.threads t).life (w.threads t).guest))
+
+  abbrev after : ℕ → Bool
+  after y = has y (slots_held (held s.life s.guest))
+
+  pub gives_change : ((y : ℕ) → has y slots ≡ true → w.slots y ≡ Of_thread t) → ((y : ℕ) → after y ≡ cond (has y slots) false (before y)) → Changes n w t s (union old slots) (given n slots w.slots)
+  gives_change holder less = record {
+    own = λ y. has-union y old slots ∙ elim (has y slots) as (λ b. cond (has y old) true b ≡ is_free n (cond b (Of_node n) (w.slots y))) [
+      | true ↦ elim (has y old) as (λ b. cond b true true ≡ eqb n n) [ true ↦ sym (eq-eqb n n refl) | false ↦ sym (eq-eqb n n refl) ]
+      | false ↦ elim (has y old) as (λ b. has y old ≡ b → cond b true false ≡ is_free n (w.slots y)) [ true ↦ λ e. sym e ∙ mine y | false ↦ λ e. sym e ∙ mine y ] refl
+    ];
+    there = λ k e y. elim (has y slots) as (λ b. has y slots ≡ b → is_free k (cond b (Of_node n) (w.slots y)) ≡ is_free k (w.slots y)) [
+      | true ↦ λ h. e ∙ ap (is_free k) (sym (holder y h))
+      | false ↦ λ h. refl
+    ] refl;
+    slots = λ u y. elim (is_tid t u) as (λ b. is_tid t u ≡ b → has y (slots_held (held (cond b s (w.threads u)).life (cond b s (w.threads u)).guest)) ≡ is_thread u (given n slots w.slots y)) [
+      | true ↦ λ e. subst (λ z. after y ≡ is_thread z (given n slots w.slots y)) (is-true t u e) (less y ∙ elim (has y slots) as (λ b. cond b false (before y) ≡ is_thread t (cond b (Of_node n) (w.slots y))) [ true ↦ refl | false ↦ a.slots t y ])
+      | false ↦ λ e. a.slots u y ∙ elim (has y slots) as (λ b. has y slots ≡ b → is_thread u (w.slots y) ≡ is_thread u (cond b (Of_node n) (w.slots y))) [
+        | true ↦ λ h. ap (is_thread u) (holder y h) ∙ is-flip t u e
+        | false ↦ λ h. refl
+      ] refl
+    ] refl;
+  }
+
+  pub takes_change : ((y : ℕ) → has y slots ≡ true → w.slots y ≡ Of_node n) → ((y : ℕ) → after y ≡ cond (has y slots) true (before y)) → Changes n w t s (minus old slots) (taken t slots w.slots)
+  takes_change holder more = record {
+    own = λ y. has-minus y old slots ∙ elim (has y slots) as (λ b. cond b false (has y old) ≡ is_free n (cond b (Of_thread t) (w.slots y))) [ true ↦ refl | false ↦ mine y ];
+    there = λ k e y. elim (has y slots) as (λ b. has y slots ≡ b → is_free k (cond b (Of_thread t) (w.slots y)) ≡ is_free k (w.slots y)) [
+      | true ↦ λ h. sym e ∙ ap (is_free k) (sym (holder y h))
+      | false ↦ λ h. refl
+    ] refl;
+    slots = λ u y. elim (is_tid t u) as (λ b. is_tid t u ≡ b → has y (slots_held (held (cond b s (w.threads u)).life (cond b s (w.threads u)).guest)) ≡ is_thread u (taken t slots w.slots y)) [
+      | true ↦ λ e. subst (λ z. after y ≡ is_thread z (taken t slots w.slots y)) (is-true t u e) (more y ∙ elim (has y slots) as (λ b. cond b true (before y) ≡ is_thread t (cond b (Of_thread t) (w.slots y))) [ true ↦ sym (is-refl t) | false ↦ a.slots t y ])
+      | false ↦ λ e. a.slots u y ∙ elim (has y slots) as (λ b. has y slots ≡ b → is_thread u (w.slots y) ≡ is_thread u (cond b (Of_thread t) (w.slots y))) [
+        | true ↦ λ h. ap (is_thread u) (holder y h) ∙ sym (is-flip t u e)
+        | false ↦ λ h. refl
+      ] refl
+    ] refl;
+  }
 
 -- ## Ends
 
@@ -87,6 +151,30 @@ module _ (p : Program) (net : Net) (q n : ℕ) (w : Spots) (L : Links) where
   abbrev spot : Doing → Tid → Spot
   spot d t = (spots_at p net q n w d).threads t
 
+  -- a label by which slots go between node n and its thread t
+  pub slots_step : (d : Doing) (hand more : List Busy) (l : Label) (t : Tid) (r : Spot) (now : Local) (f : ℕ → Holder) (a b : Stage)
+      → Is d hand
+      → after_label p n l (spots_at p net q n w d) ≡ spots_with (update (spots_at p net q n w d).threads t r) f (spots_at p net q n w d).births (spots_at p net q n w d).halts
+      → Allowed p q n l (spots_at p net q n w d)
+      → causes p n l (spots_at p net q n w d) ≡ [] → shown_by l (spots_at p net q n w d) ≡ []
+      → (spot d t).life ≡ On n a → r.life ≡ On n b → is_home a ≡ true → is_home b ≡ true
+      → Ties p net q n w L (spots_at p net q n w d) t r now more
+      → now.names ≡ d.node.names → now.halted ≡ d.node.halted
+      → Changes n (spots_at p net q n w d) t r now.slots.own f
+      → IsWellHeld (held r.life r.guest)
+      → Is (record { node = now; labels = d.labels ++ l ∷ []; sends = d.sends; prints = d.prints }) more
+  slots_step d hand more l t r now f a b m same ok sent shown x y home_a home_b ties names halted change well =
+      let v : Spots = spots_at p net q n w d in
+      let s : Spot = spot d t in
+      let before : way_of t s.life s.verdict ≡ None = ap (λ z. way_of t z s.verdict) x ∙ home_way t n a s.verdict home_a in
+      let after : way_of t r.life r.verdict ≡ None = ap (λ z. way_of t z r.verdict) y ∙ home_way t n b r.verdict home_b in
+      labelled p net q n w L L d hand more l (spots_with (update v.threads t r) f v.births v.halts) now d.sends d.prints m same ok
+      (sym (append-nil d.sends) ∙ ap (λ z. d.sends ++ z) (sym sent)) (sym (append-nil d.prints) ∙ ap (λ z. d.prints ++ z) (sym shown))
+      (record { threads = ties.threads; rows = ties.rows; busy = ties.busy; names = names ∙ m.here.names; own = change.own; halted = halted ∙ m.here.halted })
+      (λ k e. here_kept k v t r f v.births v.halts (net.nodes k) [] (m.there k e) (frame_home n k t s r a b x y home_a home_b e) refl (change.there k e) refl)
+      (λ i j. links_kept t r v.threads (under n L d.sends) m.links (after ∙ sym before) i j)
+      (agrees_slots p v t r f m.agrees (ap phase_of y ∙ sym (ap phase_of x)) (λ u k e. home_quiet n a home_a u k (sym x ∙ e)) (λ e. absurd (cc (e, x))) (subst (λ z. Plain z) (sym y) (home_plain n b home_b)) change.slots well)
+
   pub gives_ok : (d : Doing) (t : Tid) (end : End) (hs : List Busy) → Is d (busy t (On n (Ends end)) ∷ hs) → Is (gives t (waits wait.No (spot d t).guest) d) (busy t (On n (Leaves end)) ∷ hs)
   unfolding gives thread_out slots_in say
   gives_ok d t end hs m =
@@ -95,37 +183,18 @@ module _ (p : Program) (net : Net) (q n : ℕ) (w : Spots) (L : Links) where
       let x : s.life ≡ On n (Ends end) = in_hand p net q n w L d t (On n (Ends end)) hs m in
       let mine : List ℕ = guest_slots s.guest in
       let r : Spot = record s { life = On n (Leaves end); guest = gives_slots mine s.guest } in
-      let f : ℕ → Holder = λ y. cond (has y mine) (Of_node n) (v.slots y) in
-      let told : (y : ℕ) → has y mine ≡ is_thread t (v.slots y) = λ y. ap (λ z. has y (slots_in_life z s.guest)) (sym x) ∙ m.agrees.slots t y in
-      let holder : (y : ℕ) → has y mine ≡ true → v.slots y ≡ Of_thread t = λ y h. thread_holds t (v.slots y) (sym (told y) ∙ h) in
-      labelled p net q n w L L d _ (busy t (On n (Leaves end)) ∷ hs) (Gave t mine) (spots_with (update v.threads t r) f v.births v.halts) _ d.sends d.prints m
-      (ap (λ z. spots_with (update v.threads t (record s { life = gave_life z; guest = gives_slots mine s.guest })) f v.births v.halts) x)
-      (record { solo = tt; holders = holder; life = (rw x refl, refl); replies = tt; grants = tt }) (sym (append-nil d.sends)) (sym (append-nil d.prints))
+      let had : (y : ℕ) → has y (slots_held (held s.life s.guest)) ≡ has y mine = λ y. ap (λ z. has y (slots_held (held z s.guest))) x in
+      let holder : (y : ℕ) → has y mine ≡ true → v.slots y ≡ Of_thread t = λ y h. thread_holds t (v.slots y) (sym (sym (had y) ∙ m.agrees.slots t y) ∙ h) in
+      slots_step d _ (busy t (On n (Leaves end)) ∷ hs) (Gave t mine) t r _ (given n mine v.slots) (Ends end) (Leaves end) m
+      (ap (λ z. spots_with (update v.threads t (record s { life = gave_life z; guest = gives_slots mine s.guest })) (given n mine v.slots) v.births v.halts) x)
+      (record { solo = tt; holders = holder; life = subst (λ z. MayGive n z s.guest mine) (sym x) (refl, refl); replies = tt; grants = tt }) refl refl x refl refl refl
       (record {
         threads = map_removed is_tid is-true is-refl (thread_part n) v.threads t r d.node.threads m.here.threads (thread_was p net q n w L r t (Leaves end) refl);
         rows = kept is_tid is-true is-refl listed_name (row_part n) v.threads t r (map listed d.node.places.rows) m.here.rows (row_was p net q n w L r t (Leaves end) refl ∙ sym (row_was p net q n w L s t (Ends end) x));
         busy = refronted is_tid is-true is-refl busy_name (busy_part n) v.threads t r hs (busy t (On n (Ends end))) (busy t (On n (Leaves end))) m.here.busy refl refl (busy_was p net q n w L r t (On n (Leaves end)) refl (eq-eqb n n refl));
-        names = m.here.names;
-        halted = m.here.halted;
-        own = λ y. has-union y d.node.slots.own mine ∙ elim (has y mine) as (λ b. cond (has y d.node.slots.own) true b ≡ is_free n (cond b (Of_node n) (v.slots y))) [
-          | true ↦ elim (has y d.node.slots.own) as (λ b. cond b true true ≡ eqb n n) [ true ↦ sym (eq-eqb n n refl) | false ↦ sym (eq-eqb n n refl) ]
-          | false ↦ elim (has y d.node.slots.own) as (λ b. has y d.node.slots.own ≡ b → cond b true false ≡ is_free n (v.slots y)) [ true ↦ λ e. sym e ∙ m.here.own y | false ↦ λ e. sym e ∙ m.here.own y ] refl
-        ];
-      })
-      (λ k e. here_kept k v t r f v.births v.halts (net.nodes k) [] (m.there k e) (frame_home n k t s r (Ends end) (Leaves end) x refl refl refl e) refl
-      (λ y. elim (has y mine) as (λ b. has y mine ≡ b → is_free k (cond b (Of_node n) (v.slots y)) ≡ is_free k (v.slots y)) [
-        | true ↦ λ h. e ∙ ap (is_free k) (sym (holder y h))
-        | false ↦ λ h. refl
-      ] refl) refl)
-      (λ i j. links_kept t r v.threads (under n L d.sends) m.links (sym (ap (λ z. way_of t z s.verdict) x)) i j)
-      (agrees_slots p v t r f m.agrees (sym (ap phase_of x)) (λ u k e. home_quiet n (Ends end) refl u k (sym x ∙ e)) (λ e. absurd (cc (e, x))) (plain _ refl)
-      (λ u y. elim (is_tid t u) as (λ b. is_tid t u ≡ b → has y (slots_in_life (cond b r (v.threads u)).life (cond b r (v.threads u)).guest) ≡ is_thread u (f y)) [
-        | true ↦ λ e. subst (λ z. false ≡ is_thread z (f y)) (is-true t u e) (elim (has y mine) as (λ b. has y mine ≡ b → false ≡ is_thread t (cond b (Of_node n) (v.slots y))) [ true ↦ λ h. refl | false ↦ λ h. sym h ∙ told y ] refl)
-        | false ↦ λ e. m.agrees.slots u y ∙ elim (has y mine) as (λ b. has y mine ≡ b → is_thread u (v.slots y) ≡ is_thread u (cond b (Of_node n) (v.slots y))) [
-          | true ↦ λ h. ap (is_thread u) (holder y h) ∙ is-flip t u e
-          | false ↦ λ h. refl
-        ] refl
-      ] refl))
+      }) refl refl
+      (gives_change p n v t r d.node.slots.own mine m.agrees m.here.own holder (λ y. elim (has y mine) as (λ b. has y mine ≡ b → false ≡ cond b false (has y (slots_held (held s.life s.guest)))) [ true ↦ λ h. refl | false ↦ λ h. sym (had y ∙ h) ] refl))
+      tt
 
   pub ends_ok : (d : Doing) (t : Tid) (end : End) (hs : List Busy) → Is d (busy t (On n (Leaves end)) ∷ hs) → Is (ends t end d) hs
   unfolding ends put say
@@ -149,7 +218,7 @@ module _ (p : Program) (net : Net) (q n : ℕ) (w : Spots) (L : Links) where
       })
       (sym (ap phase_of x))
       (λ u k e. home_quiet n (Leaves end) refl u k (sym x ∙ e))
-      (sym (ap (λ z. slots_in_life z s.guest) x))
+      (keeps _ _ (sym (ap (λ z. held z s.guest) x)))
       (λ e. absurd (cc (e, x))) (plain _ refl)
 
   pub end_thread_ok : (d : Doing) (t : Tid) (end : End) (hs : List Busy) → Is d (busy t (On n (Ends end)) ∷ hs) → Is (end_thread t (waits wait.No (spot d t).guest) end d) hs
@@ -173,7 +242,11 @@ with_newborn n t x priority slot s = record s {
   names = s.names ++ Lives ∷ [];
 }
 
-module _ (p : Program) (net : Net) (n : ℕ) (v : Spots) (M : Links) (s : Local) (hand : List Busy) (below : nat_lt n (nodes_of p) ≡ true) (g : Guest) (verdict : Response) (slot : ℕ) (holder : v.slots slot ≡ Of_node n) (mine : guest_slots g ≡ slot ∷ []) where
+-- a new thread has its stack alone, and no block
+new_well : (entry a0 a1 sp slot priority : ℕ) → IsWellHeld (held (On 0 Ready) (newborn entry a0 a1 sp slot priority))
+new_well entry a0 a1 sp slot priority = record { stack = rw (eq-eqb slot slot refl) refl; blocks = λ x h. absurd (cc h) }
+
+module _ (p : Program) (net : Net) (n : ℕ) (v : Spots) (M : Links) (s : Local) (hand : List Busy) (below : nat_lt n (nodes_of p) ≡ true) (g : Guest) (verdict : Response) (slot : ℕ) (holder : v.slots slot ≡ Of_node n) (mine : guest_slots g ≡ slot ∷ []) (well : IsWellHeld (held (On n Ready) g)) where
   abbrev new_name : Tid
   new_name = tid n (length (v.births n))
 
@@ -258,17 +331,18 @@ module _ (p : Program) (net : Net) (n : ℕ) (v : Spots) (M : Links) (s : Local)
                   | false ↦ λ h. was
                 ] refl
           ] refl;
-          slots = λ u y. elim (is_tid t u) as (λ b. is_tid t u ≡ b → has y (slots_in_life (cond b new_spot (v.threads u)).life (cond b new_spot (v.threads u)).guest) ≡ is_thread u (cond (eqb slot y) (Of_thread t) (v.slots y))) [
+          slots = λ u y. elim (is_tid t u) as (λ b. is_tid t u ≡ b → has y (slots_held (held (cond b new_spot (v.threads u)).life (cond b new_spot (v.threads u)).guest)) ≡ is_thread u (cond (eqb slot y) (Of_thread t) (v.slots y))) [
             | true ↦ λ e. ap (λ xs. has y xs) mine ∙ subst (λ z. cond (eqb slot y) true false ≡ is_thread z (cond (eqb slot y) (Of_thread t) (v.slots y))) (is-true t u e)
                 (elim (eqb slot y) as (λ b. cond b true false ≡ is_thread t (cond b (Of_thread t) (v.slots y))) [
                   | true ↦ sym (is-refl t)
-                  | false ↦ ap (λ z. has y (slots_in_life z old.guest)) (sym x) ∙ o.agrees.slots t y
+                  | false ↦ ap (λ z. has y (slots_held (held z old.guest))) (sym x) ∙ o.agrees.slots t y
                 ])
             | false ↦ λ e. o.agrees.slots u y ∙ elim (eqb slot y) as (λ b. eqb slot y ≡ b → is_thread u (v.slots y) ≡ is_thread u (cond b (Of_thread t) (v.slots y))) [
               | true ↦ λ h. ap (is_thread u) (sym (ap v.slots (eqb-true slot y h)) ∙ holder) ∙ sym (is-flip t u e)
               | false ↦ λ h. refl
             ] refl
           ] refl;
+          blocks = λ u. elim (is_tid t u) as (λ b. IsWellHeld (held (cond b new_spot (v.threads u)).life (cond b new_spot (v.threads u)).guest)) [ true ↦ well | false ↦ o.agrees.blocks u ];
         };
       }
     where
@@ -277,15 +351,18 @@ module _ (p : Program) (net : Net) (n : ℕ) (v : Spots) (M : Links) (s : Local)
 
 -- ## The steps of a birth
 
--- a node's least slot is the least that no thread holds
-pub least_is : (n : ℕ) (v : Spots) (s : Local) (hand : List Busy) → Here n v s hand → least_free n v ≡ free_slot s.slots.own
-least_is n v s hand h = lowest_run-same (λ x. is_free n (v.slots x)) (λ x. has x s.slots.own) 1 4096 (λ x. sym (h.own x))
+-- a node's lowest run is the lowest that no thread holds
+pub lowest_is : (n count : ℕ) (v : Spots) (s : Local) (hand : List Busy) → Here n v s hand → lowest_free n count v ≡ free_run s.slots.own count
+lowest_is n count v s hand h = lowest_run-same (λ x. is_free n (v.slots x)) (λ x. has x s.slots.own) count 4096 (λ x. sym (h.own x))
+
+pub lowest_held : (n count : ℕ) (v : Spots) (first y : ℕ) → lowest_free n count v ≡ Some first → has y (run first count) ≡ true → v.slots y ≡ Of_node n
+lowest_held n count v first y e h = node_holds n (v.slots y) (found (λ x. is_free n (v.slots x)) count 4096 first y e h)
 
 one_run : (slot : ℕ) → has slot (run slot 1) ≡ true
 one_run slot = has-run slot slot 1 ∙ grind (arith, ltb-true slot slot, lt-ltb slot (slot + 1))
 
-least_held : (n : ℕ) (v : Spots) (slot : ℕ) → least_free n v ≡ Some slot → v.slots slot ≡ Of_node n
-least_held n v slot e = node_holds n (v.slots slot) (found (λ x. is_free n (v.slots x)) 1 4096 slot slot e (one_run slot))
+least_held : (n : ℕ) (v : Spots) (slot : ℕ) → lowest_free n 1 v ≡ Some slot → v.slots slot ≡ Of_node n
+least_held n v slot e = lowest_held n 1 v slot slot e (one_run slot)
 
 module _ (p : Program) (net : Net) (q n : ℕ) (w : Spots) (L : Links) (below : nat_lt n (nodes_of p) ≡ true) where
   abbrev Is_so : Doing → List Busy → Type 0
@@ -293,34 +370,34 @@ module _ (p : Program) (net : Net) (q n : ℕ) (w : Spots) (L : Links) (below : 
 
   -- the first thread
   pub main_born_ok : (d : Doing) (slot : ℕ) → Is_so d [] → n ≡ 0 → free_slot d.node.slots.own ≡ Some slot → Is_so (birth n why.Main p.image.main 0 main_priority slot d) []
-  unfolding birth arrive thread_in name_in slot_out say
+  unfolding birth arrive thread_in name_in slots_out say
   main_born_ok d slot m zero free =
       let v : Spots = spots_at p net q n w d in
       let t : Tid = tid n (length (v.births n)) in
       let g : Guest = newborn p.image.main 0 0 (stack_end slot) slot main_priority in
-      let least : least_free n v ≡ Some slot = least_is n v d.node [] m.here ∙ free in
+      let least : lowest_free n 1 v ≡ Some slot = lowest_is n 1 v d.node [] m.here ∙ free in
       let o : World p net n v (under n L d.sends) d.node [] = record { here = m.here; there = m.there; links = m.links; agrees = m.agrees } in
       let holder : v.slots slot ≡ Of_node n = least_held n v slot least in
-      let new : World p net n (born_spots p net n v (under n L d.sends) d.node [] below g (record { code = 0; second = None }) slot holder refl) (under n L d.sends) (with_newborn n t (waits wait.No g) g.priority slot d.node) [] =
-      newcomer p net n v (under n L d.sends) d.node [] below g (record { code = 0; second = None }) slot holder refl o in
+      let new : World p net n (born_spots p net n v (under n L d.sends) d.node [] below g (record { code = 0; second = None }) slot holder refl (new_well p.image.main 0 0 (stack_end slot) slot main_priority)) (under n L d.sends) (with_newborn n t (waits wait.No g) g.priority slot d.node) [] =
+      newcomer p net n v (under n L d.sends) d.node [] below g (record { code = 0; second = None }) slot holder refl (new_well p.image.main 0 0 (stack_end slot) slot main_priority) o in
       subst (λ (k : ℕ). Midst p net q n w L (record { node = with_newborn n (tid n k) (waits wait.No g) g.priority slot d.node; labels = d.labels ++ Born (tid n k) why.Main p.image.main 0 0 (stack_end slot) slot ∷ []; sends = d.sends; prints = d.prints }) [])
       (ap length (sym m.here.names))
       (labelled p net q n w L L d [] [] (Born t why.Main p.image.main 0 0 (stack_end slot) slot) _ _ d.sends d.prints m refl
-      (record { solo = ((refl, refl, zero), refl, refl); holders = holder; life = (unborn p net n v (under n L d.sends) d.node [] below g (record { code = 0; second = None }) slot holder refl o, refl); replies = tt; grants = least })
+      (record { solo = ((refl, refl, zero), refl, refl); holders = holder; life = (unborn p net n v (under n L d.sends) d.node [] below g (record { code = 0; second = None }) slot holder refl (new_well p.image.main 0 0 (stack_end slot) slot main_priority) o, refl); replies = tt; grants = least })
       (sym (append-nil d.sends)) (sym (append-nil d.prints)) new.here new.there new.links new.agrees)
 
   -- a thread that another one creates, which is due the new name then
-  pub born_ok : (d : Doing) (by : Tid) (e a k slot : ℕ) (hs : List Busy) → Is_so d (busy by (On n (Needs e a k)) ∷ hs) → free_slot d.node.slots.own ≡ Some slot
+  pub born_ok : (d : Doing) (by : Tid) (e a k slot : ℕ) (hs : List Busy) → Is_so d (busy by (On n (Served (Create e a k))) ∷ hs) → free_slot d.node.slots.own ≡ Some slot
       → Is_so (birth n (why.Create by) e a k slot d) (busy by (On n (Due (tid_value (next_name n d)))) ∷ hs)
-  unfolding birth arrive thread_in name_in slot_out say
+  unfolding birth arrive thread_in name_in slots_out say
   born_ok d by e a k slot hs m free =
       let v : Spots = spots_at p net q n w d in
       let s : Spot = v.threads by in
-      let x : s.life ≡ On n (Needs e a k) = in_hand p net q n w L d by (On n (Needs e a k)) hs m in
+      let x : s.life ≡ On n (Served (Create e a k)) = in_hand p net q n w L d by (On n (Served (Create e a k))) hs m in
       let t : Tid = tid n (length (v.births n)) in
       let g : Guest = newborn e a 0 (stack_end slot) slot k in
       let r : Spot = record s { life = On n (Due (tid_value t)) } in
-      let least : least_free n v ≡ Some slot = least_is n v d.node _ m.here ∙ free in
+      let least : lowest_free n 1 v ≡ Some slot = lowest_is n 1 v d.node _ m.here ∙ free in
       let holder : v.slots slot ≡ Of_node n = least_held n v slot least in
       let v1 : Spots = spots_with (update v.threads by r) v.slots v.births v.halts in
       let hand : List Busy = busy by (On n (Due (tid_value t))) ∷ hs in
@@ -328,20 +405,20 @@ module _ (p : Program) (net : Net) (q n : ℕ) (w : Spots) (L : Links) (below : 
       let none : Response = record { code = 0; second = None } in
       let served : World p net n v1 M d.node hand = record {
         here = record {
-          threads = map_kept is_tid is-true is-refl (thread_part n) v.threads by r d.node.threads m.here.threads (thread_was p net q n w L r by (Due (tid_value t)) refl ∙ sym (thread_was p net q n w L s by (Needs e a k) x));
-          rows = kept is_tid is-true is-refl listed_name (row_part n) v.threads by r (map listed d.node.places.rows) m.here.rows (row_was p net q n w L r by (Due (tid_value t)) refl ∙ sym (row_was p net q n w L s by (Needs e a k) x));
-          busy = refronted is_tid is-true is-refl busy_name (busy_part n) v.threads by r hs (busy by (On n (Needs e a k))) (busy by (On n (Due (tid_value t)))) m.here.busy refl refl (busy_was p net q n w L r by (On n (Due (tid_value t))) refl (eq-eqb n n refl));
+          threads = map_kept is_tid is-true is-refl (thread_part n) v.threads by r d.node.threads m.here.threads (thread_was p net q n w L r by (Due (tid_value t)) refl ∙ sym (thread_was p net q n w L s by (Served (Create e a k)) x));
+          rows = kept is_tid is-true is-refl listed_name (row_part n) v.threads by r (map listed d.node.places.rows) m.here.rows (row_was p net q n w L r by (Due (tid_value t)) refl ∙ sym (row_was p net q n w L s by (Served (Create e a k)) x));
+          busy = refronted is_tid is-true is-refl busy_name (busy_part n) v.threads by r hs (busy by (On n (Served (Create e a k)))) (busy by (On n (Due (tid_value t)))) m.here.busy refl refl (busy_was p net q n w L r by (On n (Due (tid_value t))) refl (eq-eqb n n refl));
           names = m.here.names;
           own = m.here.own;
           halted = m.here.halted;
         };
-        there = λ j f. here_kept j v by r v.slots v.births v.halts (net.nodes j) [] (m.there j f) (frame_home n j by s r (Needs e a k) (Due (tid_value t)) x refl refl refl f) refl (λ y. refl) refl;
+        there = λ j f. here_kept j v by r v.slots v.births v.halts (net.nodes j) [] (m.there j f) (frame_home n j by s r (Served (Create e a k)) (Due (tid_value t)) x refl refl refl f) refl (λ y. refl) refl;
         links = λ i j. links_kept by r v.threads M m.links (sym (ap (λ z. way_of by z s.verdict) x)) i j;
-        agrees = agrees_kept p v by r v.halts m.agrees (sym (ap phase_of x)) (λ u j f. home_quiet n (Needs e a k) refl u j (sym x ∙ f)) (λ y. ap (λ z. has y (slots_in_life z s.guest)) (sym x)) (λ f. absurd (cc (f, x))) (λ u j f. absurd (cc f)) (λ j f. absurd (cc f)) (λ j f. f);
+        agrees = agrees_kept p v by r v.halts m.agrees (sym (ap phase_of x)) (λ u j f. home_quiet n (Served (Create e a k)) refl u j (sym x ∙ f)) (keeps _ _ (ap (λ z. held z s.guest) (sym x))) (λ f. absurd (cc (f, x))) (λ u j f. absurd (cc f)) (λ j f. absurd (cc f)) (λ j f. f);
       } in
-      let new : World p net n (born_spots p net n v1 M d.node hand below g none slot holder refl) M (with_newborn n t (waits wait.No g) g.priority slot d.node) hand = newcomer p net n v1 M d.node hand below g none slot holder refl served in
+      let new : World p net n (born_spots p net n v1 M d.node hand below g none slot holder refl (new_well e a 0 (stack_end slot) slot k)) M (with_newborn n t (waits wait.No g) g.priority slot d.node) hand = newcomer p net n v1 M d.node hand below g none slot holder refl (new_well e a 0 (stack_end slot) slot k) served in
       let fresh : (v.threads t).life ≡ Unborn = unborn_of (v.threads t).life (sym (ap phase_at (get-past (v.births n))) ∙ m.agrees.named t) in
-      let same : after_label p n (Born t (why.Create by) e a 0 (stack_end slot) slot) v ≡ born_spots p net n v1 M d.node hand below g none slot holder refl =
+      let same : after_label p n (Born t (why.Create by) e a 0 (stack_end slot) slot) v ≡ born_spots p net n v1 M d.node hand below g none slot holder refl (new_well e a 0 (stack_end slot) slot k) =
       ap (λ z. spots_with (update (update v.threads by r) t (born_spot n e a 0 (stack_end slot) slot (asked_priority z))) (at_node v.slots slot (Of_thread t)) (at_node v.births n (v.births n ++ Lives ∷ [])) v.halts) x in
       subst (λ (j : ℕ). Midst p net q n w L (record { node = with_newborn n (tid n j) (waits wait.No g) g.priority slot d.node; labels = d.labels ++ Born (tid n j) (why.Create by) e a 0 (stack_end slot) slot ∷ []; sends = d.sends; prints = d.prints }) (busy by (On n (Due (tid_value (tid n j)))) ∷ hs))
       (ap length (sym m.here.names))

@@ -1,5 +1,5 @@
 -- An event in its midst: what holds of it, and the one lemma for a label.
-use Rattle.std.proofs.Common.{◌≡◌, ℕ, List, [], ◌∷◌, ◌++◌, Some, None, Bool, true, false, eqb, cond, refl, sym, ap, ◌∙◌, subst, append_assoc, map}
+use Rattle.std.proofs.Common.{◌≡◌, ℕ, List, [], ◌∷◌, ◌++◌, Option, Some, None, Bool, true, false, eqb, cond, refl, sym, ap, ◌∙◌, subst, append_assoc, map}
 use Rattle.std.specs.Prelude.{slice_get}
 use Rattle.std.proofs.lemmas.Bool.{eqb-true}
 use Rattle.std.proofs.lemmas.List.{append-nil}
@@ -18,7 +18,7 @@ use Rattle.run_trace.specs.Keyed.{StandsFor}
 use Rattle.run_trace.specs.Spots.{Stays, Life, Awaits, Unborn, On, Spot, Spots, Holder, update, after_label, after_labels}
 use Rattle.run_trace.specs.Rules.{Rule, SoloRule, HoldersRule, LifeRule, RepliesRule, GrantsRule, ObeyEach, is_free, causes, all_causes, send_to}
 use Rattle.run_trace.specs.Console.{shown_by, shown_by_all}
-use Rattle.run_trace.specs.Stands.{Here, Agrees, Busy, busy_name, busy_part, thread_part, row_part, link_part, listed, listed_name, Word, word_name, word_of, way, way_of, on_link, phase_of, phase_at, slots_in_life, is_thread}
+use Rattle.run_trace.specs.Stands.{Here, Agrees, Busy, busy_name, busy_part, thread_part, row_part, link_part, listed, listed_name, Word, word_name, word_of, way, way_of, on_link, phase_of, phase_at, Holding, held, slots_held, IsWellHeld, is_thread}
 use Rattle.trace_laws.proofs.Tids.{is-true, is-refl}
 use Rattle.trace_laws.proofs.KeyedLemmas.{kept, removed, added, without, map_kept}
 
@@ -194,17 +194,25 @@ pub record Plain (life : Life) : Type 0 where
 pub plain : (life : Life) → is_plain life ≡ true → Plain life
 plain life h = record { waits = λ u m e. absurd (cc (ap is_plain e, h)); stays = λ m e. absurd (cc (ap is_plain e, h)) }
 
+-- a thread keeps its slots, and its blocks lie well in them
+pub record Keeps (old new : Option Holding) : Type 0 where
+  pub slots : slots_held new ≡ slots_held old
+  pub well : IsWellHeld old → IsWellHeld new
+
+pub keeps : (old new : Option Holding) → new ≡ old → Keeps old new
+keeps old new e = record { slots = ap slots_held e; well = λ h. subst (λ x. IsWellHeld x) (sym e) h }
+
 -- a thread that keeps its phase and its slots, and that no record names as a joiner
 pub agrees_kept : (p : Program) (w : Spots) (t : Tid) (s : Spot) (h : ℕ → Bool) → Agrees p w
     → phase_of s.life ≡ phase_of (w.threads t).life
     → ((u : Tid) (m : ℕ) → (w.threads t).life ≡ On m (Awaits u) → ⊥)
-    → ((x : ℕ) → has x (slots_in_life s.life s.guest) ≡ has x (slots_in_life (w.threads t).life (w.threads t).guest))
+    → Keeps (held (w.threads t).life (w.threads t).guest) (held s.life s.guest)
     → ((w.threads t).life ≡ Unborn → ⊥)
     → ((u : Tid) (m : ℕ) → s.life ≡ On m (Awaits u) → ⊥)
     → ((m : ℕ) → s.life ≡ On m Stays → h m ≡ true)
     → ((m : ℕ) → w.halts m ≡ true → h m ≡ true)
     → Agrees p (spots_with (update w.threads t s) w.slots w.births h)
-agrees_kept p w t s h a phase quiet slots born idle stay more = record {
+agrees_kept p w t s h a phase quiet kept born idle stay more = record {
   waits = λ u by at e. elim (is_tid t by) as (λ v. (cond v s (w.threads by)).life ≡ On at (Awaits u) → slice_get (w.births u.home) u.seq ≡ Some (Awaited by at)) [ true ↦ λ f. absurd (idle u at f) | false ↦ λ f. a.waits u by at f ] e;
   stays = λ u m e. elim (is_tid t u) as (λ v. (cond v s (w.threads u)).life ≡ On m Stays → h m ≡ true) [ true ↦ λ f. stay m f | false ↦ λ f. more m (a.stays u m f) ] e;
   homes = λ u out. elim (is_tid t u) as (λ v. is_tid t u ≡ v → (cond v s (w.threads u)).life ≡ Unborn) [
@@ -219,10 +227,14 @@ agrees_kept p w t s h a phase quiet slots born idle stay more = record {
     | true ↦ λ f. absurd (quiet u at (subst (λ x. (w.threads x).life ≡ On at (Awaits u)) (sym (is-true t by f)) (a.awaits u by at e)))
     | false ↦ λ f. a.awaits u by at e
   ] refl;
-  slots = λ u x. elim (is_tid t u) as (λ v. is_tid t u ≡ v → has x (slots_in_life (cond v s (w.threads u)).life (cond v s (w.threads u)).guest) ≡ is_thread u (w.slots x)) [
-    | true ↦ λ e. slots x ∙ ap (λ y. has x (slots_in_life (w.threads y).life (w.threads y).guest)) (is-true t u e) ∙ a.slots u x
+  slots = λ u x. elim (is_tid t u) as (λ v. is_tid t u ≡ v → has x (slots_held (held (cond v s (w.threads u)).life (cond v s (w.threads u)).guest)) ≡ is_thread u (w.slots x)) [
+    | true ↦ λ e. ap (has x) kept.slots ∙ ap (λ y. has x (slots_held (held (w.threads y).life (w.threads y).guest))) (is-true t u e) ∙ a.slots u x
     | false ↦ λ e. a.slots u x
   ] refl;
+  blocks = λ u. elim (is_tid t u) as (λ v. IsWellHeld (held (cond v s (w.threads u)).life (cond v s (w.threads u)).guest)) [
+    | true ↦ kept.well (a.blocks t)
+    | false ↦ a.blocks u
+  ];
 }
 
 -- ## The one lemma for a label

@@ -8,7 +8,7 @@ use Rattle.run_trace.specs.declared.node.Row.{Row}
 use Rattle.run_trace.specs.Names.{is_tid}
 use Rattle.run_trace.specs.Places.{Places, arrived, without_row, IsIn}
 use Rattle.run_trace.specs.Keyed.{AreApart, item_of}
-use Rattle.run_trace.specs.Spots.{Stage, Ready, Running, Due, Needs, Told_next, Ends, Leaves, Halts, Stays, Shows, Showing, Shown_there, Asks, Awaits, Answers, Answered, Life, Unborn, On, Noting, Gone, Response, Spot}
+use Rattle.run_trace.specs.Spots.{Stage, Ready, Running, Due, Served, Told_next, Ends, Leaves, Halts, Stays, Shows, Showing, Shown_there, Asks, Awaits, Answers, Answered, Life, Unborn, On, Noting, Gone, Response, Spot}
 use Rattle.run_trace.specs.Stands.{Listed, listed, listed_name, Busy, busy, is_busy, busy_part, thread_part, thread_in_life, row_part, row_in_life, row_in_stage, Word, Line, Line_shown, Joins, Reply, Ended_word, Way, way, way_of, on_link}
 use Rattle.trace_laws.proofs.Tids.{is-true, is-refl}
 use Rattle.trace_laws.proofs.KeyedLemmas.{without}
@@ -20,7 +20,7 @@ row_ready : (t : Tid) (stage : Stage) (priority : ℕ) (y : Listed) → row_in_s
 row_ready t Ready priority y h = let e : record { tid = t; priority = priority } ≡ y = cc h in (refl, ap (λ (x : Listed). x.priority) e)
 row_ready t Running priority y h = absurd (cc h)
 row_ready t (Due code) priority y h = absurd (cc h)
-row_ready t (Needs e a k) priority y h = absurd (cc h)
+row_ready t (Served c) priority y h = absurd (cc h)
 row_ready t Told_next priority y h = absurd (cc h)
 row_ready t (Ends end) priority y h = absurd (cc h)
 row_ready t (Leaves end) priority y h = absurd (cc h)
@@ -105,7 +105,7 @@ at_way t (On m (Answered k)) v x h = let e : record { from = k; to = m; word = R
 at_way t (On m Ready) v x h = absurd (cc h)
 at_way t (On m Running) v x h = absurd (cc h)
 at_way t (On m (Due code)) v x h = absurd (cc h)
-at_way t (On m (Needs e a k)) v x h = absurd (cc h)
+at_way t (On m (Served c)) v x h = absurd (cc h)
 at_way t (On m Told_next) v x h = absurd (cc h)
 at_way t (On m (Ends end)) v x h = absurd (cc h)
 at_way t (On m (Leaves end)) v x h = absurd (cc h)
@@ -121,7 +121,7 @@ abbrev pub is_home : Stage → Bool
 is_home Ready = true
 is_home Running = true
 is_home (Due code) = true
-is_home (Needs entry argument priority) = true
+is_home (Served c) = true
 is_home Told_next = true
 is_home (Ends end) = true
 is_home (Leaves end) = true
@@ -132,7 +132,7 @@ pub home_way : (t : Tid) (n : ℕ) (stage : Stage) (v : Response) → is_home st
 home_way t n Ready v h = refl
 home_way t n Running v h = refl
 home_way t n (Due code) v h = refl
-home_way t n (Needs e a k) v h = refl
+home_way t n (Served c) v h = refl
 home_way t n Told_next v h = refl
 home_way t n (Ends end) v h = refl
 home_way t n (Leaves end) v h = refl
@@ -159,7 +159,7 @@ home_busy : (n k : ℕ) (stage : Stage) → is_home stage ≡ true → eqb n k �
 home_busy n k Ready h e = refl
 home_busy n k Running h e = e
 home_busy n k (Due code) h e = e
-home_busy n k (Needs a b c) h e = e
+home_busy n k (Served c) h e = e
 home_busy n k Told_next h e = e
 home_busy n k (Ends end) h e = e
 home_busy n k (Leaves end) h e = e

@@ -11,6 +11,7 @@ use Rattle.rv_step.specs.Step.{State}
 use Rattle.rv_step.specs.Run.{after, StopsBy}
 use Rattle.run_trace.specs.declared.label.Label.{Label}
 use Rattle.run_trace.specs.declared.label.Label.TheVariants.{Ran, Asked, Judged, Told, Halted}
+use Rattle.run_trace.specs.declared.label.Extra.TheVariants.{Nothing}
 use Rattle.run_trace.specs.declared.packet.Body.{Body}
 use Rattle.run_trace.specs.declared.packet.Body.TheVariants.{Show, JoinAsk}
 use Rattle.run_trace.specs.declared.packet.Send.{Send}
@@ -18,22 +19,22 @@ use Rattle.run_trace.specs.declared.node.Wait.{Wait}
 use Rattle.run_trace.specs.declared.node.Wait.TheVariants as wait
 use Rattle.run_trace.specs.Names.{is_tid}
 use Rattle.run_trace.specs.Program.{Program, code_of}
-use Rattle.run_trace.specs.Guests.{Guest, Run, run_of, waits, with_state, told, guest_slots}
-use Rattle.run_trace.specs.Calls.{Call, call_of, number_of, args_of, refusal, said_bytes}
+use Rattle.run_trace.specs.Guests.{Guest, Run, run_of, waits, with_state, told, Solo}
+use Rattle.run_trace.specs.Calls.{Call, Create, call_of, number_of, args_of, refusal, said_bytes}
 use Rattle.run_trace.specs.Places.{Places, taken_off}
 use Rattle.run_trace.specs.Local.{Local, Doing}
-use Rattle.run_trace.specs.Steps.{say, put, arrive, take_off, keep, halt, ran, runs_out, asks, asks_show, asks_join, halts, judge, tell, tell_found, extra_of}
-use Rattle.run_trace.specs.Machine.{answer}
+use Rattle.run_trace.specs.Steps.{say, put, arrive, take_off, keep, halt, ran, runs_out, asks, asks_show, asks_join, halts, judge, tell, tell_found, settle, extra_of}
+use Rattle.run_trace.specs.Machine.{answer, settles}
 use Rattle.run_trace.specs.Cluster.{Net}
 use Rattle.run_trace.specs.Keyed.{StandsFor, MapStandsFor}
-use Rattle.run_trace.specs.Spots.{Stage, Ready, Running, Due, Needs, Told_next, Halts, Stays, Shows, Asks, Awaits, Life, Unborn, On, Response, Spot, Spots, update, after_label, ran_stage, stage_of_call, second_of, judged_life, at_node}
-use Rattle.run_trace.specs.Rules.{causes, send_to, asked_causes, judged_causes, least_free}
+use Rattle.run_trace.specs.Spots.{Stage, Ready, Running, Due, Served, Told_next, Halts, Stays, Shows, Asks, Awaits, Life, Unborn, On, Response, Spot, Spots, update, after_label, ran_stage, stage_of_call, second_of, judged_life, judged_guest, at_node}
+use Rattle.run_trace.specs.Rules.{causes, send_to, asked_causes, judged_causes, lowest_free}
 use Rattle.run_trace.specs.Console.{shown_by}
-use Rattle.run_trace.specs.Stands.{Busy, busy, busy_name, is_busy, busy_part, thread_part, thread_in_life, thread_in_stage, row_part, row_in_life, row_in_stage, listed, listed_name, word_name, word_of, way, way_of, phase_of, slots_in_life}
+use Rattle.run_trace.specs.Stands.{Busy, busy, busy_name, is_busy, busy_part, thread_part, thread_in_life, thread_in_stage, row_part, row_in_life, row_in_stage, listed, listed_name, word_name, word_of, way, way_of, phase_of, held, held_in_stage, holding_of}
 use Rattle.trace_laws.proofs.Tids.{is-true, is-refl}
 use Rattle.trace_laws.proofs.KeyedLemmas.{kept, removed, added, replaced, fronted, unfronted, refronted, map_kept, map_set}
 use Rattle.trace_laws.proofs.RunLemmas.{run_does, run_stepped, run_slots}
-use Rattle.trace_laws.proofs.Midst.{Links, Midst, under, LinkStands, Allowed, Frame, spots_with, spots_at, labelled, here_kept, agrees_kept, Plain, plain, is_plain, links_kept, put_link, spot_then, updated}
+use Rattle.trace_laws.proofs.Midst.{Links, Midst, under, LinkStands, Allowed, Frame, spots_with, spots_at, labelled, here_kept, agrees_kept, Plain, plain, is_plain, links_kept, Keeps, keeps, put_link, spot_then, updated}
 use Rattle.trace_laws.proofs.Parts.{at_hand, listed_without, listed_arrived, is_home, home_way, home_quiet, home_plain, frame_home, away_thread, away_row, busy_none}
 
 -- the extra of a judged call is what is told
@@ -66,7 +67,7 @@ module _ (p : Program) (net : Net) (q n : ℕ) (w : Spots) (L : Links) where
       → ((i j : ℕ) → LinkStands i j (under n M sends i j) (update (spots_at p net q n w d).threads t r))
       → phase_of r.life ≡ phase_of (spot d t).life
       → ((u : Tid) (m : ℕ) → (spot d t).life ≡ On m (Awaits u) → ⊥)
-      → slots_in_life r.life r.guest ≡ slots_in_life (spot d t).life (spot d t).guest
+      → Keeps (held (spot d t).life (spot d t).guest) (held r.life r.guest)
       → ((spot d t).life ≡ Unborn → ⊥)
       → Plain r.life
       → Midst p net q n w M (record { node = now; labels = d.labels ++ l ∷ []; sends = sends; prints = prints }) more
@@ -76,7 +77,7 @@ module _ (p : Program) (net : Net) (q n : ℕ) (w : Spots) (L : Links) where
       (record { threads = ties.threads; rows = ties.rows; busy = ties.busy; names = names ∙ m.here.names; own = λ x. ap (λ (xs : List ℕ). has x xs) own ∙ m.here.own x; halted = halted ∙ m.here.halted })
       (λ k e. here_kept k v t r v.slots v.births v.halts (net.nodes k) [] (m.there k e) (frame k e) refl (λ x. refl) refl)
       links
-      (agrees_kept p v t r v.halts m.agrees phase quiet (λ x. ap (λ (xs : List ℕ). has x xs) slots) born idle.waits (λ k e. absurd (idle.stays k e)) (λ k e. e))
+      (agrees_kept p v t r v.halts m.agrees phase quiet slots born idle.waits (λ k e. absurd (idle.stays k e)) (λ k e. e))
 
   -- a label that leaves its thread on node n, and no packet
   pub home_step : (d : Doing) (hand more : List Busy) (l : Label) (t : Tid) (r : Spot) (now : Local) (a b : Stage)
@@ -85,7 +86,7 @@ module _ (p : Program) (net : Net) (q n : ℕ) (w : Spots) (L : Links) where
       → Allowed p q n l (spots_at p net q n w d)
       → causes p n l (spots_at p net q n w d) ≡ [] → shown_by l (spots_at p net q n w d) ≡ []
       → (spot d t).life ≡ On n a → r.life ≡ On n b → is_home a ≡ true → is_home b ≡ true
-      → slots_in_life (On n b) r.guest ≡ slots_in_life (On n a) (spot d t).guest
+      → Keeps (held_in_stage a (spot d t).guest) (held_in_stage b r.guest)
       → Ties (spots_at p net q n w d) t r now more
       → now.names ≡ d.node.names → now.slots.own ≡ d.node.slots.own → now.halted ≡ d.node.halted
       → Is (record { node = now; labels = d.labels ++ l ∷ []; sends = d.sends; prints = d.prints }) more
@@ -100,7 +101,7 @@ module _ (p : Program) (net : Net) (q n : ℕ) (w : Spots) (L : Links) where
       (λ i j. links_kept t r (spots_at p net q n w d).threads (under n L d.sends) m.links (new ∙ sym old) i j)
       (ap phase_of y ∙ sym (ap phase_of x))
       (λ u k e. home_quiet n a home_a u k (sym x ∙ e))
-      (ap (λ z. slots_in_life z r.guest) y ∙ slots ∙ sym (ap (λ z. slots_in_life z s.guest) x))
+      (subst (λ z. Keeps (held s.life s.guest) (held z r.guest)) (sym y) (subst (λ z. Keeps (held z s.guest) (held_in_stage b r.guest)) (sym x) slots))
       (λ e. absurd (cc (e, x)))
       (subst (λ z. Plain z) (sym y) (home_plain n b home_b))
 
@@ -118,7 +119,7 @@ module _ (p : Program) (net : Net) (q n : ℕ) (w : Spots) (L : Links) where
       → ((k : ℕ) → eqb n k ≡ false → Frame k t (spot d t) r)
       → phase_of r.life ≡ phase_of (spot d t).life
       → ((u : Tid) (m : ℕ) → (spot d t).life ≡ On m (Awaits u) → ⊥)
-      → slots_in_life r.life r.guest ≡ slots_in_life (spot d t).life (spot d t).guest
+      → Keeps (held (spot d t).life (spot d t).guest) (held r.life r.guest)
       → ((spot d t).life ≡ Unborn → ⊥)
       → Plain r.life
       → Is (record { node = now; labels = d.labels ++ l ∷ []; sends = d.sends ++ send_to to body; prints = d.prints }) more
@@ -161,7 +162,7 @@ module _ (p : Program) (net : Net) (q n : ℕ) (w : Spots) (L : Links) where
       → Allowed p q n (Judged t code (extra_of second)) (spots_at p net q n w d)
       → after_label p n (Judged t code (extra_of second)) (spots_at p net q n w d) ≡ spots_with (update (spots_at p net q n w d).threads t (record (spot d t) { life = On n Told_next; verdict = record { code = code; second = second_of (extra_of second) } })) (spots_at p net q n w d).slots (spots_at p net q n w d).births (spots_at p net q n w d).halts
       → causes p n (Judged t code (extra_of second)) (spots_at p net q n w d) ≡ []
-      → is_home a ≡ true → thread_in_stage a (spot d t).guest ≡ Some (waits wait.No (spot d t).guest) → row_in_stage t a (spot d t).guest.priority ≡ None → slots_in_life (On n a) (spot d t).guest ≡ guest_slots (spot d t).guest
+      → is_home a ≡ true → thread_in_stage a (spot d t).guest ≡ Some (waits wait.No (spot d t).guest) → row_in_stage t a (spot d t).guest.priority ≡ None → held_in_stage a (spot d t).guest ≡ Some (holding_of (spot d t).guest)
       → Is (judge t code second d) (busy t (On n Told_next) ∷ hs)
   unfolding judge say
   judge_ok d t code second a hs m ok same sent home there row slots =
@@ -169,7 +170,7 @@ module _ (p : Program) (net : Net) (q n : ℕ) (w : Spots) (L : Links) where
       let s : Spot = spot d t in
       let x : s.life ≡ On n a = in_hand d t (On n a) hs m in
       let r : Spot = record s { life = On n Told_next; verdict = record { code = code; second = second_of (extra_of second) } } in
-      home_step d _ (busy t (On n Told_next) ∷ hs) (Judged t code (extra_of second)) t r d.node a Told_next m same ok sent refl x refl home refl (sym slots)
+      home_step d _ (busy t (On n Told_next) ∷ hs) (Judged t code (extra_of second)) t r d.node a Told_next m same ok sent refl x refl home refl (keeps _ _ (sym slots))
       (record {
         threads = map_kept is_tid is-true is-refl (thread_part n) v.threads t r d.node.threads m.here.threads (thread_was r t Told_next refl ∙ sym (thread_was s t a x ∙ there));
         rows = kept is_tid is-true is-refl listed_name (row_part n) v.threads t r (map listed d.node.places.rows) m.here.rows (row_was r t Told_next refl ∙ sym (row_was s t a x ∙ row));
@@ -185,7 +186,7 @@ module _ (p : Program) (net : Net) (q n : ℕ) (w : Spots) (L : Links) where
       let y : Guest = told s.verdict.code s.verdict.second s.guest in
       let r : Spot = record s { life = On n Ready; guest = y } in
       subst (λ o. Is (tell_found t s.verdict.code s.verdict.second o d) hs) (sym (on_node d _ t Told_next m x))
-      (home_step d _ hs (Told t) t r _ Told_next Ready m refl (record { solo = tt; holders = tt; life = rw x refl; replies = tt; grants = tt }) refl refl x refl refl refl refl
+      (home_step d _ hs (Told t) t r _ Told_next Ready m refl (record { solo = tt; holders = tt; life = rw x refl; replies = tt; grants = tt }) refl refl x refl refl refl (keeps _ _ refl)
       (record {
         threads = map_set is_tid is-true is-refl (thread_part n) v.threads t r d.node.threads (waits wait.No s.guest) (waits wait.No y) m.here.threads (thread_was s t Told_next x) (thread_was r t Ready refl);
         rows = subst (λ rows. StandsFor is_tid listed_name (row_part n) rows (update v.threads t r)) (sym (listed_arrived t s.guest.priority d.node.places))
@@ -202,10 +203,10 @@ module _ (p : Program) (net : Net) (q n : ℕ) (w : Spots) (L : Links) where
       ap (λ (z : Spot). z.verdict) (spot_then p net q n w d (Judged t code (extra_of second)) _ t same ∙ updated (spots_at p net q n w d).threads t s)
 
   judged_same : (d : Doing) (t : Tid) (code : ℕ) (second : Option ℕ) (life : Life) → (spot d t).life ≡ life
-      → after_label p n (Judged t code (extra_of second)) (spots_at p net q n w d) ≡ spots_with (update (spots_at p net q n w d).threads t (record (spot d t) { life = judged_life life; verdict = record { code = code; second = second_of (extra_of second) } })) (spots_at p net q n w d).slots (spots_at p net q n w d).births (spots_at p net q n w d).halts
+      → after_label p n (Judged t code (extra_of second)) (spots_at p net q n w d) ≡ spots_with (update (spots_at p net q n w d).threads t (record { life = judged_life life; guest = judged_guest life (spot d t).guest; verdict = record { code = code; second = second_of (extra_of second) } })) (spots_at p net q n w d).slots (spots_at p net q n w d).births (spots_at p net q n w d).halts
   judged_same d t code second life x =
       let v : Spots = spots_at p net q n w d in
-      ap (λ z. spots_with (update v.threads t (record (spot d t) { life = judged_life z; verdict = record { code = code; second = second_of (extra_of second) } })) v.slots v.births v.halts) x
+      ap (λ z. spots_with (update v.threads t (record { life = judged_life z; guest = judged_guest z (spot d t).guest; verdict = record { code = code; second = second_of (extra_of second) } })) v.slots v.births v.halts) x
 
   -- a thread that is due a reply has it at once
   pub answer_ok : (d : Doing) (t : Tid) (code : ℕ) (hs : List Busy) → Is d (busy t (On n (Due code)) ∷ hs) → Is (answer t code d) hs
@@ -217,14 +218,49 @@ module _ (p : Program) (net : Net) (q n : ℕ) (w : Spots) (L : Links) where
       (judge_ok d t code None (Due code) hs m (record { solo = tt; holders = tt; life = rw x refl; replies = rw x (refl, refl); grants = rw x tt }) same (ap (judged_causes t) x) refl refl refl refl))
 
   -- Full, where the node has no slot
-  pub refuse_ok : (d : Doing) (t : Tid) (e a k : ℕ) (hs : List Busy) → Is d (busy t (On n (Needs e a k)) ∷ hs) → least_free n (spots_at p net q n w d) ≡ None → Is (answer t (reply_code replies.Full) d) hs
+  pub refuse_ok : (d : Doing) (t : Tid) (e a k : ℕ) (hs : List Busy) → Is d (busy t (On n (Served (Create e a k))) ∷ hs) → lowest_free n 1 (spots_at p net q n w d) ≡ None → Is (answer t (reply_code replies.Full) d) hs
   refuse_ok d t e a k hs m none =
-      let x : (spot d t).life ≡ On n (Needs e a k) = in_hand d t (On n (Needs e a k)) hs m in
+      let stage : Stage = Served (Create e a k) in
+      let x : (spot d t).life ≡ On n stage = in_hand d t (On n stage) hs m in
       let code : ℕ = reply_code replies.Full in
-      let same = judged_same d t code None (On n (Needs e a k)) x in
+      let same = judged_same d t code None (On n stage) x in
       subst (λ (z : Response). Is (tell t z.code z.second (judge t code None d)) hs) (judged_verdict d t code None _ same)
       (tell_ok (judge t code None d) t hs
-      (judge_ok d t code None (Needs e a k) hs m (record { solo = tt; holders = tt; life = rw x refl; replies = rw x (refl, refl); grants = rw x none }) same (ap (judged_causes t) x) refl refl refl refl))
+      (judge_ok d t code None stage hs m (record { solo = tt; holders = tt; life = rw x refl; replies = rw x (refl, refl); grants = rw x none }) same (ap (judged_causes t) x) refl refl refl refl))
+
+  -- a reply that changes its thread
+  pub settle_ok : (d : Doing) (t : Tid) (code : ℕ) (g : Guest) (c : Call) (hs : List Busy) → Is d (busy t (On n (Served c)) ∷ hs)
+      → judged_guest (On n (Served c)) (spot d t).guest ≡ g
+      → Allowed p q n (Judged t code Nothing) (spots_at p net q n w d)
+      → Keeps (held_in_stage (Served c) (spot d t).guest) (Some (holding_of g))
+      → Is (settle t code g d) (busy t (On n Told_next) ∷ hs)
+  unfolding settle keep say
+  settle_ok d t code g c hs m becomes ok holds =
+      let v : Spots = spots_at p net q n w d in
+      let s : Spot = spot d t in
+      let x : s.life ≡ On n (Served c) = in_hand d t (On n (Served c)) hs m in
+      let r : Spot = record { life = On n Told_next; guest = g; verdict = record { code = code; second = None } } in
+      let same = judged_same d t code None (On n (Served c)) x ∙ ap (λ (z : Guest). spots_with (update v.threads t (record { life = On n Told_next; guest = z; verdict = record { code = code; second = None } })) v.slots v.births v.halts) becomes in
+      home_step d _ (busy t (On n Told_next) ∷ hs) (Judged t code Nothing) t r _ (Served c) Told_next m same ok (ap (judged_causes t) x) refl x refl refl refl holds
+      (record {
+        threads = map_set is_tid is-true is-refl (thread_part n) v.threads t r d.node.threads (waits wait.No s.guest) (waits wait.No g) m.here.threads (thread_was s t (Served c) x) (thread_was r t Told_next refl);
+        rows = kept is_tid is-true is-refl listed_name (row_part n) v.threads t r (map listed d.node.places.rows) m.here.rows (row_was r t Told_next refl ∙ sym (row_was s t (Served c) x));
+        busy = refronted is_tid is-true is-refl busy_name (busy_part n) v.threads t r hs (busy t (On n (Served c))) (busy t (On n Told_next)) m.here.busy refl refl (busy_was r t (On n Told_next) refl (eq-eqb n n refl));
+      }) refl refl refl
+
+  settled_verdict : (d : Doing) (t : Tid) (code : ℕ) (g : Guest) → (spot (settle t code g d) t).verdict ≡ record { code = code; second = None }
+  unfolding settle keep say
+  settled_verdict d t code g = ap (λ (z : Spot). z.verdict) (spot_then p net q n w d (Judged t code Nothing) _ t refl ∙ updated (spots_at p net q n w d).threads t _)
+
+  -- and is told at once
+  pub settles_ok : (d : Doing) (t : Tid) (code : ℕ) (g : Guest) (c : Call) (hs : List Busy) → Is d (busy t (On n (Served c)) ∷ hs)
+      → judged_guest (On n (Served c)) (spot d t).guest ≡ g
+      → Allowed p q n (Judged t code Nothing) (spots_at p net q n w d)
+      → Keeps (held_in_stage (Served c) (spot d t).guest) (Some (holding_of g))
+      → Is (settles t code g d) hs
+  settles_ok d t code g c hs m becomes ok holds =
+      subst (λ (z : Response). Is (tell t z.code z.second (settle t code g d)) hs) (settled_verdict d t code g)
+      (tell_ok (settle t code g d) t hs (settle_ok d t code g c hs m becomes ok holds))
 
   -- ## Runs
 
@@ -256,12 +292,18 @@ module _ (p : Program) (net : Net) (q n : ℕ) (w : Spots) (L : Links) where
         solo = subst (λ (z : State). (after (code_of p) s r.count ≡ Some z) × StopsBy (code_of p) z q r.count r.stop) (sym (run_stepped (code_of p) q s)) ((run_does (code_of p) q s).steps, (run_does (code_of p) q s).stop);
       }
 
+  -- a run changes nothing of what its thread holds
+  ran_holding : (d : Doing) (t : Tid) → Some (holding_of (with_state (run_now d t).state (spot d t).guest)) ≡ Some (holding_of (spot d t).guest)
+  ran_holding d t =
+      let g : Guest = (spot d t).guest in
+      ap (λ (xs : List ℕ). Some (record { slots = xs; stack = g.solo.stack; live = g.solo.live })) (run_slots (code_of p) q g.solo.state)
+
   -- a run to a call or a fault
   pub ran_ok : (d : Doing) (t : Tid) (vp : ℕ) (b : Stage) → Is d [] → (spot d t).life ≡ On n Ready
       → ran_stage (run_now d t).stop (run_now d t).state ≡ b → is_home b ≡ true → is_busy n (On n b) ≡ true
       → thread_in_stage b (with_state (run_now d t).state (spot d t).guest) ≡ Some (waits wait.No (with_state (run_now d t).state (spot d t).guest))
       → row_in_stage t b (spot d t).guest.priority ≡ None
-      → slots_in_life (On n b) (with_state (run_now d t).state (spot d t).guest) ≡ guest_slots (with_state (run_now d t).state (spot d t).guest)
+      → held_in_stage b (with_state (run_now d t).state (spot d t).guest) ≡ Some (holding_of (with_state (run_now d t).state (spot d t).guest))
       → Is (ran t vp (run_now d t) (waits wait.No (spot d t).guest) d) (busy t (On n b) ∷ [])
   unfolding ran take_off say keep
   ran_ok d t vp b m x st home busied there row slots =
@@ -269,7 +311,7 @@ module _ (p : Program) (net : Net) (q n : ℕ) (w : Spots) (L : Links) where
       let s : Spot = spot d t in
       let r : Spot = ran_with d t (run_now d t).state in
       let y : r.life ≡ On n b = ap (λ z. On n z) st in
-      home_step d [] (busy t (On n b) ∷ []) (ran_label d t vp) t r _ Ready b m (ran_same d t vp) (ran_allowed d t vp x) refl refl x y refl home (slots ∙ run_slots (code_of p) q s.guest.solo.state)
+      home_step d [] (busy t (On n b) ∷ []) (ran_label d t vp) t r _ Ready b m (ran_same d t vp) (ran_allowed d t vp x) refl refl x y refl home (keeps _ _ (slots ∙ ran_holding d t))
       (record {
         threads = map_set is_tid is-true is-refl (thread_part n) v.threads t r d.node.threads (waits wait.No s.guest) _ m.here.threads (thread_was s t Ready x) (thread_was r t b y ∙ there);
         rows = subst (λ rows. StandsFor is_tid listed_name (row_part n) rows (update v.threads t r)) (sym (listed_without t d.node.places.rows))
@@ -293,7 +335,7 @@ module _ (p : Program) (net : Net) (q n : ℕ) (w : Spots) (L : Links) where
       let r : Spot = ran_with d t (run_now d t).state in
       let y : r.life ≡ On n Ready = ap (λ z. On n z) st in
       let off : Places = taken_off t d.node.places in
-      home_step d [] [] (ran_label d t vp) t r _ Ready Ready m (ran_same d t vp) (ran_allowed d t vp x) refl refl x y refl refl (run_slots (code_of p) q s.guest.solo.state)
+      home_step d [] [] (ran_label d t vp) t r _ Ready Ready m (ran_same d t vp) (ran_allowed d t vp x) refl refl x y refl refl (keeps _ _ (ran_holding d t))
       (record {
         threads = map_set is_tid is-true is-refl (thread_part n) v.threads t r d.node.threads (waits wait.No s.guest) _ m.here.threads (thread_was s t Ready x) (thread_was r t Ready y);
         rows = subst (λ rows. StandsFor is_tid listed_name (row_part n) rows (update v.threads t r)) (sym (listed_arrived t s.guest.priority off ∙ ap (λ rows. rows ++ (record { tid = t; priority = s.guest.priority }) ∷ []) (listed_without t d.node.places.rows)))
@@ -303,16 +345,16 @@ module _ (p : Program) (net : Net) (q n : ℕ) (w : Spots) (L : Links) where
 
   -- ## Calls
 
-  abbrev pub state_at : Doing → Tid → State
-  state_at d t = (spot d t).guest.solo.state
+  abbrev pub solo_at : Doing → Tid → Solo
+  solo_at d t = (spot d t).guest.solo
 
   abbrev pub call_at : Doing → Tid → Call
-  call_at d t = call_of (state_at d t)
+  call_at d t = call_of (solo_at d t).state
 
   abbrev pub bytes_at : Doing → Tid → List ℕ
-  bytes_at d t = said_bytes p (state_at d t) (call_at d t) (refusal p t (state_at d t) (call_at d t))
+  bytes_at d t = said_bytes p (solo_at d t).state (call_at d t) (refusal p t (solo_at d t) (call_at d t))
 
-  asked_same : (d : Doing) (t : Tid) (bytes : List ℕ) (b : Stage) → stage_of_call p n t (state_at d t) ≡ b
+  asked_same : (d : Doing) (t : Tid) (bytes : List ℕ) (b : Stage) → stage_of_call p n t (solo_at d t) ≡ b
       → after_label p n (Asked t (number_of (call_at d t)) (args_of (call_at d t)) bytes) (spots_at p net q n w d)
       ≡ spots_with (update (spots_at p net q n w d).threads t (record (spot d t) { life = On n b })) (spots_at p net q n w d).slots (spots_at p net q n w d).births (spots_at p net q n w d).halts
   asked_same d t bytes b st =
@@ -321,9 +363,9 @@ module _ (p : Program) (net : Net) (q n : ℕ) (w : Spots) (L : Links) where
 
   -- a call that goes on here
   pub asks_ok : (d : Doing) (t : Tid) (b : Stage) (hs : List Busy) → Is d (busy t (On n Running) ∷ hs)
-      → stage_of_call p n t (state_at d t) ≡ b → [] ≡ bytes_at d t → asked_causes t b ≡ []
+      → stage_of_call p n t (solo_at d t) ≡ b → [] ≡ bytes_at d t → asked_causes t b ≡ []
       → is_home b ≡ true → is_busy n (On n b) ≡ true → thread_in_stage b (spot d t).guest ≡ Some (waits wait.No (spot d t).guest) → row_in_stage t b (spot d t).guest.priority ≡ None
-      → slots_in_life (On n b) (spot d t).guest ≡ guest_slots (spot d t).guest
+      → Keeps (Some (holding_of (spot d t).guest)) (held_in_stage b (spot d t).guest)
       → Is (asks t (call_at d t) d) (busy t (On n b) ∷ hs)
   unfolding asks say
   asks_ok d t b hs m st bytes sent home busied there row slots =
@@ -342,14 +384,14 @@ module _ (p : Program) (net : Net) (q n : ℕ) (w : Spots) (L : Links) where
   -- a call changes nothing of its guest
   pub asks_guest : (d : Doing) (t : Tid) → (spot (asks t (call_at d t) d) t).guest ≡ (spot d t).guest
   unfolding asks say
-  asks_guest d t = ap (λ (z : Spot). z.guest) (spot_then p net q n w d (Asked t (number_of (call_at d t)) (args_of (call_at d t)) []) _ t (asked_same d t [] _ refl) ∙ updated (spots_at p net q n w d).threads t (record (spot d t) { life = On n (stage_of_call p n t (state_at d t)) }))
+  asks_guest d t = ap (λ (z : Spot). z.guest) (spot_then p net q n w d (Asked t (number_of (call_at d t)) (args_of (call_at d t)) []) _ t (asked_same d t [] _ refl) ∙ updated (spots_at p net q n w d).threads t (record (spot d t) { life = On n (stage_of_call p n t (solo_at d t)) }))
 
   -- a call that sends a packet
   asks_out_ok : (d : Doing) (t : Tid) (bytes : List ℕ) (b : Stage) (waiting : Wait) (to : ℕ) (body : Body) (hs : List Busy) → Is d (busy t (On n Running) ∷ hs)
-      → stage_of_call p n t (state_at d t) ≡ b → bytes ≡ bytes_at d t → asked_causes t b ≡ send_to to body
+      → stage_of_call p n t (solo_at d t) ≡ b → bytes ≡ bytes_at d t → asked_causes t b ≡ send_to to body
       → way_of t (On n b) (spot d t).verdict ≡ way n to (word_of to body) → word_name (word_of to body) ≡ t
       → ((k : ℕ) → is_busy k (On n b) ≡ false) → thread_in_stage b (spot d t).guest ≡ Some (waits waiting (spot d t).guest) → row_in_stage t b (spot d t).guest.priority ≡ None
-      → slots_in_life (On n b) (spot d t).guest ≡ guest_slots (spot d t).guest → is_plain (On n b) ≡ true
+      → held_in_stage b (spot d t).guest ≡ Some (holding_of (spot d t).guest) → is_plain (On n b) ≡ true
       → Is (put to body (keep t (waits waiting (spot d t).guest) (say (Asked t (number_of (call_at d t)) (args_of (call_at d t)) bytes) d))) hs
   unfolding put keep say
   asks_out_ok d t bytes b waiting to body hs m st said sent ways name idle there row slots quiet =
@@ -372,18 +414,18 @@ module _ (p : Program) (net : Net) (q n : ℕ) (w : Spots) (L : Links) where
       })
       (sym (ap phase_of x))
       (λ u k e. home_quiet n Running refl u k (sym x ∙ e))
-      (slots ∙ sym (ap (λ z. slots_in_life z s.guest) x))
+      (keeps _ _ (slots ∙ sym (ap (λ z. held z s.guest) x)))
       (λ e. absurd (cc (e, x)))
       (plain (On n b) quiet)
 
   pub asks_show_ok : (d : Doing) (t : Tid) (bytes : List ℕ) (hs : List Busy) → Is d (busy t (On n Running) ∷ hs)
-      → stage_of_call p n t (state_at d t) ≡ Shows bytes → bytes ≡ bytes_at d t
+      → stage_of_call p n t (solo_at d t) ≡ Shows bytes → bytes ≡ bytes_at d t
       → Is (asks_show t (call_at d t) bytes (waits wait.No (spot d t).guest) d) hs
   unfolding asks_show
   asks_show_ok d t bytes hs m st said = asks_out_ok d t bytes (Shows bytes) wait.ForShow 0 (Show t bytes) hs m st said refl refl refl (λ k. refl) refl refl refl refl
 
   pub asks_join_ok : (d : Doing) (t u : Tid) (hs : List Busy) → Is d (busy t (On n Running) ∷ hs)
-      → stage_of_call p n t (state_at d t) ≡ Asks u → [] ≡ bytes_at d t
+      → stage_of_call p n t (solo_at d t) ≡ Asks u → [] ≡ bytes_at d t
       → Is (asks_join t (call_at d t) u (waits wait.No (spot d t).guest) d) hs
   unfolding asks_join
   asks_join_ok d t u hs m st said = asks_out_ok d t [] (Asks u) wait.ForAnswer u.home (JoinAsk t u.seq) hs m st said refl refl refl (λ k. refl) refl refl refl refl
@@ -407,5 +449,5 @@ module _ (p : Program) (net : Net) (q n : ℕ) (w : Spots) (L : Links) where
       })
       (λ k e. here_kept k v t r v.slots v.births (at_node v.halts n true) (net.nodes k) [] (m.there k e) (record { thread = away_thread n k t r Stays refl e ∙ sym (away_thread n k t s Halts x e); row = away_row n k t r Stays refl e ∙ sym (away_row n k t s Halts x e); busy = busy_none k t r (On n Stays) refl refl ∙ sym (busy_none k t s (On n Halts) x e) }) refl (λ y. refl) (rw e refl))
       (λ i j. links_kept t r v.threads (under n L d.sends) m.links (sym (ap (λ z. way_of t z s.verdict) x)) i j)
-      (agrees_kept p v t r (at_node v.halts n true) m.agrees (sym (ap phase_of x)) (λ u k e. home_quiet n Halts refl u k (sym x ∙ e)) (λ y. ap (λ z. has y (slots_in_life z s.guest)) (sym x)) (λ e. absurd (cc (e, x))) (λ u k e. absurd (cc e))
+      (agrees_kept p v t r (at_node v.halts n true) m.agrees (sym (ap phase_of x)) (λ u k e. home_quiet n Halts refl u k (sym x ∙ e)) (keeps _ _ (ap (λ z. held z s.guest) (sym x))) (λ e. absurd (cc (e, x))) (λ u k e. absurd (cc e))
       (λ k e. (let same : n ≡ k = cc e in rw (eq-eqb n k same) refl)) (λ k e. elim (eqb n k) as (λ v. cond v true ((spots_at p net q n w d).halts k) ≡ true) [ true ↦ refl | false ↦ e ]))

@@ -11,7 +11,7 @@ use Rattle.run_trace.specs.Holding.{IsOn}
 use Rattle.run_trace.specs.Keyed.{item_of}
 use Rattle.run_trace.specs.Outcome.{Lives, AllLinksEmpty, WaitsByItsRule, IsStuck}
 use Rattle.run_trace.specs.Rules.{IsSettled}
-use Rattle.run_trace.specs.Spots.{Stage, Ready, Running, Due, Needs, Told_next, Ends, Leaves, Halts, Stays, Shows, Showing, Shown_there, Asks, Awaits, Answers, Answered, Life, Unborn, On, Noting, Gone, Response, Spots}
+use Rattle.run_trace.specs.Spots.{Stage, Ready, Running, Due, Served, Told_next, Ends, Leaves, Halts, Stays, Shows, Showing, Shown_there, Asks, Awaits, Answers, Answered, Life, Unborn, On, Noting, Gone, Response, Spots}
 use Rattle.run_trace.specs.Stands.{Stands, listed, listed_name, row_part, row_in_life, link_part, on_link, way_of, Way, word_name, words_of, phase_of, phase_at, During, thread_in_life, thread_in_stage}
 use Rattle.trace_laws.proofs.Wholes.{settled_at}
 use Rattle.trace_laws.proofs.Consequences.{OnNode, on_node_is}
@@ -62,7 +62,7 @@ module _ (p : Program) (w : Spots) (net : Net) (s : Stands p w net) where
       by (On m (Answered h)) e k = sent (On m (Answered h)) _ e refl
       by (On m Running) e k = absurd (subst (λ z. IsSettled z) e k)
       by (On m (Due code)) e k = absurd (subst (λ z. IsSettled z) e k)
-      by (On m (Needs a b c)) e k = absurd (subst (λ z. IsSettled z) e k)
+      by (On m (Served c)) e k = absurd (subst (λ z. IsSettled z) e k)
       by (On m Told_next) e k = absurd (subst (λ z. IsSettled z) e k)
       by (On m (Ends end)) e k = absurd (subst (λ z. IsSettled z) e k)
       by (On m (Leaves end)) e k = absurd (subst (λ z. IsSettled z) e k)
@@ -103,7 +103,7 @@ module _ (p : Program) (w : Spots) (net : Net) (s : Stands p w net) where
       by (On m (Answered h)) e l k = here m (Answered h) _ e refl
       by (On m Running) e l k = absurd (subst (λ z. IsSettled z) e k)
       by (On m (Due code)) e l k = absurd (subst (λ z. IsSettled z) e k)
-      by (On m (Needs a b c)) e l k = absurd (subst (λ z. IsSettled z) e k)
+      by (On m (Served c)) e l k = absurd (subst (λ z. IsSettled z) e k)
       by (On m Told_next) e l k = absurd (subst (λ z. IsSettled z) e k)
       by (On m (Ends end)) e l k = absurd (subst (λ z. IsSettled z) e k)
       by (On m (Leaves end)) e l k = absurd (subst (λ z. IsSettled z) e k)

@@ -11,18 +11,18 @@ use Rattle.run_trace.specs.declared.node.Wait.{Wait}
 use Rattle.run_trace.specs.declared.node.Wait.TheVariants as wait
 use Rattle.run_trace.specs.Names.{is_tid}
 use Rattle.run_trace.specs.Program.{Program}
-use Rattle.run_trace.specs.Guests.{Guest, waits, told, guest_slots}
+use Rattle.run_trace.specs.Guests.{Guest, waits, told}
 use Rattle.run_trace.specs.Local.{Local, Doing, nothing}
 use Rattle.run_trace.specs.Steps.{say, put, print, arrive, keep, tell, tell_found, reply_by_link, shows, acknowledges, extra_of, line_of}
 use Rattle.run_trace.specs.Cluster.{Net}
 use Rattle.run_trace.specs.Keyed.{StandsFor}
-use Rattle.run_trace.specs.Spots.{Stage, Ready, Shows, Showing, Shown_there, Awaits, Answers, Answered, On, Spot, Spots, update, shown_life, judged_life, second_of}
+use Rattle.run_trace.specs.Spots.{Stage, Ready, Shows, Showing, Shown_there, Awaits, Answers, Answered, On, Spot, Spots, update, shown_life, judged_life, judged_guest, second_of}
 use Rattle.run_trace.specs.Rules.{judged_causes, MayTell}
 use Rattle.run_trace.specs.Console.{asked_bytes}
-use Rattle.run_trace.specs.Stands.{Busy, busy, busy_name, is_busy, busy_part, thread_part, thread_in_life, thread_in_stage, row_part, row_in_life, row_in_stage, listed, listed_name, Word, Line, Line_shown, Reply, way, way_of, phase_of, slots_in_life}
+use Rattle.run_trace.specs.Stands.{Busy, busy, busy_name, is_busy, busy_part, thread_part, thread_in_life, thread_in_stage, row_part, row_in_life, row_in_stage, listed, listed_name, Word, Line, Line_shown, Reply, way, way_of, phase_of, held, holding_of}
 use Rattle.trace_laws.proofs.Tids.{is-true, is-refl}
 use Rattle.trace_laws.proofs.KeyedLemmas.{kept, added, fronted, unfronted, map_kept, map_set}
-use Rattle.trace_laws.proofs.Midst.{Links, Midst, plain, LinkStands, at_link, less_word, spots_with, spots_at, take_link, nothing_sent, nothing_sent_from}
+use Rattle.trace_laws.proofs.Midst.{Links, Midst, plain, keeps, LinkStands, at_link, less_word, spots_with, spots_at, take_link, nothing_sent, nothing_sent_from}
 use Rattle.trace_laws.proofs.Parts.{listed_arrived, away_thread, away_row, busy_none}
 use Rattle.trace_laws.proofs.Steps.{moved, send_step, in_hand, is_in_hand, on_node, thread_was, row_was, idle_was, second-extra}
 
@@ -59,7 +59,7 @@ module _ (p : Program) (net : Net) (q n : ℕ) (w : Spots) (L : Links) where
       (λ i j. nothing_sent n (Left from t) i j (update w.threads t r) (take_link from n (Line t bytes) t r L w.threads (links_whole s m) (ap (λ z. way_of t z o.verdict) x ∙ ap (λ z. way from z (Line t bytes)) (sym zero)) refl i j))
       (sym (ap phase_of x))
       (λ u k e. absurd (cc (e, x)))
-      (sym (ap (λ z. slots_in_life z o.guest) x))
+      (keeps _ _ (sym (ap (λ z. held z o.guest) x)))
       (λ e. absurd (cc (e, x))) (plain _ refl)
 
   -- ## Told by a packet
@@ -67,7 +67,7 @@ module _ (p : Program) (net : Net) (q n : ℕ) (w : Spots) (L : Links) where
   pub tell_taken_ok : (s : Local) (from : ℕ) (t : Tid) (a : Stage) (waiting : Wait) (y : Word) → Midst p net q n w L (nothing s) [] → (w.threads t).life ≡ On n a
       → MayTell n (On n a) → way_of t (On n a) (w.threads t).verdict ≡ way from n y
       → thread_in_stage a (w.threads t).guest ≡ Some (waits waiting (w.threads t).guest) → row_in_stage t a (w.threads t).guest.priority ≡ None
-      → ((k : ℕ) → is_busy k (On n a) ≡ false) → ((u : Tid) (m : ℕ) → On n a ≡ On m (Awaits u) → ⊥) → guest_slots (w.threads t).guest ≡ slots_in_life (On n a) (w.threads t).guest
+      → ((k : ℕ) → is_busy k (On n a) ≡ false) → ((u : Tid) (m : ℕ) → On n a ≡ On m (Awaits u) → ⊥) → Some (holding_of (w.threads t).guest) ≡ held (On n a) (w.threads t).guest
       → Midst p net q n w (Left from t) (tell t (w.threads t).verdict.code (w.threads t).verdict.second (nothing s)) []
   unfolding tell arrive say keep
   tell_taken_ok s from t a waiting y m x may ways there row idle quiet slots =
@@ -91,7 +91,7 @@ module _ (p : Program) (net : Net) (q n : ℕ) (w : Spots) (L : Links) where
       (λ i j. nothing_sent n (Left from t) i j (update w.threads t r) (take_link from n y t r L w.threads (links_whole s m) (ap (λ z. way_of t z o.verdict) x ∙ ways) refl i j))
       (sym (ap phase_of x))
       (λ u k e. quiet u k (sym x ∙ e))
-      (slots ∙ sym (ap (λ z. slots_in_life z o.guest) x))
+      (keeps _ _ (slots ∙ sym (ap (λ z. held z o.guest) x)))
       (λ e. absurd (cc (e, x))) (plain _ refl))
 
   -- ## Replies that go back
@@ -105,7 +105,7 @@ module _ (p : Program) (net : Net) (q n : ℕ) (w : Spots) (L : Links) where
       let zero : 0 ≡ n = eqb-true 0 n (is_in_hand p net q n w L d t (On at Showing) hs m) in
       let r : Spot = record o { life = On at Shown_there; verdict = record { code = 0; second = None } } in
       send_step p net q n w L d _ hs (Judged t 0 Nothing) t r d.node at (ShowDone t) m
-      (ap (λ z. spots_with (update v.threads t (record o { life = judged_life z; verdict = record { code = 0; second = None } })) v.slots v.births v.halts) x)
+      (ap (λ z. spots_with (update v.threads t (record { life = judged_life z; guest = judged_guest z o.guest; verdict = record { code = 0; second = None } })) v.slots v.births v.halts) x)
       (record { solo = tt; holders = tt; life = rw x (sym zero); replies = rw x (refl, refl); grants = rw x tt }) (ap (judged_causes t) x) refl
       (ap (λ z. way_of t z o.verdict) x) (ap (λ z. way z at (Line_shown t 0 None)) zero) refl
       (record {
@@ -120,7 +120,7 @@ module _ (p : Program) (net : Net) (q n : ℕ) (w : Spots) (L : Links) where
       })
       (sym (ap phase_of x))
       (λ u k e. absurd (cc (e, x)))
-      (sym (ap (λ z. slots_in_life z o.guest) x))
+      (keeps _ _ (sym (ap (λ z. held z o.guest) x)))
       (λ e. absurd (cc (e, x))) (plain _ refl)
 
   pub reply_ok : (d : Doing) (t : Tid) (at : ℕ) (reply : TheReply) (second : Option ℕ) (hs : List Busy) → Midst p net q n w L d (busy t (On at (Answers n reply second)) ∷ hs) → Midst p net q n w L (reply_by_link t at reply second d) hs
@@ -131,7 +131,7 @@ module _ (p : Program) (net : Net) (q n : ℕ) (w : Spots) (L : Links) where
       let x : o.life ≡ On at (Answers n reply second) = in_hand p net q n w L d t (On at (Answers n reply second)) hs m in
       let r : Spot = record o { life = On at (Answered n); verdict = record { code = reply_code reply; second = second_of (extra_of second) } } in
       send_step p net q n w L d _ hs (Judged t (reply_code reply) (extra_of second)) t r d.node at (Answer t reply second) m
-      (ap (λ z. spots_with (update v.threads t (record o { life = judged_life z; verdict = record { code = reply_code reply; second = second_of (extra_of second) } })) v.slots v.births v.halts) x)
+      (ap (λ z. spots_with (update v.threads t (record { life = judged_life z; guest = judged_guest z o.guest; verdict = record { code = reply_code reply; second = second_of (extra_of second) } })) v.slots v.births v.halts) x)
       (record { solo = tt; holders = tt; life = rw x refl; replies = rw x (refl, refl); grants = rw x tt }) (ap (judged_causes t) x) refl
       (ap (λ z. way_of t z o.verdict) x) (ap (λ z. way n at (Reply t (reply_code reply) z)) (second-extra second)) refl
       (record {
@@ -146,5 +146,5 @@ module _ (p : Program) (net : Net) (q n : ℕ) (w : Spots) (L : Links) where
       })
       (sym (ap phase_of x))
       (λ u k e. absurd (cc (e, x)))
-      (sym (ap (λ z. slots_in_life z o.guest) x))
+      (keeps _ _ (sym (ap (λ z. held z o.guest) x)))
       (λ e. absurd (cc (e, x))) (plain _ refl)

@@ -13,7 +13,7 @@ use Rattle.run_trace.specs.Local.{Doing}
 use Rattle.run_trace.specs.Cluster.{Event, Net, net_after, fresh_net, next_packet}
 use Rattle.run_trace.specs.Trace.{IsRun, event_of, events_of, net_after_trace, sends_or, done_for}
 use Rattle.run_trace.specs.Histories.{IsInOrder, Joins}
-use Rattle.run_trace.specs.Spots.{Ready, Running, Due, Needs, Told_next, Ends, Leaves, Halts, Stays, Shows, Showing, Shown_there, Asks, Awaits, Answers, Answered, Life, Unborn, On, Noting, Gone, Spots, Of_node, Nobody, at_first, first_holder}
+use Rattle.run_trace.specs.Spots.{Ready, Running, Due, Served, Told_next, Ends, Leaves, Halts, Stays, Shows, Showing, Shown_there, Asks, Awaits, Answers, Answered, Life, Unborn, On, Noting, Gone, Spots, Of_node, Nobody, at_first, first_holder}
 use Rattle.run_trace.specs.Rules.{IsSettled, is_free, spots_of}
 use Rattle.run_trace.specs.Console.{console_of, printed}
 use Rattle.run_trace.specs.Stands.{Stands, is_busy, busy_part, busy, is_thread}
@@ -50,6 +50,7 @@ starts p = record {
     waits = λ t by at e. absurd (cc e);
     stays = λ t n e. absurd (cc e);
     slots = λ t x. elim (ltb x (slots_in p)) as (λ v. false ≡ is_thread t (cond v (Of_node (x % nodes_of p)) Nobody)) [ true ↦ refl | false ↦ refl ];
+    blocks = λ t. tt;
   };
 }
 
@@ -67,7 +68,7 @@ settled_at p w net s t = by (w.threads t).life refl
     by : (life : Life) → (w.threads t).life ≡ life → IsSettled life
     by (On m Running) e = nobody m (On m Running) e (eq-eqb m m refl)
     by (On m (Due code)) e = nobody m (On m (Due code)) e (eq-eqb m m refl)
-    by (On m (Needs a b c)) e = nobody m (On m (Needs a b c)) e (eq-eqb m m refl)
+    by (On m (Served c)) e = nobody m (On m (Served c)) e (eq-eqb m m refl)
     by (On m Told_next) e = nobody m (On m Told_next) e (eq-eqb m m refl)
     by (On m (Ends end)) e = nobody m (On m (Ends end)) e (eq-eqb m m refl)
     by (On m (Leaves end)) e = nobody m (On m (Leaves end)) e (eq-eqb m m refl)
