@@ -8,28 +8,16 @@ use Rattle.slot_space.specs.declared.names.Tid.{Tid}
 use Rattle.slot_space.specs.declared.names.Reply.{Reply}
 use Rattle.slot_space.specs.declared.names.Reply.TheVariants as replies
 use Rattle.iso_blocks.specs.Heap.{starts_at}
+use Rattle.run_trace.specs.declared.call.Call.{Call}
+use Rattle.run_trace.specs.declared.call.Call.TheVariants.{Exit, Name, Node, Nodes, Yield, Create, Join, Isomalloc, Isofree, Print, Halt, Unknown}
 use Rattle.run_trace.specs.Program.{Program, nodes_of, slots_in, code_of}
 use Rattle.run_trace.specs.Guests.{Solo}
-
-pub data Call : Type 0 where
-  Exit : (value : ℕ) → Call
-  Self : Call
-  Node : Call
-  Nodes : Call
-  Yield : Call
-  Create : (entry argument priority : ℕ) → Call
-  Join : (name : ℕ) → Call
-  Isomalloc : (len : ℕ) → Call
-  Isofree : (address : ℕ) → Call
-  Print : (address len : ℕ) → Call
-  Halt : Call
-  Unknown : (number : ℕ) → Call
 
 -- the call that a number and its arguments stand for
 abbrev pub call_by : (number a0 a1 a2 : ℕ) → Call
 call_by number a0 a1 a2 =
     if number == 1 then Exit a0
-    else if number == 2 then Self
+    else if number == 2 then Name
     else if number == 3 then Node
     else if number == 4 then Nodes
     else if number == 5 then Yield
@@ -47,7 +35,7 @@ call_of s = call_by (reg_of s.regs 17) (reg_of s.regs 10) (reg_of s.regs 11) (re
 
 abbrev pub number_of : Call → ℕ
 number_of (Exit value) = 1
-number_of Self = 2
+number_of Name = 2
 number_of Node = 3
 number_of Nodes = 4
 number_of Yield = 5
@@ -61,17 +49,12 @@ number_of (Unknown number) = number
 
 abbrev pub args_of : Call → List ℕ
 args_of (Exit value) = value ∷ []
-args_of Self = []
-args_of Node = []
-args_of Nodes = []
-args_of Yield = []
 args_of (Create entry argument priority) = entry ∷ argument ∷ priority ∷ []
 args_of (Join name) = name ∷ []
 args_of (Isomalloc len) = len ∷ []
 args_of (Isofree address) = address ∷ []
 args_of (Print address len) = address ∷ len ∷ []
-args_of Halt = []
-args_of (Unknown number) = []
+args_of _ = []
 
 -- a thread can start here: a multiple of 4 with its word in the image
 abbrev pub is_entry : Program → ℕ → Bool

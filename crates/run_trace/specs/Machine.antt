@@ -26,7 +26,9 @@ use Rattle.run_trace.specs.declared.node.Wait.TheVariants as wait
 use Rattle.run_trace.specs.Names.{is_tid, tid_of}
 use Rattle.run_trace.specs.Program.{Program, nodes_of, code_of, processors_of, quantum_limit, main_priority}
 use Rattle.run_trace.specs.Guests.{Guest, Thread, Run, run_of, with_state, takes_slots, gives_slots, heap_of, with_placed, without_block, slots_for}
-use Rattle.run_trace.specs.Calls.{Call, Exit, Self, Node, Nodes, Yield, Create, Join, Isomalloc, Isofree, Print, Halt, Unknown, call_of, refusal, bytes_of}
+use Rattle.run_trace.specs.declared.call.Call.{Call}
+use Rattle.run_trace.specs.declared.call.Call.TheVariants.{Exit, Name, Node, Nodes, Yield, Create, Join, Isomalloc, Isofree, Print, Halt, Unknown}
+use Rattle.run_trace.specs.Calls.{call_of, refusal, bytes_of}
 use Rattle.run_trace.specs.Places.{best}
 use Rattle.run_trace.specs.Local.{Local, Doing, nothing, with_booted}
 use Rattle.run_trace.specs.Steps.{birth, ran, runs_out, asks, asks_show, asks_join, halts, judge, tell, settle, reply_by_link, takes_run, returns, gives, ends, shows, acknowledges, hears, knows, next_name}
@@ -100,7 +102,7 @@ frees t address g d =
 -- a call past its checks
 abbrev pub does : Program → ℕ → Tid → Thread → Call → Doing → Doing
 does p me t x (Exit value) d = end_thread t x (end_of.Exit value) (asks t (Exit value) d)
-does p me t x Self d = answer t (tid_value t) (asks t Self d)
+does p me t x Name d = answer t (tid_value t) (asks t Name d)
 does p me t x Node d = answer t me (asks t Node d)
 does p me t x Nodes d = answer t (nodes_of p) (asks t Nodes d)
 does p me t x Yield d = answer t 0 (asks t Yield d)

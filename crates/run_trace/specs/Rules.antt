@@ -22,7 +22,9 @@ use Rattle.run_trace.specs.declared.packet.Send.{Send}
 use Rattle.run_trace.specs.Names.{tid}
 use Rattle.run_trace.specs.Program.{Program, code_of}
 use Rattle.run_trace.specs.Guests.{Solo, Guest, stack_end, guest_slots, heap_of, slots_for}
-use Rattle.run_trace.specs.Calls.{Call, Create, Isomalloc, Isofree, call_of, number_of, args_of, refusal, said_bytes}
+use Rattle.run_trace.specs.declared.call.Call.{Call}
+use Rattle.run_trace.specs.declared.call.Call.TheVariants.{Create, Isomalloc, Isofree}
+use Rattle.run_trace.specs.Calls.{call_of, number_of, args_of, refusal, said_bytes}
 use Rattle.run_trace.specs.Places.{IsBest}
 use Rattle.run_trace.specs.Steps.{extra_of}
 use Rattle.run_trace.specs.Machine.{place_code}

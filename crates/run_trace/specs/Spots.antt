@@ -27,7 +27,9 @@ use Rattle.run_trace.specs.declared.label.Extra.TheVariants.{Nothing, Second, By
 use Rattle.run_trace.specs.Names.{is_tid, tid_of}
 use Rattle.run_trace.specs.Program.{Program, nodes_of, slots_in, code_of, main_priority}
 use Rattle.run_trace.specs.Guests.{Solo, Guest, with_state, newborn, told, takes_slots, gives_slots, heap_of, with_placed, without_block}
-use Rattle.run_trace.specs.Calls.{Call, Exit, Self, Node, Nodes, Yield, Create, Join, Isomalloc, Isofree, Print, Halt, Unknown, call_of, refusal, bytes_of}
+use Rattle.run_trace.specs.declared.call.Call.{Call}
+use Rattle.run_trace.specs.declared.call.Call.TheVariants.{Exit, Name, Node, Nodes, Yield, Create, Join, Isomalloc, Isofree, Print, Halt, Unknown}
+use Rattle.run_trace.specs.Calls.{call_of, refusal, bytes_of}
 
 -- What a thread that is on a node is about. Those marked * are never there at the end of an entry.
 pub data Stage : Type 0 where
@@ -138,7 +140,7 @@ ran_spot p n count stop s =
 -- what follows on a call that is past its checks
 abbrev pub passed_stage : Program → ℕ → Tid → Solo → Call → Stage
 passed_stage p n t x (Exit value) = Ends (end_of.Exit value)
-passed_stage p n t x Self = Due (tid_value t)
+passed_stage p n t x Name = Due (tid_value t)
 passed_stage p n t x Node = Due n
 passed_stage p n t x Nodes = Due (nodes_of p)
 passed_stage p n t x Yield = Due 0

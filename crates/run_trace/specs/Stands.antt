@@ -21,7 +21,8 @@ use Rattle.run_trace.specs.Local.{Local}
 use Rattle.run_trace.specs.Cluster.{Net}
 use Rattle.run_trace.specs.Keyed.{StandsFor, MapStandsFor}
 use Rattle.run_trace.specs.Rules.{is_free}
-use Rattle.run_trace.specs.Calls.{Call, Isofree}
+use Rattle.run_trace.specs.declared.call.Call.{Call}
+use Rattle.run_trace.specs.declared.call.Call.TheVariants.{Isofree}
 use Rattle.run_trace.specs.Spots.{Stage, Ready, Running, Due, Served, Told_next, Ends, Leaves, Halts, Stays, Shows, Showing, Shown_there, Asks, Awaits, Answers, Answered, Life, Unborn, On, Noting, Gone, Response, Spot, Spots, Holder, Of_node, Of_thread, Nobody}
 
 -- ## The threads of a node: those that are there, but one that has given its slots

@@ -21,7 +21,8 @@ use Rattle.run_trace.specs.declared.packet.Body.TheVariants.{Show, ShowDone, Joi
 use Rattle.run_trace.specs.declared.node.Wait.TheVariants as wait
 use Rattle.run_trace.specs.Names.{tid, tid_cmp, is_tid}
 use Rattle.run_trace.specs.Guests.{Guest, Thread, Run, waits, with_state, newborn, stack_end, told, takes_slots, gives_slots, guest_slots}
-use Rattle.run_trace.specs.Calls.{Call, number_of, args_of}
+use Rattle.run_trace.specs.declared.call.Call.{Call}
+use Rattle.run_trace.specs.Calls.{number_of, args_of}
 use Rattle.run_trace.specs.Places.{arrived, taken_off}
 use Rattle.run_trace.specs.Local.{Doing, with_own, with_threads, with_places, with_names, with_halted}
 

@@ -13,7 +13,9 @@ use Rattle.run_trace.specs.declared.node.Wait.TheVariants as wait
 use Rattle.run_trace.specs.Names.{tid_of}
 use Rattle.run_trace.specs.Program.{Program, nodes_of}
 use Rattle.run_trace.specs.Guests.{Guest, Solo, Thread, Run, waits, with_state}
-use Rattle.run_trace.specs.Calls.{Call, Exit, Self, Node, Nodes, Yield, Create, Join, Isomalloc, Isofree, Print, Halt, Unknown, call_of, refusal, bytes_of, said_bytes}
+use Rattle.run_trace.specs.declared.call.Call.{Call}
+use Rattle.run_trace.specs.declared.call.Call.TheVariants.{Exit, Name, Node, Nodes, Yield, Create, Join, Isomalloc, Isofree, Print, Halt, Unknown}
+use Rattle.run_trace.specs.Calls.{call_of, refusal, bytes_of, said_bytes}
 use Rattle.run_trace.specs.Local.{Doing}
 use Rattle.run_trace.specs.Steps.{ran, asks, asks_show, asks_join, halts}
 use Rattle.run_trace.specs.Machine.{answer, end_thread, creates, creates_in, free_slot, allocates, frees, calls, stops_by}
@@ -65,7 +67,7 @@ module _ (p : Program) (net : Net) (q n : ℕ) (w : Spots) (L : Links) (below : 
 
       by : (c : Call) → call_of s.state ≡ c → (o : Option Reply) → refusal p t s (call_of s.state) ≡ o → Is (calls p n t x c o d) []
       by c e (Some reply) f = due c (reply_code reply) (Some reply) e f refl refl
-      by Self e None f = due Self _ None e f refl refl
+      by Name e None f = due Name _ None e f refl refl
       by Node e None f = due Node _ None e f refl refl
       by Nodes e None f = due Nodes _ None e f refl refl
       by Yield e None f = due Yield _ None e f refl refl

@@ -10,7 +10,8 @@ use Rattle.run_trace.specs.declared.label.Label.TheVariants.{Ran}
 use Rattle.run_trace.specs.declared.label.Why.{Why}
 use Rattle.run_trace.specs.Program.{Program}
 use Rattle.run_trace.specs.Guests.{Guest, Thread, Run}
-use Rattle.run_trace.specs.Calls.{Call, Exit, Self, Node, Nodes, Yield, Create, Join, Isomalloc, Isofree, Print, Halt, Unknown}
+use Rattle.run_trace.specs.declared.call.Call.{Call}
+use Rattle.run_trace.specs.declared.call.Call.TheVariants.{Exit, Name, Node, Nodes, Yield, Create, Join, Isomalloc, Isofree, Print, Halt, Unknown}
 use Rattle.run_trace.specs.Local.{Local, Doing, nothing}
 use Rattle.run_trace.specs.Steps.{say, put, arrive, take_off, keep, thread_in, thread_out, slots_out, slots_in, name_in, halt, birth, ran, runs_out, asks, asks_show, asks_join, halts, judge, tell, tell_found, settle, takes_run, returns, gives, ends}
 use Rattle.run_trace.specs.Machine.{answer, settles, allocates_with, returns_any, end_thread, creates_in, does, calls, stops_by}
@@ -79,7 +80,7 @@ module _ (t : Tid) (vp : ℕ) where
 
   does-first : (p : Program) (me : ℕ) (u : Tid) (x : Thread) (c : Call) (d : Doing) → First d → First (does p me u x c d)
   does-first p me u x (Exit value) d h = end-first u x _ _ (asks-first u (Exit value) d h)
-  does-first p me u x Self d h = answer-first u _ _ (asks-first u Self d h)
+  does-first p me u x Name d h = answer-first u _ _ (asks-first u Name d h)
   does-first p me u x Node d h = answer-first u _ _ (asks-first u Node d h)
   does-first p me u x Nodes d h = answer-first u _ _ (asks-first u Nodes d h)
   does-first p me u x Yield d h = answer-first u _ _ (asks-first u Yield d h)

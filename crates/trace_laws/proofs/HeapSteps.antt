@@ -11,7 +11,8 @@ use Rattle.run_trace.specs.Names.{is_tid}
 use Rattle.run_trace.specs.Program.{Program}
 use Rattle.run_trace.specs.Guests.{Guest, waits, guest_slots, takes_slots, gives_slots, heap_of, with_placed, without_block, slots_for}
 use Rattle.std.specs.Map.{set_value}
-use Rattle.run_trace.specs.Calls.{Call, Isomalloc, Isofree}
+use Rattle.run_trace.specs.declared.call.Call.{Call}
+use Rattle.run_trace.specs.declared.call.Call.TheVariants.{Isomalloc, Isofree}
 use Rattle.run_trace.specs.Places.{Places}
 use Rattle.run_trace.specs.Keyed.{StandsFor, MapStandsFor}
 use Rattle.run_trace.specs.Local.{Local, Doing}

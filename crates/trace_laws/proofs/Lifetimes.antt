@@ -19,7 +19,7 @@ use Rattle.run_trace.specs.declared.node.Wait.TheVariants as wait
 use Rattle.run_trace.specs.Names.{is_tid, tid, tid_cmp}
 use Rattle.run_trace.specs.Program.{Program, nodes_of, main_priority}
 use Rattle.run_trace.specs.Guests.{Guest, Thread, waits, newborn, stack_end, guest_slots, gives_slots}
-use Rattle.run_trace.specs.Calls.{Create}
+use Rattle.run_trace.specs.declared.call.Call.TheVariants.{Create}
 use Rattle.run_trace.specs.Places.{arrived}
 use Rattle.run_trace.specs.Local.{Local, Doing}
 use Rattle.run_trace.specs.Steps.{say, put, arrive, thread_in, thread_out, slots_out, slots_in, name_in, next_name, birth, gives, ends}

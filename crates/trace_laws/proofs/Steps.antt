@@ -20,7 +20,9 @@ use Rattle.run_trace.specs.declared.node.Wait.TheVariants as wait
 use Rattle.run_trace.specs.Names.{is_tid}
 use Rattle.run_trace.specs.Program.{Program, code_of}
 use Rattle.run_trace.specs.Guests.{Guest, Run, run_of, waits, with_state, told, Solo}
-use Rattle.run_trace.specs.Calls.{Call, Create, call_of, number_of, args_of, refusal, said_bytes}
+use Rattle.run_trace.specs.declared.call.Call.{Call}
+use Rattle.run_trace.specs.declared.call.Call.TheVariants.{Create}
+use Rattle.run_trace.specs.Calls.{call_of, number_of, args_of, refusal, said_bytes}
 use Rattle.run_trace.specs.Places.{Places, taken_off}
 use Rattle.run_trace.specs.Local.{Local, Doing}
 use Rattle.run_trace.specs.Steps.{say, put, arrive, take_off, keep, halt, ran, runs_out, asks, asks_show, asks_join, halts, judge, tell, tell_found, settle, extra_of}
