@@ -25,13 +25,13 @@ use Rattle.run_trace.specs.declared.node.Wait.{Wait}
 use Rattle.run_trace.specs.declared.node.Wait.TheVariants as wait
 use Rattle.run_trace.specs.Names.{is_tid, tid_of}
 use Rattle.run_trace.specs.Program.{Program, nodes_of, code_of, processors_of, quantum_limit, main_priority}
-use Rattle.run_trace.specs.Guests.{Guest, Thread, Run, run_of, with_state, takes_slots, gives_slots, heap_of, with_placed, without_block, slots_for}
+use Rattle.run_trace.specs.Guests.{Solo, Guest, Thread, Run, run_of, takes_slots, gives_slots, heap_of, with_placed, without_block, slots_for}
 use Rattle.run_trace.specs.declared.call.Call.{Call}
 use Rattle.run_trace.specs.declared.call.Call.TheVariants.{Exit, Name, Node, Nodes, Yield, Create, Join, Isomalloc, Isofree, Print, Halt, Unknown}
 use Rattle.run_trace.specs.Calls.{call_of, refusal, bytes_of}
 use Rattle.run_trace.specs.Places.{best}
 use Rattle.run_trace.specs.Local.{Local, Doing, nothing, with_booted}
-use Rattle.run_trace.specs.Steps.{birth, ran, runs_out, asks, asks_show, asks_join, halts, judge, tell, settle, reply_by_link, takes_run, returns, gives, ends, shows, acknowledges, hears, knows, next_name}
+use Rattle.run_trace.specs.Steps.{at_thread, arrive, birth, ran, asks, asks_show, asks_join, halts, judge, tell, settle, reply_by_link, takes_run, returns, gives, ends, shows, acknowledges, hears, knows, next_name}
 
 -- ## Compositions
 
@@ -99,26 +99,28 @@ frees t address g d =
     let slots : List ℕ = emptied (heap_of g.solo) address in
     settles t 0 (without_block address (gives_slots slots g)) (returns_any t slots g d)
 
--- a call past its checks
-abbrev pub does : Program → ℕ → Tid → Thread → Call → Doing → Doing
-does p me t x (Exit value) d = end_thread t x (end_of.Exit value) (asks t (Exit value) d)
-does p me t x Name d = answer t (tid_value t) (asks t Name d)
-does p me t x Node d = answer t me (asks t Node d)
-does p me t x Nodes d = answer t (nodes_of p) (asks t Nodes d)
-does p me t x Yield d = answer t 0 (asks t Yield d)
-does p me t x (Create entry argument priority) d =
-    creates me t entry argument priority (asks t (Create entry argument priority) d)
-does p me t x (Join name) d = asks_join t (Join name) (tid_of name) x d
-does p me t x (Isomalloc len) d = allocates t (rounded len) x.guest (asks t (Isomalloc len) d)
-does p me t x (Isofree address) d = frees t address x.guest (asks t (Isofree address) d)
-does p me t x (Print address len) d =
-    asks_show t (Print address len) (bytes_of p x.guest.solo.state (Print address len)) x d
-does p me t x Halt d = halts t x (asks t Halt d)
-does p me t x (Unknown number) d = answer t (reply_code replies.BadArgument) (asks t (Unknown number) d)
+-- ## Calls
 
-abbrev pub calls : Program → ℕ → Tid → Thread → Call → Option Reply → Doing → Doing
-calls p me t x c None d = does p me t x c d
-calls p me t x c (Some reply) d = answer t (reply_code reply) (asks t c d)
+-- a call past its checks, which names these bytes
+abbrev pub does : Program → ℕ → Tid → Call → List ℕ → Doing → Doing
+does p me t (Exit value) bytes d = at_thread t (λ x. end_thread t x (end_of.Exit value)) (asks t (Exit value) d)
+does p me t Name bytes d = answer t (tid_value t) (asks t Name d)
+does p me t Node bytes d = answer t me (asks t Node d)
+does p me t Nodes bytes d = answer t (nodes_of p) (asks t Nodes d)
+does p me t Yield bytes d = answer t 0 (asks t Yield d)
+does p me t (Create entry argument priority) bytes d =
+    creates me t entry argument priority (asks t (Create entry argument priority) d)
+does p me t (Join name) bytes d = at_thread t (asks_join t (Join name) (tid_of name)) d
+does p me t (Isomalloc len) bytes d = at_thread t (λ x. allocates t (rounded len) x.guest) (asks t (Isomalloc len) d)
+does p me t (Isofree address) bytes d = at_thread t (λ x. frees t address x.guest) (asks t (Isofree address) d)
+does p me t (Print address len) bytes d = at_thread t (asks_show t (Print address len) bytes) d
+does p me t Halt bytes d = at_thread t (halts t) (asks t Halt d)
+does p me t (Unknown number) bytes d = answer t (reply_code replies.BadArgument) (asks t (Unknown number) d)
+
+-- a call, and the check of it that failed first
+abbrev pub calls : Program → ℕ → Tid → Call → Option Reply → List ℕ → Doing → Doing
+calls p me t c None bytes d = does p me t c bytes d
+calls p me t c (Some reply) bytes d = answer t (reply_code reply) (asks t c d)
 
 -- ## The acts
 
@@ -130,19 +132,19 @@ boots_in p me (Some slot) d = birth me why.Main p.image.main 0 main_priority slo
 abbrev pub boots : Program → ℕ → Doing → Doing
 boots p me d = if me == 0 then boots_in p me (free_slot d.node.slots.own) (with_booted d) else with_booted d
 
-abbrev pub stops_by : Program → (me vp : ℕ) → Tid → Thread → Run → Stop → Doing → Doing
-stops_by p me vp t x r stops.Quantum d = runs_out t vp r x d
-stops_by p me vp t x r stops.Call d =
-    let y : Thread = record x { guest = with_state r.state x.guest } in
-    calls p me t y (call_of r.state) (refusal p t y.guest.solo (call_of r.state)) (ran t vp r x d)
-stops_by p me vp t x r (stops.Fault kind) d =
-    let y : Thread = record x { guest = with_state r.state x.guest } in
-    end_thread t y (end_of.Fault kind r.state.pc) (ran t vp r x d)
+-- what follows on a run that stopped so; x is the thread after it
+abbrev pub stopped : Program → ℕ → Tid → Stop → Thread → Doing → Doing
+stopped p me t stops.Quantum x d = arrive t x.guest.priority d
+stopped p me t stops.Call x d =
+    let s : Solo = x.guest.solo in
+    let c : Call = call_of s.state in
+    calls p me t c (refusal p t s c) (bytes_of p s.state c) d
+stopped p me t (stops.Fault kind) x d = end_thread t x (end_of.Fault kind x.guest.solo.state.pc) d
 
 abbrev pub run_thread : Program → (me vp quantum : ℕ) → Tid → Thread → Doing → Doing
 run_thread p me vp quantum t x d =
     let r : Run = run_of (code_of p) quantum x.guest.solo.state in
-    stops_by p me vp t x r r.stop d
+    at_thread t (stopped p me t r.stop) (ran t vp r x d)
 
 abbrev pub run_found : Program → (me vp quantum : ℕ) → Tid → Option Thread → Local → Option Doing
 run_found p me vp quantum t None s = None

@@ -47,6 +47,14 @@ take_off t d = with_places (taken_off t d.node.places) d
 abbrev pub thread_at : Tid → Doing → Option Thread
 thread_at t d = lookup (is_tid t) d.node.threads
 
+abbrev pub at_found : Option Thread → (Thread → Doing → Doing) → Doing → Doing
+at_found None step d = d
+at_found (Some x) step d = step x d
+
+-- a step of the thread, as it is here; nothing, where it isn't
+abbrev pub at_thread : Tid → (Thread → Doing → Doing) → Doing → Doing
+at_thread t step d = at_found (thread_at t d) step d
+
 -- a thread that is here is now this one
 unfoldable pub keep : Tid → Thread → Doing → Doing
 keep t x d = with_threads (set_value (is_tid t) d.node.threads x) d
@@ -89,22 +97,18 @@ birth me why entry a0 priority slot d =
 unfoldable pub ran : Tid → ℕ → Run → Thread → Doing → Doing
 ran t vp r x d = say (Ran t vp r.count r.stop) (keep t (record x { guest = with_state r.state x.guest }) (take_off t d))
 
--- it has used up its quantum, and arrives again
-unfoldable pub runs_out : Tid → ℕ → Run → Thread → Doing → Doing
-runs_out t vp r x d = arrive t x.guest.priority (ran t vp r x d)
-
 unfoldable pub asks : Tid → Call → Doing → Doing
 asks t c d = say (Asked t (number_of c) (args_of c) []) d
 
 -- the line goes to node 0
 unfoldable pub asks_show : Tid → Call → List ℕ → Thread → Doing → Doing
 asks_show t c bytes x d =
-    put 0 (Show t bytes) (keep t (waits wait.ForShow x.guest) (say (Asked t (number_of c) (args_of c) bytes) d))
+    put 0 (Show t bytes) (say (Asked t (number_of c) (args_of c) bytes) (keep t (waits wait.ForShow x.guest) d))
 
 -- the join goes to the home of u
 unfoldable pub asks_join : Tid → Call → Tid → Thread → Doing → Doing
 asks_join t c u x d =
-    put u.home (JoinAsk t u.seq) (keep t (waits wait.ForAnswer x.guest) (say (Asked t (number_of c) (args_of c) []) d))
+    put u.home (JoinAsk t u.seq) (asks t c (keep t (waits wait.ForAnswer x.guest) d))
 
 unfoldable pub halts : Tid → Thread → Doing → Doing
 halts t x d = halt (say (Halted t) (keep t (waits wait.Halted x.guest) d))
@@ -139,11 +143,11 @@ reply_by_link t at reply second d = put at (Answer t reply second) (say (Judged 
 -- the thread gets a run of the node's slots
 unfoldable pub takes_run : Tid → (first count : ℕ) → Guest → Doing → Doing
 takes_run t first count g d =
-    keep t (waits wait.No (takes_slots (run first count) g)) (slots_out (run first count) (say (Took t first count) d))
+    say (Took t first count) (slots_out (run first count) (keep t (waits wait.No (takes_slots (run first count) g)) d))
 
 -- the node gets these slots of the thread, which goes on
 unfoldable pub returns : Tid → List ℕ → Guest → Doing → Doing
-returns t slots g d = keep t (waits wait.No (gives_slots slots g)) (slots_in slots (say (Gave t slots) d))
+returns t slots g d = say (Gave t slots) (slots_in slots (keep t (waits wait.No (gives_slots slots g)) d))
 
 -- ## Ends: all slots go to the node, and the home gets a note
 

@@ -7,7 +7,6 @@ use Rattle.slot_space.specs.declared.names.Tid.{Tid}
 use Rattle.slot_space.specs.declared.names.Reply.{Reply}
 use Rattle.rv_step.specs.declared.hart.Stop.{Stop}
 use Rattle.rv_step.specs.declared.hart.Stop.TheVariants as stops
-use Rattle.iso_blocks.specs.Heap.{rounded}
 use Rattle.marcel_core.specs.declared.end.End.TheVariants as end_of
 use Rattle.run_trace.specs.declared.node.Wait.TheVariants as wait
 use Rattle.run_trace.specs.Names.{tid_of}
@@ -17,13 +16,15 @@ use Rattle.run_trace.specs.declared.call.Call.{Call}
 use Rattle.run_trace.specs.declared.call.Call.TheVariants.{Exit, Name, Node, Nodes, Yield, Create, Join, Isomalloc, Isofree, Print, Halt, Unknown}
 use Rattle.run_trace.specs.Calls.{call_of, refusal, bytes_of, said_bytes}
 use Rattle.run_trace.specs.Local.{Doing}
-use Rattle.run_trace.specs.Steps.{ran, asks, asks_show, asks_join, halts}
-use Rattle.run_trace.specs.Machine.{answer, end_thread, creates, creates_in, free_slot, allocates, frees, calls, stops_by}
+use Rattle.run_trace.specs.Steps.{at_found, at_thread, thread_at, ran, asks, asks_show, asks_join}
+use Rattle.run_trace.specs.Rules.{asked_causes}
+use Rattle.run_trace.specs.Machine.{answer, end_thread, creates, creates_in, free_slot, calls, stopped, run_thread}
 use Rattle.run_trace.specs.Cluster.{Net}
-use Rattle.run_trace.specs.Spots.{Ready, Running, Due, Served, Ends, Halts, On, Spot, Spots, ran_stage, asked_stage, stage_of_call}
-use Rattle.run_trace.specs.Stands.{Busy, busy}
-use Rattle.trace_laws.proofs.Midst.{Links, Midst, keeps, spots_at}
-use Rattle.trace_laws.proofs.Steps.{answer_ok, refuse_ok, asks_ok, asks_guest, asks_show_ok, asks_join_ok, halts_ok, ran_ok, ran_guest, runs_out_ok, run_now, call_at, solo_at, bytes_at}
+use Rattle.run_trace.specs.Spots.{Stage, Ready, Running, Due, Served, Ends, Halts, On, Spot, Spots, ran_stage, asked_stage, stage_of_call}
+use Rattle.run_trace.specs.Stands.{Busy, busy, is_busy, thread_in_stage, row_in_stage, held_in_stage, holding_of}
+use Rattle.trace_laws.proofs.Parts.{is_home}
+use Rattle.trace_laws.proofs.Midst.{Links, Midst, Keeps, keeps, spots_at}
+use Rattle.trace_laws.proofs.Steps.{in_hand, on_node, ran_there, at_ok, answer_ok, refuse_ok, asks_ok, asks_show_ok, asks_join_ok, halts_ok, ran_ok, ran_guest, runs_out_ok, run_now, solo_at, bytes_at}
 use Rattle.trace_laws.proofs.Lifetimes.{end_thread_ok, born_ok, lowest_is}
 use Rattle.trace_laws.proofs.HeapSteps.{allocates_ok, frees_ok}
 use Rattle.trace_laws.proofs.Heaps.{frees_well}
@@ -44,14 +45,11 @@ module _ (p : Program) (net : Net) (q n : ℕ) (w : Spots) (L : Links) (below : 
       by (Some slot) f = answer_ok p net q n w L _ t _ [] (born_ok p net q n w L below d t e a k slot [] m f)
 
   -- a call, from the thread that runs
-  pub calls_ok : (d : Doing) (t : Tid) → Is d (busy t (On n Running) ∷ []) → Is (calls p n t (waits wait.No (spot d t).guest) (call_at p net q n w L d t) (refusal p t (solo_at p net q n w L d t) (call_at p net q n w L d t)) d) []
-  calls_ok d t m = by (call_at p net q n w L d t) refl (refusal p t (solo_at p net q n w L d t) (call_at p net q n w L d t)) refl
+  pub calls_ok : (d : Doing) (t : Tid) → Is d (busy t (On n Running) ∷ []) → Is (stopped p n t stops.Call (waits wait.No (spot d t).guest) d) []
+  calls_ok d t m = by (call_of s.state) refl (refusal p t s (call_of s.state)) refl
     where
       s : Solo
       s = solo_at p net q n w L d t
-
-      x : Thread
-      x = waits wait.No (spot d t).guest
 
       -- what follows on the call, and which bytes it names
       stage : (c : Call) (o : Option Reply) → call_of s.state ≡ c → refusal p t s (call_of s.state) ≡ o → stage_of_call p n t s ≡ asked_stage p n t s c o
@@ -60,45 +58,58 @@ module _ (p : Program) (net : Net) (q n : ℕ) (w : Spots) (L : Links) (below : 
       bytes : (c : Call) (o : Option Reply) → call_of s.state ≡ c → refusal p t s (call_of s.state) ≡ o → said_bytes p s.state c o ≡ bytes_at p net q n w L d t
       bytes c o e f = sym (ap (λ z. said_bytes p s.state (call_of s.state) z) f ∙ ap (λ z. said_bytes p s.state z o) e)
 
-      -- the call is answered at once
-      due : (c : Call) (code : ℕ) (o : Option Reply) → call_of s.state ≡ c → refusal p t s (call_of s.state) ≡ o → asked_stage p n t s c o ≡ Due code → [] ≡ said_bytes p s.state c o → Is (answer t code (asks t c d)) []
-      due c code o e f st none = subst (λ z. Is (answer t code (asks t z d)) []) e
-          (answer_ok p net q n w L (asks t (call_of s.state) d) t code [] (asks_ok p net q n w L d t (Due code) [] m (stage c o e f ∙ st) (none ∙ bytes c o e f) refl refl (eq-eqb n n refl) refl refl (keeps _ _ refl)))
+      -- the call is asked, and goes on here in this stage
+      asked : (c : Call) (o : Option Reply) (b : Stage) → call_of s.state ≡ c → refusal p t s (call_of s.state) ≡ o → asked_stage p n t s c o ≡ b → [] ≡ said_bytes p s.state c o
+          → asked_causes t b ≡ [] → is_home b ≡ true → is_busy n (On n b) ≡ true → thread_in_stage b (spot d t).guest ≡ Some (waits wait.No (spot d t).guest) → row_in_stage t b (spot d t).guest.priority ≡ None
+          → Keeps (Some (holding_of (spot d t).guest)) (held_in_stage b (spot d t).guest)
+          → Is (asks t c d) (busy t (On n b) ∷ [])
+      asked c o b e f st none sent home busied there row kept = subst (λ z. Is (asks t z d) (busy t (On n b) ∷ [])) e
+          (asks_ok p net q n w L d t b [] m (stage c o e f ∙ st) (none ∙ bytes c o e f) sent home busied there row kept)
 
-      by : (c : Call) → call_of s.state ≡ c → (o : Option Reply) → refusal p t s (call_of s.state) ≡ o → Is (calls p n t x c o d) []
+      -- it is answered at once
+      due : (c : Call) (code : ℕ) (o : Option Reply) → call_of s.state ≡ c → refusal p t s (call_of s.state) ≡ o → asked_stage p n t s c o ≡ Due code → [] ≡ said_bytes p s.state c o → Is (answer t code (asks t c d)) []
+      due c code o e f st none = answer_ok p net q n w L (asks t c d) t code [] (asked c o (Due code) e f st none refl refl (eq-eqb n n refl) refl refl (keeps _ _ refl))
+
+      -- a step of the thread after it has asked
+      then : (c : Call) (b : Stage) (step : Thread → Doing → Doing) → Is (asks t c d) (busy t (On n b) ∷ [])
+          → thread_in_stage b (spot (asks t c d) t).guest ≡ Some (waits wait.No (spot (asks t c d) t).guest)
+          → Is (step (waits wait.No (spot (asks t c d) t).guest) (asks t c d)) []
+          → Is (at_thread t step (asks t c d)) []
+      then c b step k there done = at_ok p net q n w L (asks t c d) _ [] t b step k (in_hand p net q n w L (asks t c d) t (On n b) [] k) there done
+
+      -- a step of the thread by which it asks
+      now : (step : Thread → Doing → Doing) → Is (step (waits wait.No (spot d t).guest) d) [] → Is (at_thread t step d) []
+      now step done = at_ok p net q n w L d _ [] t Running step m (in_hand p net q n w L d t (On n Running) [] m) refl done
+
+      by : (c : Call) → call_of s.state ≡ c → (o : Option Reply) → refusal p t s (call_of s.state) ≡ o → Is (calls p n t c o (bytes_of p s.state c) d) []
       by c e (Some reply) f = due c (reply_code reply) (Some reply) e f refl refl
       by Name e None f = due Name _ None e f refl refl
       by Node e None f = due Node _ None e f refl refl
       by Nodes e None f = due Nodes _ None e f refl refl
       by Yield e None f = due Yield _ None e f refl refl
       by (Unknown number) e None f = due (Unknown number) _ None e f refl refl
-      by (Exit value) e None f = subst (λ z. Is (end_thread t x (end_of.Exit value) (asks t z d)) []) e
-          (subst (λ g. Is (end_thread t (waits wait.No g) (end_of.Exit value) (asks t (call_of s.state) d)) []) (asks_guest p net q n w L d t)
-          (end_thread_ok p net q n w L (asks t (call_of s.state) d) t (end_of.Exit value) []
-          (asks_ok p net q n w L d t (Ends (end_of.Exit value)) [] m (stage (Exit value) None e f) (bytes (Exit value) None e f) refl refl (eq-eqb n n refl) refl refl (keeps _ _ refl))))
-      by (Create entry a k) e None f = subst (λ z. Is (creates n t entry a k (asks t z d)) []) e
-          (creates_ok (asks t (call_of s.state) d) t entry a k (asks_ok p net q n w L d t (Served (Create entry a k)) [] m (stage (Create entry a k) None e f) (bytes (Create entry a k) None e f) refl refl (eq-eqb n n refl) refl refl (keeps _ _ refl)))
-      by (Isomalloc len) e None f = subst (λ z. Is (allocates t (rounded len) x.guest (asks t z d)) []) e
-          (subst (λ g. Is (allocates t (rounded len) g (asks t (call_of s.state) d)) []) (asks_guest p net q n w L d t)
-          (allocates_ok p net q n w L (asks t (call_of s.state) d) t len []
-          (asks_ok p net q n w L d t (Served (Isomalloc len)) [] m (stage (Isomalloc len) None e f) (bytes (Isomalloc len) None e f) refl refl (eq-eqb n n refl) refl refl (keeps _ _ refl))))
-      by (Isofree address) e None f = subst (λ z. Is (frees t address x.guest (asks t z d)) []) e
-          (subst (λ g. Is (frees t address g (asks t (call_of s.state) d)) []) (asks_guest p net q n w L d t)
-          (frees_ok p net q n w L (asks t (call_of s.state) d) t address []
-          (asks_ok p net q n w L d t (Served (Isofree address)) [] m (stage (Isofree address) None e f) (bytes (Isofree address) None e f) refl refl (eq-eqb n n refl) refl refl
-          (record { slots = refl; well = λ h. frees_well (spot d t).guest address h }))))
-      by Halt e None f = subst (λ z. Is (halts t x (asks t z d)) []) e
-          (subst (λ g. Is (halts t (waits wait.No g) (asks t (call_of s.state) d)) []) (asks_guest p net q n w L d t)
-          (halts_ok p net q n w L (asks t (call_of s.state) d) t [] (asks_ok p net q n w L d t Halts [] m (stage Halt None e f) (bytes Halt None e f) refl refl (eq-eqb n n refl) refl refl (keeps _ _ refl))))
-      by (Join name) e None f = subst (λ z. Is (asks_join t z (tid_of name) x d) []) e
-          (asks_join_ok p net q n w L d t (tid_of name) [] m (stage (Join name) None e f) (bytes (Join name) None e f))
-      by (Print address len) e None f = subst (λ z. Is (asks_show t z (bytes_of p s.state (Print address len)) x d) []) e
-          (asks_show_ok p net q n w L d t (bytes_of p s.state (Print address len)) [] m (stage (Print address len) None e f) (bytes (Print address len) None e f))
+      by (Exit value) e None f =
+          let k = asked (Exit value) None (Ends (end_of.Exit value)) e f refl refl refl refl (eq-eqb n n refl) refl refl (keeps _ _ refl) in
+          then (Exit value) (Ends (end_of.Exit value)) _ k refl (end_thread_ok p net q n w L (asks t (Exit value) d) t (end_of.Exit value) [] k)
+      by (Create entry a i) e None f = creates_ok (asks t (Create entry a i) d) t entry a i
+          (asked (Create entry a i) None (Served (Create entry a i)) e f refl refl refl refl (eq-eqb n n refl) refl refl (keeps _ _ refl))
+      by (Isomalloc len) e None f =
+          let k = asked (Isomalloc len) None (Served (Isomalloc len)) e f refl refl refl refl (eq-eqb n n refl) refl refl (keeps _ _ refl) in
+          then (Isomalloc len) (Served (Isomalloc len)) _ k refl (allocates_ok p net q n w L (asks t (Isomalloc len) d) t len [] k)
+      by (Isofree address) e None f =
+          let k = asked (Isofree address) None (Served (Isofree address)) e f refl refl refl refl (eq-eqb n n refl) refl refl (record { slots = refl; well = λ h. frees_well (spot d t).guest address h }) in
+          then (Isofree address) (Served (Isofree address)) _ k refl (frees_ok p net q n w L (asks t (Isofree address) d) t address [] k)
+      by Halt e None f =
+          let k = asked Halt None Halts e f refl refl refl refl (eq-eqb n n refl) refl refl (keeps _ _ refl) in
+          then Halt Halts _ k refl (halts_ok p net q n w L (asks t Halt d) t [] k)
+      by (Join name) e None f = now _ (subst (λ z. Is (asks_join t z (tid_of name) (waits wait.No (spot d t).guest) d) []) e
+          (asks_join_ok p net q n w L d t (tid_of name) [] m (stage (Join name) None e f) (bytes (Join name) None e f)))
+      by (Print address len) e None f = now _ (subst (λ z. Is (asks_show t z (bytes_of p s.state (Print address len)) (waits wait.No (spot d t).guest) d) []) e
+          (asks_show_ok p net q n w L d t (bytes_of p s.state (Print address len)) [] m (stage (Print address len) None e f) (bytes (Print address len) None e f)))
 
   -- a run of a ready thread, to its stop
-  pub stops_ok : (d : Doing) (t : Tid) (vp : ℕ) → Is d [] → (spot d t).life ≡ On n Ready
-      → Is (stops_by p n vp t (waits wait.No (spot d t).guest) (run_now p net q n w L d t) (run_now p net q n w L d t).stop d) []
-  stops_ok d t vp m x = by r.stop refl
+  pub run_ok : (d : Doing) (t : Tid) (vp : ℕ) → Is d [] → (spot d t).life ≡ On n Ready → Is (run_thread p n vp q t (waits wait.No (spot d t).guest) d) []
+  run_ok d t vp m x = subst (λ o. Is (at_found o (stopped p n t r.stop) after) []) (sym there) (by r.stop refl)
     where
       r : Run
       r = run_now p net q n w L d t
@@ -109,11 +120,13 @@ module _ (p : Program) (net : Net) (q n : ℕ) (w : Spots) (L : Links) (below : 
       after : Doing
       after = ran t vp r (waits wait.No (spot d t).guest) d
 
-      by : (stop : Stop) → r.stop ≡ stop → Is (stops_by p n vp t (waits wait.No (spot d t).guest) r stop d) []
+      there : thread_at t after ≡ Some (waits wait.No g)
+      there = ran_there t vp r (waits wait.No (spot d t).guest) d (on_node p net q n w L d [] t Ready m x)
+
+      by : (stop : Stop) → r.stop ≡ stop → Is (stopped p n t stop (waits wait.No g) after) []
       by stops.Quantum e = runs_out_ok p net q n w L d t vp m x (ap (λ z. ran_stage z r.state) e)
-      by stops.Call e =
-          let k : Is after (busy t (On n Running) ∷ []) = ran_ok p net q n w L d t vp Running m x (ap (λ z. ran_stage z r.state) e) refl (eq-eqb n n refl) refl refl refl in
-          subst (λ (z : Guest). Is (calls p n t (waits wait.No z) (call_of z.solo.state) (refusal p t z.solo (call_of z.solo.state)) after) []) (ran_guest p net q n w L d t vp) (calls_ok after t k)
+      by stops.Call e = subst (λ (z : Guest). Is (stopped p n t stops.Call (waits wait.No z) after) []) (ran_guest p net q n w L d t vp)
+          (calls_ok after t (ran_ok p net q n w L d t vp Running m x (ap (λ z. ran_stage z r.state) e) refl (eq-eqb n n refl) refl refl refl))
       by (stops.Fault kind) e =
           let k : Is after (busy t (On n (Ends (end_of.Fault kind r.state.pc))) ∷ []) = ran_ok p net q n w L d t vp (Ends (end_of.Fault kind r.state.pc)) m x (ap (λ z. ran_stage z r.state) e) refl (eq-eqb n n refl) refl refl refl in
           subst (λ z. Is (end_thread t (waits wait.No z) (end_of.Fault kind r.state.pc) after) []) (ran_guest p net q n w L d t vp) (end_thread_ok p net q n w L after t (end_of.Fault kind r.state.pc) [] k)

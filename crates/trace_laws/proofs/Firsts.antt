@@ -13,8 +13,8 @@ use Rattle.run_trace.specs.Guests.{Guest, Thread, Run}
 use Rattle.run_trace.specs.declared.call.Call.{Call}
 use Rattle.run_trace.specs.declared.call.Call.TheVariants.{Exit, Name, Node, Nodes, Yield, Create, Join, Isomalloc, Isofree, Print, Halt, Unknown}
 use Rattle.run_trace.specs.Local.{Local, Doing, nothing}
-use Rattle.run_trace.specs.Steps.{say, put, arrive, take_off, keep, thread_in, thread_out, slots_out, slots_in, name_in, halt, birth, ran, runs_out, asks, asks_show, asks_join, halts, judge, tell, tell_found, settle, takes_run, returns, gives, ends}
-use Rattle.run_trace.specs.Machine.{answer, settles, allocates_with, returns_any, end_thread, creates_in, does, calls, stops_by}
+use Rattle.run_trace.specs.Steps.{thread_at, at_found, at_thread, say, put, arrive, take_off, keep, thread_in, thread_out, slots_out, slots_in, name_in, halt, birth, ran, asks, asks_show, asks_join, halts, judge, tell, tell_found, settle, takes_run, returns, gives, ends}
+use Rattle.run_trace.specs.Machine.{answer, settles, allocates_with, returns_any, end_thread, creates_in, does, calls, stopped, run_thread}
 use Rattle.run_trace.specs.Rules.{RunsFirst}
 
 append-first : (t : Tid) (vp : ℕ) (ls more : List Label) → RunsFirst t vp ls → RunsFirst t vp (ls ++ more)
@@ -48,7 +48,7 @@ module _ (t : Tid) (vp : ℕ) where
   show-first u c bytes x d h = append-first t vp d.labels _ h
 
   join-first : (u : Tid) (c : Call) (of : Tid) (x : Thread) (d : Doing) → First d → First (asks_join u c of x d)
-  unfolding asks_join put keep say
+  unfolding asks_join asks put keep say
   join-first u c of x d h = append-first t vp d.labels _ h
 
   halt-first : (u : Tid) (x : Thread) (d : Doing) → First d → First (halts u x d)
@@ -78,34 +78,45 @@ module _ (t : Tid) (vp : ℕ) where
   return-first u [] g d h = h
   return-first u (s ∷ slots) g d h = append-first t vp d.labels _ h
 
-  does-first : (p : Program) (me : ℕ) (u : Tid) (x : Thread) (c : Call) (d : Doing) → First d → First (does p me u x c d)
-  does-first p me u x (Exit value) d h = end-first u x _ _ (asks-first u (Exit value) d h)
-  does-first p me u x Name d h = answer-first u _ _ (asks-first u Name d h)
-  does-first p me u x Node d h = answer-first u _ _ (asks-first u Node d h)
-  does-first p me u x Nodes d h = answer-first u _ _ (asks-first u Nodes d h)
-  does-first p me u x Yield d h = answer-first u _ _ (asks-first u Yield d h)
-  does-first p me u x (Create e a k) d h = create-first me u e a k _ _ (asks-first u (Create e a k) d h)
-  does-first p me u x (Join name) d h = join-first u (Join name) _ x d h
-  does-first p me u x (Isomalloc len) d h = allocate-first u _ _ _ _ (asks-first u (Isomalloc len) d h)
-  does-first p me u x (Isofree address) d h = settles-first u _ _ _ (return-first u _ _ _ (asks-first u (Isofree address) d h))
-  does-first p me u x (Print address len) d h = show-first u (Print address len) _ x d h
-  does-first p me u x Halt d h = halt-first u x _ (asks-first u Halt d h)
-  does-first p me u x (Unknown number) d h = answer-first u _ _ (asks-first u (Unknown number) d h)
+  -- a step of a thread that may be here
+  at-first : (step : Thread → Doing → Doing) → ((x : Thread) (d : Doing) → First d → First (step x d)) → (u : Tid) (d : Doing) → First d → First (at_thread u step d)
+  at-first step each u d h = by (thread_at u d)
+    where
+      by : (o : Option Thread) → First (at_found o step d)
+      by None = h
+      by (Some x) = each x d h
 
-  calls-first : (p : Program) (me : ℕ) (u : Tid) (x : Thread) (c : Call) (o : Option Reply) (d : Doing) → First d → First (calls p me u x c o d)
-  calls-first p me u x c None d h = does-first p me u x c d h
-  calls-first p me u x c (Some reply) d h = answer-first u _ _ (asks-first u c d h)
+  does-first : (p : Program) (me : ℕ) (u : Tid) (c : Call) (bytes : List ℕ) (d : Doing) → First d → First (does p me u c bytes d)
+  does-first p me u (Exit value) bytes d h = at-first _ (λ x e k. end-first u x _ e k) u _ (asks-first u (Exit value) d h)
+  does-first p me u Name bytes d h = answer-first u _ _ (asks-first u Name d h)
+  does-first p me u Node bytes d h = answer-first u _ _ (asks-first u Node d h)
+  does-first p me u Nodes bytes d h = answer-first u _ _ (asks-first u Nodes d h)
+  does-first p me u Yield bytes d h = answer-first u _ _ (asks-first u Yield d h)
+  does-first p me u (Create e a k) bytes d h = create-first me u e a k _ _ (asks-first u (Create e a k) d h)
+  does-first p me u (Join name) bytes d h = at-first _ (λ x e k. join-first u (Join name) _ x e k) u d h
+  does-first p me u (Isomalloc len) bytes d h = at-first _ (λ x e k. allocate-first u _ _ x.guest e k) u _ (asks-first u (Isomalloc len) d h)
+  does-first p me u (Isofree address) bytes d h = at-first _ (λ x e k. settles-first u _ _ _ (return-first u _ x.guest e k)) u _ (asks-first u (Isofree address) d h)
+  does-first p me u (Print address len) bytes d h = at-first _ (λ x e k. show-first u (Print address len) _ x e k) u d h
+  does-first p me u Halt bytes d h = at-first _ (λ x e k. halt-first u x e k) u _ (asks-first u Halt d h)
+  does-first p me u (Unknown number) bytes d h = answer-first u _ _ (asks-first u (Unknown number) d h)
+
+  calls-first : (p : Program) (me : ℕ) (u : Tid) (c : Call) (o : Option Reply) (bytes : List ℕ) (d : Doing) → First d → First (calls p me u c o bytes d)
+  calls-first p me u c None bytes d h = does-first p me u c bytes d h
+  calls-first p me u c (Some reply) bytes d h = answer-first u _ _ (asks-first u c d h)
 
   ran-first : (r : Run) (x : Thread) (s : Local) → First (ran t vp r x (nothing s))
   unfolding ran say keep take_off
   ran-first r x s = (refl, refl)
 
-  out-first : (r : Run) (x : Thread) (s : Local) → First (runs_out t vp r x (nothing s))
-  unfolding runs_out arrive ran say keep take_off
-  out-first r x s = (refl, refl)
+  arrive-first : (u : Tid) (priority : ℕ) (d : Doing) → First d → First (arrive u priority d)
+  unfolding arrive
+  arrive-first u priority d h = h
+
+  stopped-first : (p : Program) (me : ℕ) (stop : Stop) (x : Thread) (d : Doing) → First d → First (stopped p me t stop x d)
+  stopped-first p me stops.Quantum x d h = arrive-first t _ d h
+  stopped-first p me stops.Call x d h = calls-first p me t _ _ _ d h
+  stopped-first p me (stops.Fault kind) x d h = end-first t x _ d h
 
   -- a run's first label is that its thread ran
-  pub stops-first : (p : Program) (me : ℕ) (x : Thread) (r : Run) (stop : Stop) (s : Local) → First (stops_by p me vp t x r stop (nothing s))
-  stops-first p me x r stops.Quantum s = out-first r x s
-  stops-first p me x r stops.Call s = calls-first p me t _ _ _ _ (ran-first r x s)
-  stops-first p me x r (stops.Fault kind) s = end-first t _ _ _ (ran-first r x s)
+  pub run-first : (p : Program) (me quantum : ℕ) (x : Thread) (s : Local) → First (run_thread p me vp quantum t x (nothing s))
+  run-first p me quantum x s = at-first _ (λ y e k. stopped-first p me _ y e k) t _ (ran-first _ x s)

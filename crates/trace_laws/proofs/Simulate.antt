@@ -17,8 +17,8 @@ use Rattle.run_trace.specs.declared.packet.Send.{Send}
 use Rattle.run_trace.specs.declared.node.Row.{Row}
 use Rattle.run_trace.specs.declared.node.Wait.TheVariants as wait
 use Rattle.run_trace.specs.Names.{is_tid, tid}
-use Rattle.run_trace.specs.Program.{Program, nodes_of, code_of}
-use Rattle.run_trace.specs.Guests.{Thread, run_of, waits}
+use Rattle.run_trace.specs.Program.{Program, nodes_of}
+use Rattle.run_trace.specs.Guests.{Thread, waits}
 use Rattle.run_trace.specs.Places.{best}
 use Rattle.run_trace.specs.Local.{Local, Doing, nothing, with_booted}
 use Rattle.run_trace.specs.Steps.{tell}
@@ -33,12 +33,12 @@ use Rattle.trace_laws.proofs.Tids.{is-refl}
 use Rattle.trace_laws.proofs.Midst.{Links, Midst, Obeyed, LinkStands, sent_words, at_link, less_word, nothing_sent}
 use Rattle.trace_laws.proofs.Parts.{at_row, row_found, on_way, at_way, Tells}
 use Rattle.trace_laws.proofs.Picking.{best_is}
-use Rattle.trace_laws.proofs.Firsts.{stops-first}
+use Rattle.trace_laws.proofs.Firsts.{run-first}
 use Rattle.trace_laws.proofs.Steps.{on_node}
 use Rattle.trace_laws.proofs.Lifetimes.{main_born_ok}
 use Rattle.trace_laws.proofs.Takes.{shows_ok, acknowledges_ok, tell_taken_ok}
 use Rattle.trace_laws.proofs.Joins.{hears_ok, knows_ok}
-use Rattle.trace_laws.proofs.Events.{stops_ok}
+use Rattle.trace_laws.proofs.Events.{run_ok}
 
 abbrev pub under_way : Net → Links
 under_way net i j = words_of j (net.links i j)
@@ -201,7 +201,7 @@ module _ (p : Program) (w : Spots) (net : Net) (s : Stands p w net) (q n : ℕ) 
       let ready : (w.threads t).life ≡ On n Ready = (at_row n t (w.threads t).life (w.threads t).guest.priority (listed r) (sym ((s.nodes n).rows.shows t) ∙ found)).0 in
       let same : Some (waits wait.No (w.threads t).guest) ≡ Some x = sym (on_node p net q n w (under_way net) (nothing (net.nodes n)) [] t Ready here ready) ∙ f in
       let one : waits wait.No (w.threads t).guest ≡ x = cc same in
-      subst (λ z. Midst p net q n w (under_way net) (run_thread p n vp q t z (nothing (net.nodes n))) []) one (stops_ok p net q n w (under_way net) below (nothing (net.nodes n)) t vp here ready)
+      subst (λ z. Midst p net q n w (under_way net) (run_thread p n vp q t z (nothing (net.nodes n))) []) one (run_ok p net q n w (under_way net) below (nothing (net.nodes n)) t vp here ready)
 
   -- ## A beginning
 
@@ -257,7 +257,7 @@ acts_simulate p w net stamp n round (RunThread vp q) None d s below is i h = by_
     by_thread r e (Some x) f g =
         let same : run_thread p n vp q r.tid x (nothing (net.nodes n)) ≡ d = cc g in
         simulated p w net stamp n round (RunThread vp q) None d _ is (subst (λ z. Midst p net q n w (under_way net) z []) same (ran_midst p w net s q n below vp r x e f)) (none_left net n (RunThread vp q) (λ i ps. refl))
-        (r, best_is (net.nodes n).places.rows r e, subst (λ (z : Doing). RunsFirst r.tid vp z.labels) same (stops-first r.tid vp p n x (run_of (code_of p) q x.guest.solo.state) (run_of (code_of p) q x.guest.solo.state).stop (net.nodes n)))
+        (r, best_is (net.nodes n).places.rows r e, subst (λ (z : Doing). RunsFirst r.tid vp z.labels) same (run-first r.tid vp p n q x (net.nodes n)))
 
     by_row : (r : Option Row) → best (net.nodes n).places.rows ≡ r → run_picked p n vp q r (net.nodes n) ≡ Some d → Simulates p w net (event stamp n round (RunThread vp q) None d)
     by_row None e g = absurd (cc g)

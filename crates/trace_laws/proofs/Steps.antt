@@ -19,13 +19,13 @@ use Rattle.run_trace.specs.declared.node.Wait.{Wait}
 use Rattle.run_trace.specs.declared.node.Wait.TheVariants as wait
 use Rattle.run_trace.specs.Names.{is_tid}
 use Rattle.run_trace.specs.Program.{Program, code_of}
-use Rattle.run_trace.specs.Guests.{Guest, Run, run_of, waits, with_state, told, Solo}
+use Rattle.run_trace.specs.Guests.{Guest, Thread, Run, run_of, waits, with_state, told, Solo}
 use Rattle.run_trace.specs.declared.call.Call.{Call}
 use Rattle.run_trace.specs.declared.call.Call.TheVariants.{Create}
 use Rattle.run_trace.specs.Calls.{call_of, number_of, args_of, refusal, said_bytes}
 use Rattle.run_trace.specs.Places.{Places, taken_off}
 use Rattle.run_trace.specs.Local.{Local, Doing}
-use Rattle.run_trace.specs.Steps.{say, put, arrive, take_off, keep, halt, ran, runs_out, asks, asks_show, asks_join, halts, judge, tell, tell_found, settle, extra_of}
+use Rattle.run_trace.specs.Steps.{say, put, arrive, take_off, thread_at, at_found, at_thread, keep, halt, ran, asks, asks_show, asks_join, halts, judge, tell, tell_found, settle, extra_of}
 use Rattle.run_trace.specs.Machine.{answer, settles}
 use Rattle.run_trace.specs.Cluster.{Net}
 use Rattle.run_trace.specs.Keyed.{StandsFor, MapStandsFor}
@@ -34,10 +34,15 @@ use Rattle.run_trace.specs.Rules.{causes, send_to, asked_causes, judged_causes, 
 use Rattle.run_trace.specs.Console.{shown_by}
 use Rattle.run_trace.specs.Stands.{Busy, busy, busy_name, is_busy, busy_part, thread_part, thread_in_life, thread_in_stage, row_part, row_in_life, row_in_stage, listed, listed_name, word_name, word_of, way, way_of, phase_of, held, held_in_stage, holding_of}
 use Rattle.trace_laws.proofs.Tids.{is-true, is-refl}
-use Rattle.trace_laws.proofs.KeyedLemmas.{kept, removed, added, replaced, fronted, unfronted, refronted, map_kept, map_set}
+use Rattle.trace_laws.proofs.KeyedLemmas.{lookup-set_same, kept, removed, added, replaced, fronted, unfronted, refronted, map_kept, map_set}
 use Rattle.trace_laws.proofs.RunLemmas.{run_does, run_stepped, run_slots}
 use Rattle.trace_laws.proofs.Midst.{Links, Midst, under, LinkStands, Allowed, Frame, spots_with, spots_at, labelled, here_kept, agrees_kept, Plain, plain, is_plain, links_kept, Keeps, keeps, put_link, spot_then, updated}
 use Rattle.trace_laws.proofs.Parts.{at_hand, listed_without, listed_arrived, is_home, home_way, home_quiet, home_plain, frame_home, away_thread, away_row, busy_none}
+
+-- a thread that has run is still here
+pub ran_there : (t : Tid) (vp : ℕ) (r : Run) (x : Thread) (d : Doing) → thread_at t d ≡ Some x → thread_at t (ran t vp r x d) ≡ Some (record x { guest = with_state r.state x.guest })
+unfolding ran say keep take_off
+ran_there t vp r x d h = lookup-set_same is_tid is-true is-refl d.node.threads t _ x h
 
 -- the extra of a judged call is what is told
 pub second-extra : (o : Option ℕ) → second_of (extra_of o) ≡ o
@@ -157,6 +162,12 @@ module _ (p : Program) (net : Net) (q n : ℕ) (w : Spots) (L : Links) where
 
   pub idle_was : (s : Spot) (t : Tid) (life : Life) → s.life ≡ life → is_busy n life ≡ false → busy_part n t s ≡ None
   idle_was s t life x b = busy_none n t s life x b
+
+  -- a step of the thread, as it is on the node
+  pub at_ok : (d : Doing) (hand more : List Busy) (t : Tid) (a : Stage) (step : Thread → Doing → Doing) → Is d hand → (spot d t).life ≡ On n a
+      → thread_in_stage a (spot d t).guest ≡ Some (waits wait.No (spot d t).guest)
+      → Is (step (waits wait.No (spot d t).guest) d) more → Is (at_thread t step d) more
+  at_ok d hand more t a step m x there done = subst (λ o. Is (at_found o step d) more) (sym (on_node d hand t a m x ∙ there)) done
 
   -- ## Replies
 
@@ -329,8 +340,8 @@ module _ (p : Program) (net : Net) (q n : ℕ) (w : Spots) (L : Links) where
   -- a run of the whole quantum
   pub runs_out_ok : (d : Doing) (t : Tid) (vp : ℕ) → Is d [] → (spot d t).life ≡ On n Ready
       → ran_stage (run_now d t).stop (run_now d t).state ≡ Ready
-      → Is (runs_out t vp (run_now d t) (waits wait.No (spot d t).guest) d) []
-  unfolding runs_out arrive ran take_off say keep
+      → Is (arrive t (spot d t).guest.priority (ran t vp (run_now d t) (waits wait.No (spot d t).guest) d)) []
+  unfolding arrive ran take_off say keep
   runs_out_ok d t vp m x st =
       let v : Spots = spots_at p net q n w d in
       let s : Spot = spot d t in
@@ -383,18 +394,13 @@ module _ (p : Program) (net : Net) (q n : ℕ) (w : Spots) (L : Links) where
         busy = refronted is_tid is-true is-refl busy_name (busy_part n) v.threads t r hs (busy t (On n Running)) (busy t (On n b)) m.here.busy refl refl (busy_was r t (On n b) refl busied);
       }) refl refl refl
 
-  -- a call changes nothing of its guest
-  pub asks_guest : (d : Doing) (t : Tid) → (spot (asks t (call_at d t) d) t).guest ≡ (spot d t).guest
-  unfolding asks say
-  asks_guest d t = ap (λ (z : Spot). z.guest) (spot_then p net q n w d (Asked t (number_of (call_at d t)) (args_of (call_at d t)) []) _ t (asked_same d t [] _ refl) ∙ updated (spots_at p net q n w d).threads t (record (spot d t) { life = On n (stage_of_call p n t (solo_at d t)) }))
-
   -- a call that sends a packet
   asks_out_ok : (d : Doing) (t : Tid) (bytes : List ℕ) (b : Stage) (waiting : Wait) (to : ℕ) (body : Body) (hs : List Busy) → Is d (busy t (On n Running) ∷ hs)
       → stage_of_call p n t (solo_at d t) ≡ b → bytes ≡ bytes_at d t → asked_causes t b ≡ send_to to body
       → way_of t (On n b) (spot d t).verdict ≡ way n to (word_of to body) → word_name (word_of to body) ≡ t
       → ((k : ℕ) → is_busy k (On n b) ≡ false) → thread_in_stage b (spot d t).guest ≡ Some (waits waiting (spot d t).guest) → row_in_stage t b (spot d t).guest.priority ≡ None
       → held_in_stage b (spot d t).guest ≡ Some (holding_of (spot d t).guest) → is_plain (On n b) ≡ true
-      → Is (put to body (keep t (waits waiting (spot d t).guest) (say (Asked t (number_of (call_at d t)) (args_of (call_at d t)) bytes) d))) hs
+      → Is (put to body (say (Asked t (number_of (call_at d t)) (args_of (call_at d t)) bytes) (keep t (waits waiting (spot d t).guest) d))) hs
   unfolding put keep say
   asks_out_ok d t bytes b waiting to body hs m st said sent ways name idle there row slots quiet =
       let v : Spots = spots_at p net q n w d in
@@ -429,7 +435,7 @@ module _ (p : Program) (net : Net) (q n : ℕ) (w : Spots) (L : Links) where
   pub asks_join_ok : (d : Doing) (t u : Tid) (hs : List Busy) → Is d (busy t (On n Running) ∷ hs)
       → stage_of_call p n t (solo_at d t) ≡ Asks u → [] ≡ bytes_at d t
       → Is (asks_join t (call_at d t) u (waits wait.No (spot d t).guest) d) hs
-  unfolding asks_join
+  unfolding asks_join asks
   asks_join_ok d t u hs m st said = asks_out_ok d t [] (Asks u) wait.ForAnswer u.home (JoinAsk t u.seq) hs m st said refl refl refl (λ k. refl) refl refl refl refl
 
   pub halts_ok : (d : Doing) (t : Tid) (hs : List Busy) → Is d (busy t (On n Halts) ∷ hs) → Is (halts t (waits wait.No (spot d t).guest) d) hs
