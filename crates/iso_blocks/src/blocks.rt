@@ -39,6 +39,16 @@ impl Blocks {
         }
     }
 
+    /// The lowest address at which a block of at least `n` bytes fits. None exactly where there is none.
+    #[tactic(auto, using(crate::proofs::Place::place_is))]
+    pub fn place_of(&self, n: u64) -> Option<u64>
+        requires some { 1 ≤ n }
+        requires few { n ≤ 2 ^ 28 }
+        ensures { result ≡ place self.now (rounded n) }
+    {
+        self.layout.lowest(space::rounded(n))
+    }
+
     /// Places a block of at least `n` bytes at the lowest address at which it fits. None exactly where there is none.
     #[tactic(auto, using(crate::proofs::Place::place_result))]
     pub fn place(&mut self, n: u64) -> Result<Option<u64>, NoMemory>

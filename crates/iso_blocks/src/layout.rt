@@ -68,6 +68,18 @@ impl Layout {
         Ok(())
     }
 
+    /// The lowest address at which a block fits.
+    pub fn lowest(&self, size: u64) -> Option<u64>
+        requires kept { IsKept self.now }
+        requires some { 16 ≤ size }
+        ensures { IsLowestFit (heap_of self.now) size result }
+    {
+        match holes::first_fit(&self.holes, size) {
+            None => None,
+            Some(k) => Some(self.holes[k].0),
+        }
+    }
+
     /// Places a block at the lowest address at which it fits.
     pub fn place(&mut self, size: u64) -> Result<Option<u64>, NoMemory>
         requires kept { IsKept self.old }
@@ -78,10 +90,9 @@ impl Layout {
         ensures ok { IfOk result (λ place. heap_of self.new ≡ placed (heap_of self.old) size place) }
         ensures err { OnErr result (heap_of self.new ≡ heap_of self.old) }
     {
-        match holes::first_fit(&self.holes, size) {
+        match self.lowest(size) {
             None => Ok(None),
-            Some(k) => {
-                let address = self.holes[k].0;
+            Some(address) => {
                 self.settle(address, size)?;
                 Ok(Some(address))
             }

@@ -2,7 +2,7 @@
 use Rattle.std.specs.Prelude.{ℕ, ◌^◌, List, [], ◌∷◌, Option, Some, None, Bool, true, false, ◌==◌, ◌&&◌, not, nat_lt, nat_le, slice_get, if◌then◌else◌}
 use Rattle.std.specs.Map.{lookup}
 use Rattle.slot_space.specs.Replies.{reply_code, tid_value}
-use Rattle.slot_space.specs.Sets.{has, run, lowest_run}
+use Rattle.slot_space.specs.Sets.{has, lowest_run}
 use Rattle.iso_blocks.specs.Heap.{rounded, place, emptied}
 use Rattle.slot_space.specs.declared.names.Tid.{Tid}
 use Rattle.slot_space.specs.declared.names.Reply.{Reply}
@@ -25,7 +25,7 @@ use Rattle.run_trace.specs.declared.node.Wait.{Wait}
 use Rattle.run_trace.specs.declared.node.Wait.TheVariants as wait
 use Rattle.run_trace.specs.Names.{is_tid, tid_of}
 use Rattle.run_trace.specs.Program.{Program, nodes_of, code_of, processors_of, quantum_limit, main_priority}
-use Rattle.run_trace.specs.Guests.{Solo, Guest, Thread, Run, run_of, takes_slots, gives_slots, heap_of, with_placed, without_block, slots_for}
+use Rattle.run_trace.specs.Guests.{Solo, Guest, Thread, Run, run_of, heap_of, with_placed, without_block, slots_for}
 use Rattle.run_trace.specs.declared.call.Call.{Call}
 use Rattle.run_trace.specs.declared.call.Call.TheVariants.{Exit, Name, Node, Nodes, Yield, Create, Join, Isomalloc, Isofree, Print, Halt, Unknown}
 use Rattle.run_trace.specs.Calls.{call_of, refusal, bytes_of}
@@ -57,7 +57,7 @@ creates_in me t entry argument priority (Some slot) d =
 abbrev pub creates : ℕ → Tid → (entry argument priority : ℕ) → Doing → Doing
 creates me t entry argument priority d = creates_in me t entry argument priority (free_slot d.node.slots.own) d
 
--- ## Blocks; g is the guest, as it is on the node
+-- ## Blocks
 
 -- a thread that is here has its reply at once, and is this guest then
 abbrev pub settles : Tid → ℕ → Guest → Doing → Doing
@@ -68,36 +68,37 @@ place_code None = reply_code replies.Full
 place_code (Some address) = address
 
 -- the block is placed where it has a place, else the reply is Full
-abbrev pub places : Tid → ℕ → Guest → Doing → Doing
-places t size g d =
-    let address : Option ℕ = place (heap_of g.solo) size in
-    settles t (place_code address) (with_placed size address g) d
+abbrev pub places : Tid → ℕ → Thread → Doing → Doing
+places t size x d =
+    let address : Option ℕ = place (heap_of x.guest.solo) size in
+    settles t (place_code address) (with_placed size address x.guest) d
 
--- what a block that has this place or none lets its thread take
+-- the run that a thread takes for its block: none where the block has a place
 abbrev pub claimed : Option ℕ → Option ℕ → Option ℕ
 claimed (Some address) free = None
 claimed None free = free
 
 -- the run is taken, if there is one, and then the block is placed
-abbrev pub allocates_with : Tid → ℕ → Option ℕ → Guest → Doing → Doing
-allocates_with t size None g d = places t size g d
-allocates_with t size (Some first) g d =
-    places t size (takes_slots (run first (slots_for size)) g) (takes_run t first (slots_for size) g d)
+abbrev pub allocates_with : Tid → ℕ → Option ℕ → Thread → Doing → Doing
+allocates_with t size None x d = places t size x d
+allocates_with t size (Some first) x d = at_thread t (places t size) (takes_run t first (slots_for size) x.guest d)
 
 -- where a block has no place, its thread takes the node's lowest run of as many slots as the block needs
-abbrev pub allocates : Tid → ℕ → Guest → Doing → Doing
-allocates t size g d =
-    allocates_with t size (claimed (place (heap_of g.solo) size) (free_run d.node.slots.own (slots_for size))) g d
+abbrev pub allocates : Tid → ℕ → Thread → Doing → Doing
+allocates t size x d =
+    allocates_with t size (claimed (place (heap_of x.guest.solo) size) (free_run d.node.slots.own (slots_for size))) x d
 
 abbrev pub returns_any : Tid → List ℕ → Guest → Doing → Doing
 returns_any t [] g d = d
 returns_any t (s ∷ slots) g d = returns t (s ∷ slots) g d
 
+abbrev pub frees_block : Tid → ℕ → Thread → Doing → Doing
+frees_block t address x d = settles t 0 (without_block address x.guest) d
+
 -- the heap slots that no other block meets go to the node, and then the block is gone
-abbrev pub frees : Tid → ℕ → Guest → Doing → Doing
-frees t address g d =
-    let slots : List ℕ = emptied (heap_of g.solo) address in
-    settles t 0 (without_block address (gives_slots slots g)) (returns_any t slots g d)
+abbrev pub frees : Tid → ℕ → Thread → Doing → Doing
+frees t address x d =
+    at_thread t (frees_block t address) (returns_any t (emptied (heap_of x.guest.solo) address) x.guest d)
 
 -- ## Calls
 
@@ -111,8 +112,8 @@ does p me t Yield bytes d = answer t 0 (asks t Yield d)
 does p me t (Create entry argument priority) bytes d =
     creates me t entry argument priority (asks t (Create entry argument priority) d)
 does p me t (Join name) bytes d = at_thread t (asks_join t (Join name) (tid_of name)) d
-does p me t (Isomalloc len) bytes d = at_thread t (λ x. allocates t (rounded len) x.guest) (asks t (Isomalloc len) d)
-does p me t (Isofree address) bytes d = at_thread t (λ x. frees t address x.guest) (asks t (Isofree address) d)
+does p me t (Isomalloc len) bytes d = at_thread t (allocates t (rounded len)) (asks t (Isomalloc len) d)
+does p me t (Isofree address) bytes d = at_thread t (frees t address) (asks t (Isofree address) d)
 does p me t (Print address len) bytes d = at_thread t (asks_show t (Print address len) bytes) d
 does p me t Halt bytes d = at_thread t (halts t) (asks t Halt d)
 does p me t (Unknown number) bytes d = answer t (reply_code replies.BadArgument) (asks t (Unknown number) d)

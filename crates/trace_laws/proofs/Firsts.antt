@@ -9,12 +9,13 @@ use Rattle.run_trace.specs.declared.label.Label.{Label}
 use Rattle.run_trace.specs.declared.label.Label.TheVariants.{Ran}
 use Rattle.run_trace.specs.declared.label.Why.{Why}
 use Rattle.run_trace.specs.Program.{Program}
-use Rattle.run_trace.specs.Guests.{Guest, Thread, Run}
+use Rattle.iso_blocks.specs.Heap.{emptied}
+use Rattle.run_trace.specs.Guests.{Guest, Thread, Run, heap_of}
 use Rattle.run_trace.specs.declared.call.Call.{Call}
 use Rattle.run_trace.specs.declared.call.Call.TheVariants.{Exit, Name, Node, Nodes, Yield, Create, Join, Isomalloc, Isofree, Print, Halt, Unknown}
 use Rattle.run_trace.specs.Local.{Local, Doing, nothing}
 use Rattle.run_trace.specs.Steps.{thread_at, at_found, at_thread, say, put, arrive, take_off, keep, thread_in, thread_out, slots_out, slots_in, name_in, halt, birth, ran, asks, asks_show, asks_join, halts, judge, tell, tell_found, settle, takes_run, returns, gives, ends}
-use Rattle.run_trace.specs.Machine.{answer, settles, allocates_with, returns_any, end_thread, creates_in, does, calls, stopped, run_thread}
+use Rattle.run_trace.specs.Machine.{answer, settles, places, allocates_with, returns_any, frees_block, frees, end_thread, creates_in, does, calls, stopped, run_thread}
 use Rattle.run_trace.specs.Rules.{RunsFirst}
 
 append-first : (t : Tid) (vp : ℕ) (ls more : List Label) → RunsFirst t vp ls → RunsFirst t vp (ls ++ more)
@@ -63,21 +64,6 @@ module _ (t : Tid) (vp : ℕ) where
   create-first me u entry argument priority None d h = answer-first u _ d h
   create-first me u entry argument priority (Some slot) d h = answer-first u _ _ (birth-first me _ entry argument priority slot d h)
 
-  -- a reply that changes its thread
-  settles-first : (u : Tid) (code : ℕ) (g : Guest) (d : Doing) → First d → First (settles u code g d)
-  unfolding tell settle keep say
-  settles-first u code g d h = tell-found u code None _ _ (append-first t vp d.labels _ h)
-
-  allocate-first : (u : Tid) (size : ℕ) (o : Option ℕ) (g : Guest) (d : Doing) → First d → First (allocates_with u size o g d)
-  unfolding takes_run keep slots_out say
-  allocate-first u size None g d h = settles-first u _ _ d h
-  allocate-first u size (Some first) g d h = settles-first u _ _ _ (append-first t vp d.labels _ h)
-
-  return-first : (u : Tid) (slots : List ℕ) (g : Guest) (d : Doing) → First d → First (returns_any u slots g d)
-  unfolding returns keep slots_in say
-  return-first u [] g d h = h
-  return-first u (s ∷ slots) g d h = append-first t vp d.labels _ h
-
   -- a step of a thread that may be here
   at-first : (step : Thread → Doing → Doing) → ((x : Thread) (d : Doing) → First d → First (step x d)) → (u : Tid) (d : Doing) → First d → First (at_thread u step d)
   at-first step each u d h = by (thread_at u d)
@@ -85,6 +71,33 @@ module _ (t : Tid) (vp : ℕ) where
       by : (o : Option Thread) → First (at_found o step d)
       by None = h
       by (Some x) = each x d h
+
+  -- a reply that changes its thread
+  settles-first : (u : Tid) (code : ℕ) (g : Guest) (d : Doing) → First d → First (settles u code g d)
+  unfolding tell settle keep say
+  settles-first u code g d h = tell-found u code None _ _ (append-first t vp d.labels _ h)
+
+  take-first : (u : Tid) (first count : ℕ) (g : Guest) (d : Doing) → First d → First (takes_run u first count g d)
+  unfolding takes_run keep slots_out say
+  take-first u first count g d h = append-first t vp d.labels _ h
+
+  place-first : (u : Tid) (size : ℕ) (x : Thread) (d : Doing) → First d → First (places u size x d)
+  place-first u size x d h = settles-first u _ _ d h
+
+  allocate-first : (u : Tid) (size : ℕ) (o : Option ℕ) (x : Thread) (d : Doing) → First d → First (allocates_with u size o x d)
+  allocate-first u size None x d h = place-first u size x d h
+  allocate-first u size (Some first) x d h = at-first (places u size) (place-first u size) u _ (take-first u first _ _ d h)
+
+  return-first : (u : Tid) (slots : List ℕ) (g : Guest) (d : Doing) → First d → First (returns_any u slots g d)
+  unfolding returns keep slots_in say
+  return-first u [] g d h = h
+  return-first u (s ∷ slots) g d h = append-first t vp d.labels _ h
+
+  frees-block-first : (u : Tid) (address : ℕ) (x : Thread) (d : Doing) → First d → First (frees_block u address x d)
+  frees-block-first u address x d h = settles-first u _ _ d h
+
+  free-first : (u : Tid) (address : ℕ) (x : Thread) (d : Doing) → First d → First (frees u address x d)
+  free-first u address x d h = at-first (frees_block u address) (frees-block-first u address) u (returns_any u (emptied (heap_of x.guest.solo) address) x.guest d) (return-first u (emptied (heap_of x.guest.solo) address) x.guest d h)
 
   does-first : (p : Program) (me : ℕ) (u : Tid) (c : Call) (bytes : List ℕ) (d : Doing) → First d → First (does p me u c bytes d)
   does-first p me u (Exit value) bytes d h = at-first _ (λ x e k. end-first u x _ e k) u _ (asks-first u (Exit value) d h)
@@ -94,8 +107,8 @@ module _ (t : Tid) (vp : ℕ) where
   does-first p me u Yield bytes d h = answer-first u _ _ (asks-first u Yield d h)
   does-first p me u (Create e a k) bytes d h = create-first me u e a k _ _ (asks-first u (Create e a k) d h)
   does-first p me u (Join name) bytes d h = at-first _ (λ x e k. join-first u (Join name) _ x e k) u d h
-  does-first p me u (Isomalloc len) bytes d h = at-first _ (λ x e k. allocate-first u _ _ x.guest e k) u _ (asks-first u (Isomalloc len) d h)
-  does-first p me u (Isofree address) bytes d h = at-first _ (λ x e k. settles-first u _ _ _ (return-first u _ x.guest e k)) u _ (asks-first u (Isofree address) d h)
+  does-first p me u (Isomalloc len) bytes d h = at-first _ (λ x e k. allocate-first u _ _ x e k) u _ (asks-first u (Isomalloc len) d h)
+  does-first p me u (Isofree address) bytes d h = at-first _ (free-first u address) u _ (asks-first u (Isofree address) d h)
   does-first p me u (Print address len) bytes d h = at-first _ (λ x e k. show-first u (Print address len) _ x e k) u d h
   does-first p me u Halt bytes d h = at-first _ (λ x e k. halt-first u x e k) u _ (asks-first u Halt d h)
   does-first p me u (Unknown number) bytes d h = answer-first u _ _ (asks-first u (Unknown number) d h)

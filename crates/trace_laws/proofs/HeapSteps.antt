@@ -16,8 +16,8 @@ use Rattle.run_trace.specs.declared.call.Call.TheVariants.{Isomalloc, Isofree}
 use Rattle.run_trace.specs.Places.{Places}
 use Rattle.run_trace.specs.Keyed.{StandsFor, MapStandsFor}
 use Rattle.run_trace.specs.Local.{Local, Doing}
-use Rattle.run_trace.specs.Steps.{say, keep, slots_out, slots_in, takes_run, returns}
-use Rattle.run_trace.specs.Machine.{free_run, settles, place_code, places, claimed, allocates_with, allocates, returns_any, frees}
+use Rattle.run_trace.specs.Steps.{at_thread, say, keep, slots_out, slots_in, takes_run, returns}
+use Rattle.run_trace.specs.Machine.{free_run, place_code, places, claimed, allocates_with, allocates, returns_any, frees_block, frees}
 use Rattle.run_trace.specs.Cluster.{Net}
 use Rattle.run_trace.specs.Spots.{Stage, Served, On, Spot, Spots, Of_node, Of_thread, update, gave_life}
 use Rattle.run_trace.specs.Rules.{is_free, lowest_free, MayGive}
@@ -25,9 +25,9 @@ use Rattle.run_trace.specs.Stands.{Busy, busy, busy_name, busy_part, thread_part
 use Rattle.trace_laws.proofs.Tids.{is-true, is-refl}
 use Rattle.trace_laws.proofs.KeyedLemmas.{kept, map_set}
 use Rattle.trace_laws.proofs.Midst.{Links, Midst, keeps, spots_with, spots_at, spot_then, updated}
-use Rattle.trace_laws.proofs.Steps.{Ties, in_hand, thread_was, row_was, busy_was, settles_ok}
+use Rattle.trace_laws.proofs.Steps.{Ties, in_hand, thread_was, row_was, busy_was, at_ok, settles_ok}
 use Rattle.trace_laws.proofs.Lifetimes.{slots_step, given, taken, gives_change, takes_change, thread_holds, lowest_is, lowest_held}
-use Rattle.trace_laws.proofs.Heaps.{has_gives, has_takes, gives_nothing, empty_held, gave_well, gave_all, placed_well, takes_well, has_place}
+use Rattle.trace_laws.proofs.Heaps.{has_gives, has_takes, empty_held, gave_well, gave_all, placed_well, takes_well, has_place}
 
 module _ (p : Program) (net : Net) (q n : ℕ) (w : Spots) (L : Links) where
   abbrev Is : Doing → List Busy → Type 0
@@ -58,7 +58,7 @@ module _ (p : Program) (net : Net) (q n : ℕ) (w : Spots) (L : Links) where
   -- the block is placed, or the node has no run for it
   places_ok : (d : Doing) (t : Tid) (len : ℕ) (hs : List Busy) → Is d (busy t (On n (Served (Isomalloc len))) ∷ hs)
       → (place (heap_of (spot d t).guest.solo) (rounded len) ≡ None → lowest_free n (slots_for (rounded len)) (spots_at p net q n w d) ≡ None)
-      → Is (places t (rounded len) (spot d t).guest d) hs
+      → Is (places t (rounded len) (waits wait.No (spot d t).guest) d) hs
   places_ok d t len hs m full =
       let g : Guest = (spot d t).guest in
       let x : (spot d t).life ≡ On n (Served (Isomalloc len)) = in_hand p net q n w L d t (On n (Served (Isomalloc len))) hs m in
@@ -94,7 +94,7 @@ module _ (p : Program) (net : Net) (q n : ℕ) (w : Spots) (L : Links) where
   unfolding takes_run keep slots_out say
   taken_guest d t first count = ap (λ (z : Spot). z.guest) (spot_then p net q n w d (Took t first count) _ t refl ∙ updated (spots_at p net q n w d).threads t _)
 
-  pub allocates_ok : (d : Doing) (t : Tid) (len : ℕ) (hs : List Busy) → Is d (busy t (On n (Served (Isomalloc len))) ∷ hs) → Is (allocates t (rounded len) (spot d t).guest d) hs
+  pub allocates_ok : (d : Doing) (t : Tid) (len : ℕ) (hs : List Busy) → Is d (busy t (On n (Served (Isomalloc len))) ∷ hs) → Is (allocates t (rounded len) (waits wait.No (spot d t).guest) d) hs
   allocates_ok d t len hs m = by_place (place (heap_of g.solo) size) refl
     where
       g : Guest
@@ -119,19 +119,19 @@ module _ (p : Program) (net : Net) (q n : ℕ) (w : Spots) (L : Links) where
       apart : (first : ℕ) → lowest_free n count (spots_at p net q n w d) ≡ Some first → (y : ℕ) → has y (run first count) ≡ true → has y (guest_slots g) ≡ false
       apart first free y h = ap (λ z. has y (slots_held (held z g))) (sym x) ∙ m.agrees.slots t y ∙ ap (is_thread t) (lowest_held n count (spots_at p net q n w d) first y free h)
 
-      by_run : place (heap_of g.solo) size ≡ None → (o : Option ℕ) → free_run d.node.slots.own count ≡ o → Is (allocates_with t size o g d) hs
+      by_run : place (heap_of g.solo) size ≡ None → (o : Option ℕ) → free_run d.node.slots.own count ≡ o → Is (allocates_with t size o (waits wait.No g) d) hs
       by_run none None f = places_ok d t len hs m (λ e. lowest_is n count (spots_at p net q n w d) d.node _ m.here ∙ f)
       by_run none (Some first) f =
           let free : lowest_free n count (spots_at p net q n w d) ≡ Some first = lowest_is n count (spots_at p net q n w d) d.node _ m.here ∙ f in
           let low : first < 4096 = (lowest_run-found (λ y. is_free n ((spots_at p net q n w d).slots y)) count 4096 first free).below in
-          let got : Guest = takes_slots (run first count) g in
           let after : Doing = takes_run t first count g d in
-          subst (λ (z : Guest). Is (places t size z after) hs) (taken_guest d t first count)
-          (places_ok after t len hs (takes_run_ok d t len first hs m none free)
+          let k : Is after (busy t (On n a) ∷ hs) = takes_run_ok d t len first hs m none free in
+          at_ok p net q n w L after _ hs t a (places t size) k (in_hand p net q n w L after t (On n a) hs k) refl
+          (places_ok after t len hs k
           (λ e. absurd (has_place g size first count well (omega arith) low (apart first free)
           (subst (λ (z : Guest). place (heap_of z.solo) size ≡ None) (taken_guest d t first count) e))))
 
-      by_place : (o : Option ℕ) → place (heap_of g.solo) size ≡ o → Is (allocates_with t size (claimed o (free_run d.node.slots.own count)) g d) hs
+      by_place : (o : Option ℕ) → place (heap_of g.solo) size ≡ o → Is (allocates_with t size (claimed o (free_run d.node.slots.own count)) (waits wait.No g) d) hs
       by_place None e = by_run e (free_run d.node.slots.own count) refl
       by_place (Some address) e = places_ok d t len hs m (λ none. absurd (cc (e, none)))
 
@@ -166,22 +166,22 @@ module _ (p : Program) (net : Net) (q n : ℕ) (w : Spots) (L : Links) where
   -- the block is gone, once no slot is left to be given
   freed_ok : (d : Doing) (t : Tid) (address : ℕ) (hs : List Busy) → Is d (busy t (On n (Served (Isofree address))) ∷ hs)
       → emptied (heap_of (spot d t).guest.solo) address ≡ []
-      → Is (settles t 0 (without_block address (spot d t).guest) d) hs
+      → Is (at_thread t (frees_block t address) d) hs
   freed_ok d t address hs m none =
       let x : (spot d t).life ≡ On n (Served (Isofree address)) = in_hand p net q n w L d t (On n (Served (Isofree address))) hs m in
-      settles_ok p net q n w L d t 0 (without_block address (spot d t).guest) (Isofree address) hs m refl
+      at_ok p net q n w L d _ hs t (Served (Isofree address)) (frees_block t address) m x refl
+      (settles_ok p net q n w L d t 0 (without_block address (spot d t).guest) (Isofree address) hs m refl
       (record { solo = tt; holders = tt; life = rw x refl; replies = rw x ((refl, none), refl); grants = rw x tt })
-      (keeps _ _ refl)
+      (keeps _ _ refl))
 
-  pub frees_ok : (d : Doing) (t : Tid) (address : ℕ) (hs : List Busy) → Is d (busy t (On n (Served (Isofree address))) ∷ hs) → Is (frees t address (spot d t).guest d) hs
+  pub frees_ok : (d : Doing) (t : Tid) (address : ℕ) (hs : List Busy) → Is d (busy t (On n (Served (Isofree address))) ∷ hs) → Is (frees t address (waits wait.No (spot d t).guest) d) hs
   frees_ok d t address hs m = by (emptied (heap_of g.solo) address) refl
     where
       g : Guest
       g = (spot d t).guest
 
-      by : (slots : List ℕ) → emptied (heap_of g.solo) address ≡ slots → Is (settles t 0 (without_block address (gives_slots slots g)) (returns_any t slots g d)) hs
-      by [] e = subst (λ (z : Guest). Is (settles t 0 (without_block address z) d) hs) (sym (gives_nothing g)) (freed_ok d t address hs m e)
-      by (y ∷ slots) e = subst (λ (back : List ℕ). Is (settles t 0 (without_block address (gives_slots back g)) (returns t back g d)) hs) e
-          (subst (λ (z : Guest). Is (settles t 0 (without_block address z) (returns t (emptied (heap_of g.solo) address) g d)) hs) (returned_guest d t (emptied (heap_of g.solo) address))
+      by : (slots : List ℕ) → emptied (heap_of g.solo) address ≡ slots → Is (at_thread t (frees_block t address) (returns_any t slots g d)) hs
+      by [] e = freed_ok d t address hs m e
+      by (y ∷ slots) e = subst (λ (back : List ℕ). Is (at_thread t (frees_block t address) (returns t back g d)) hs) e
           (freed_ok (returns t (emptied (heap_of g.solo) address) g d) t address hs (returns_ok d t address hs m (λ none. absurd (cc (none, e))))
-          (subst (λ (z : Guest). emptied (heap_of z.solo) address ≡ []) (sym (returned_guest d t (emptied (heap_of g.solo) address))) (gave_all g address))))
+          (subst (λ (z : Guest). emptied (heap_of z.solo) address ≡ []) (sym (returned_guest d t (emptied (heap_of g.solo) address))) (gave_all g address)))

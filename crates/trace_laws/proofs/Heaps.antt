@@ -31,14 +31,6 @@ pub has_takes : (y : ℕ) (slots : List ℕ) (m : Memory) → has y (slots_of (w
 has_takes y [] m = refl
 has_takes y (s ∷ slots) m = grind (arith, has_takes y slots (with_zero_slot s m), has_inserted y (new_place m s) m (zero_slot s))
 
--- giving nothing changes nothing
-none_without : (m : Memory) → without_slots [] m ≡ m
-none_without [] = refl
-none_without (h ∷ m) = ap (λ (rest : Memory). h ∷ rest) (none_without m)
-
-pub gives_nothing : (g : Guest) → gives_slots [] g ≡ g
-gives_nothing g = ap (λ (m : Memory). record g { solo = record g.solo { state = record g.solo.state { memory = m } } }) (none_without g.solo.state.memory)
-
 -- ## Bytes
 
 in_slots_more : (xs ys : List ℕ) (x : ℕ) → ((s : ℕ) → has s xs ≡ true → has s ys ≡ true) → in_slots xs x ≡ true → in_slots ys x ≡ true
