@@ -27,7 +27,8 @@ use Rattle.trace_laws.proofs.KeyedLemmas.{kept, map_set}
 use Rattle.trace_laws.proofs.Midst.{Links, Midst, keeps, spots_with, spots_at, spot_then, updated}
 use Rattle.trace_laws.proofs.Steps.{Ties, in_hand, thread_was, row_was, busy_was, at_ok, settles_ok}
 use Rattle.trace_laws.proofs.Lifetimes.{slots_step, given, taken, gives_change, takes_change, thread_holds, lowest_is, lowest_held}
-use Rattle.trace_laws.proofs.Heaps.{has_gives, has_takes, empty_held, gave_well, gave_all, placed_well, takes_well, has_place}
+use Rattle.run_trace.proofs.HeldSlots.{has_gives, has_takes}
+use Rattle.trace_laws.proofs.Heaps.{empty_held, gave_well, gave_all, placed_well, takes_well, has_place}
 
 module _ (p : Program) (net : Net) (q n : ℕ) (w : Spots) (L : Links) where
   abbrev Is : Doing → List Busy → Type 0
