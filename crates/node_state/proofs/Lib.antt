@@ -4,4 +4,7 @@ pub mod Zeros
 pub mod Lowest
 pub mod Told
 pub mod InPlace
+pub mod Heaps
 pub mod Found
+pub mod Own
+pub mod RunsTaken

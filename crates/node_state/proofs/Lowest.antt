@@ -1,6 +1,10 @@
 -- The lowest run starts below the limit.
-use Rattle.std.proofs.Common.{◌≡◌, ℕ, zero, suc, ◌+◌, ◌<◌, Bool, true, false, Some, refl, arith}
-use Rattle.slot_space.specs.Sets.{has_run, lowest_from, lowest_run}
+use Rattle.std.proofs.Common.{◌≡◌, ℕ, zero, suc, ◌+◌, ◌-◌, ◌<◌, ◌≤◌, List, Bool, true, false, Option, Some, None, IfSome, refl, sym, ◌∙◌, arith}
+use Rattle.run_trace.specs.Machine.{free_run}
+use Rattle.std.proofs.lemmas.Bool.Decides.{nat_tests}
+use Rattle.slot_space.specs.Sets.{has, run, has_run, lowest_from, lowest_run, IsSlotSet}
+use Rattle.slot_space.proofs.Sets.{has-run}
+use Rattle.slot_space.proofs.Runs.{found}
 
 below : (set : ℕ → Bool) (count s left k : ℕ) → lowest_from set count s left ≡ Some k → k < s + left
 unfolding lowest_from
@@ -14,3 +18,16 @@ below set count s (suc left) k e = by (has_run set s count) refl (below set coun
 pub lowest_below : (set : ℕ → Bool) (count limit k : ℕ) → lowest_run set count limit ≡ Some k → k < limit
 unfolding lowest_run
 lowest_below set count limit k e = let lt = below set count 0 limit k e in omega arith
+
+-- a run of members below 4096 ends there
+pub run_within : (own : List ℕ) (count first : ℕ) → IsSlotSet own → 1 ≤ count → lowest_run (λ s. has s own) count 4096 ≡ Some first → first + count ≤ 4096
+run_within own count first proper some e =
+    let last : ℕ = first + (count - 1) in
+    let inside : has last (run first count) ≡ true = has-run last first count ∙ grind (arith, nat_tests) in
+    let member : has last own ≡ true = found (λ s. has s own) count 4096 first last e inside in
+    let low = proper.small last member in
+    omega arith
+
+pub runs_within : (own : List ℕ) (count : ℕ) (o : Option ℕ) → IsSlotSet own → 1 ≤ count → o ≡ free_run own count → IfSome o (λ first. first + count ≤ 4096)
+runs_within own count None proper some e = tt
+runs_within own count (Some first) proper some e = run_within own count first proper some (sym e)

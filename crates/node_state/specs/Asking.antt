@@ -1,52 +1,58 @@
--- The calls in code, and what their checks come to.
-use Rattle.std.specs.Prelude.{◌≡◌, ℕ, ◌<◌, ◌/◌, ◌^◌, List, Some, None, ⊤}
-use Rattle.rv_step.specs.Step.{State}
+-- What the checks of a call come to in code.
+use Rattle.std.specs.Prelude.{◌≡◌, ℕ, ◌<◌, ◌≤◌, ◌/◌, ◌^◌, List, [], Option, Some, None, true, ⊤}
 use Rattle.slot_space.specs.declared.names.Tid.{Tid}
+use Rattle.slot_space.specs.declared.names.Reply.{Reply}
+use Rattle.iso_blocks.specs.Heap.{starts_at}
+use Rattle.run_trace.specs.declared.call.Call.{Call}
+use Rattle.run_trace.specs.declared.call.Call.TheVariants.{Create, Join, Isomalloc, Isofree}
 use Rattle.run_trace.specs.Program.{Program}
-use Rattle.run_trace.specs.Calls.{Call, Exit, Self, Node, Nodes, Yield, Create, Join, Print, Halt, Unknown, refusal, bytes_of}
-use Rattle.node_state.specs.declared.call.Call.{Call as CallInCode}
-use Rattle.node_state.specs.declared.call.Call.TheVariants as code
+use Rattle.run_trace.specs.Guests.{Solo, Thread}
+use Rattle.run_trace.specs.Calls.{refusal, bytes_of}
 use Rattle.node_state.specs.declared.call.Checked.{Checked}
 use Rattle.node_state.specs.declared.call.Checked.TheVariants.{Refused, Passed}
 
--- the call that a call in code stands for
-abbrev pub seen : CallInCode → Call
-seen (code.Exit value) = Exit value
-seen code.Name = Self
-seen code.Node = Node
-seen code.Nodes = Nodes
-seen code.Yield = Yield
-seen (code.Create entry argument priority) = Create entry argument priority
-seen (code.Join name) = Join name
-seen (code.Print address len) = Print address len
-seen code.Halt = Halt
-seen (code.Unknown number) = Unknown number
-
--- a call whose checks have passed names a priority and a home that fit their types
+-- a call whose checks have passed names a priority, a home and a size that fit
 abbrev pub IsSmall : Call → Type 0
 IsSmall (Create entry argument priority) = priority < 256
 IsSmall (Join name) = name / 2 ^ 32 < 256
-IsSmall (Exit value) = ⊤
-IsSmall Self = ⊤
-IsSmall Node = ⊤
-IsSmall Nodes = ⊤
-IsSmall Yield = ⊤
-IsSmall (Print address len) = ⊤
-IsSmall Halt = ⊤
-IsSmall (Unknown number) = ⊤
+IsSmall (Isomalloc len) = (0 < len) × (len ≤ 2 ^ 28)
+IsSmall _ = ⊤
+
+-- and a block that is there
+abbrev pub NamesBlock : Call → Solo → Type 0
+NamesBlock (Isofree address) x = starts_at x.live address ≡ true
+NamesBlock _ x = ⊤
+
+abbrev pub HasBlock : ℕ → Option Thread → Type 0
+HasBlock address None = ⊤
+HasBlock address (Some x) = starts_at x.guest.solo.live address ≡ true
+
+abbrev pub NamesBlockAt : Call → Option Thread → Type 0
+NamesBlockAt c None = ⊤
+NamesBlockAt c (Some x) = NamesBlock c x.guest.solo
+
+-- the check that failed, and the bytes that the call names
+abbrev pub refused_by : Checked → Option Reply
+refused_by (Refused reply) = Some reply
+refused_by (Passed bytes) = None
+
+abbrev pub named_by : Checked → List ℕ
+named_by (Refused reply) = []
+named_by (Passed bytes) = bytes
 
 -- what has passed: no check fails, and these are the bytes that the call names
-pub record HasPassed (p : Program) (t : Tid) (s : State) (c : Call) (named : List ℕ) : Type 0 where
-  pub unrefused : refusal p t s c ≡ None
-  pub bytes : named ≡ bytes_of p s c
+pub record HasPassed (p : Program) (t : Tid) (x : Solo) (c : Call) (named : List ℕ) : Type 0 where
+  pub unrefused : refusal p t x c ≡ None
+  pub bytes : named ≡ bytes_of p x.state c
   pub small : IsSmall c
+  pub block : NamesBlock c x
 
 -- the answer of the checks is right for a call of thread t
-abbrev pub IsChecked : Program → Tid → State → Call → Checked → Type 0
-IsChecked p t s c (Refused reply) = refusal p t s c ≡ Some reply
-IsChecked p t s c (Passed bytes) = HasPassed p t s c bytes
+abbrev pub IsChecked : Program → Tid → Solo → Call → Checked → Type 0
+IsChecked p t x c (Refused reply) = refusal p t x c ≡ Some reply
+IsChecked p t x c (Passed bytes) = HasPassed p t x c bytes
 
--- where the checks have passed, the call's numbers are small
-abbrev pub CanBeDone : Call → Checked → Type 0
-CanBeDone c (Refused reply) = ⊤
-CanBeDone c (Passed bytes) = IsSmall c
+-- what a call whose checks have passed can count on, of the thread as it is here
+abbrev pub CanBeDone : Call → Option Thread → Checked → Type 0
+CanBeDone c o (Refused reply) = ⊤
+CanBeDone c o (Passed bytes) = IsSmall c × NamesBlockAt c o

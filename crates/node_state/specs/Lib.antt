@@ -1,5 +1,5 @@
 pub mod Views
 pub mod Runs
 pub mod Asking
-pub mod Here
+pub mod Heaps
 pub mod Events

@@ -1,5 +1,8 @@
 -- How the parts in code mean the parts of the definition.
-use Rattle.std.specs.Prelude.{ℕ, List, Bool}
+use Rattle.std.specs.Prelude.{◌≡◌, ℕ, List, [], ◌∷◌, Bool, true}
+use Rattle.slot_space.specs.Sets.{has, minus}
+use Rattle.iso_blocks.specs.Heap.{Heap}
+use Rattle.rv_step.specs.Memory.{slots_of}
 use Rattle.slot_space.specs.declared.names.Tid.{Tid}
 use Rattle.rv_step.specs.declared.hart.Hart.{Hart}
 use Rattle.rv_step.specs.Step.{state_of}
@@ -12,11 +15,17 @@ use Rattle.run_trace.specs.Guests.{Thread}
 use Rattle.run_trace.specs.Places.{Places}
 use Rattle.run_trace.specs.Local.{Local, Doing}
 
-abbrev pub thread_of : Wait → (priority stack : ℕ) → Hart → Thread
-thread_of wait priority stack hart = record {
+abbrev pub thread_of : Wait → (priority stack : ℕ) → Hart → List (ℕ × ℕ) → Thread
+thread_of wait priority stack hart live = record {
   wait = wait;
-  guest = record { priority = priority; solo = record { state = state_of hart; stack = stack } };
+  guest = record { priority = priority; solo = record { state = state_of hart; stack = stack; live = live } };
 }
+
+-- the slots of a hart, of which one is its stack, and the others are the slots of its blocks
+pub record IsOwn (at : ℕ) (hart : Hart) (slots : List ℕ) (blocks : Heap) : Type 0 where
+  pub held : slots_of hart.mem.0 ≡ slots
+  pub stack : has at slots ≡ true
+  pub heap : blocks.slots ≡ minus slots (at ∷ [])
 
 abbrev pub places_of : List Row → ℕ → Places
 places_of rows next = record { rows = rows; next = next }

@@ -2,18 +2,17 @@
 
 ghost use Rattle.std.specs.Prelude.{◌≡◌, ◌<◌, ◌/◌, ◌^◌, IfOk};
 ghost use Rattle.run_trace.specs.Names.{tid_of};
-ghost use Rattle.run_trace.specs.Steps.{thread_at};
-ghost use Rattle.run_trace.specs.Machine.{answer, creates};
-ghost use Rattle.node_state.specs.Asking.{seen, IsSmall, CanBeDone};
+ghost use Rattle.run_trace.specs.Steps.{at_thread, thread_at};
+ghost use Rattle.run_trace.specs.Machine.{answer, creates, does, calls, stopped};
+ghost use Rattle.node_state.specs.Asking.{IsSmall, NamesBlockAt, CanBeDone, refused_by, named_by};
 ghost use Rattle.node_state.specs.Events.{program};
-ghost use Rattle.node_state.specs.Here.{does_here, calls_here, stops_found};
 
-use crate::call::{Call, Checked};
+use crate::call::Checked;
 use crate::checks::check;
 use crate::doing::Doing;
 use basics::{Items, NoMemory};
 use marcel_core::End;
-use run_trace::{Setup, Why};
+use run_trace::{Call, Setup, Why};
 use rv_inst::Image;
 use rv_step::Stop;
 use slot_space::{NodeNo, Reply, Tid};
@@ -50,6 +49,7 @@ impl Doing {
     }
 
     /// A call past its checks, which names these bytes.
+    #[tactic(auto, using(crate::proofs::Told::asked))]
     fn does(
         &mut self,
         setup: &Setup,
@@ -59,8 +59,9 @@ impl Doing {
         call: Call,
         bytes: Items<u8>,
     ) -> Result<(), NoMemory>
-        requires { IsSmall (seen call) }
-        ensures { IfOk result (λ _. self.new ≡ does_here (program setup.now image.now) me t.now bytes (seen call) self.old) }
+        requires small { IsSmall call }
+        requires block { NamesBlockAt call (thread_at t.now self.old) }
+        ensures { IfOk result (λ _. self.new ≡ does (program setup.now image.now) me t.now call bytes self.old) }
     {
         match call {
             Call::Exit(value) => {
@@ -92,6 +93,14 @@ impl Doing {
                 self.creates(setup, me, t, entry, argument, priority as u8)
             }
             Call::Join(name) => self.asks_join(t, call, &tid_of(name)),
+            Call::Isomalloc(len) => {
+                self.asks(t, call)?;
+                self.allocates(t, len)
+            }
+            Call::Isofree(address) => {
+                self.asks(t, call)?;
+                self.frees(t, address)
+            }
             Call::Print { .. } => self.asks_show(t, call, bytes),
             Call::Halt => {
                 self.asks(t, call)?;
@@ -114,8 +123,8 @@ impl Doing {
         call: Call,
         checked: Checked,
     ) -> Result<(), NoMemory>
-        requires { CanBeDone (seen call) checked }
-        ensures { IfOk result (λ _. self.new ≡ calls_here (program setup.now image.now) me t.now (seen call) checked self.old) }
+        requires { CanBeDone call (thread_at t.now self.old) checked }
+        ensures { IfOk result (λ _. self.new ≡ calls (program setup.now image.now) me t.now call (refused_by checked) (named_by checked) self.old) }
     {
         match checked {
             Checked::Refused(reply) => {
@@ -136,7 +145,7 @@ impl Doing {
         t: &Tid,
         stop: Stop,
     ) -> Result<(), NoMemory>
-        ensures { IfOk result (λ _. self.new ≡ stops_found (program setup.now image.now) me t.now stop (thread_at t.now self.old) self.old) }
+        ensures { IfOk result (λ _. self.new ≡ at_thread t.now (stopped (program setup.now image.now) me t.now stop) self.old) }
     {
         let alloc = self.alloc;
         let node = &self.node;

@@ -3,13 +3,13 @@
 ghost use Rattle.std.specs.Prelude.{◌≡◌, ◌%◌, ◌==◌, ◌&&◌, [], is_some, IfOk};
 ghost use Rattle.rv_inst.specs.Image.{image_word};
 ghost use Rattle.node_state.specs.declared.call.Checked.TheVariants.{Passed};
-ghost use Rattle.node_state.specs.Asking.{seen, IsChecked};
+ghost use Rattle.node_state.specs.Asking.{IsChecked};
 ghost use Rattle.node_state.specs.Events.{program};
 
-use crate::call::{Call, Checked};
+use crate::call::Checked;
 use crate::thread::Thread;
 use basics::{Items, NoMemory};
-use run_trace::Setup;
+use run_trace::{Call, Setup};
 use rv_inst::Image;
 use slot_space::{Reply, Tid};
 use std::alloc::Global;
@@ -37,7 +37,7 @@ pub(crate) fn check(
     thread: &Thread,
     call: Call,
 ) -> Result<Checked, NoMemory>
-    ensures { IfOk result (λ checked. IsChecked (program setup.now image.now) t.now thread.now.guest.solo.state (seen call) checked) }
+    ensures { IfOk result (λ checked. IsChecked (program setup.now image.now) t.now thread.now.guest.solo call checked) }
 {
     match call {
         Call::Create {
@@ -67,6 +67,22 @@ pub(crate) fn check(
             match thread.bytes(alloc, image, address, len as usize)? {
                 None => Ok(Checked::Refused(Reply::BadArgument)),
                 Some(bytes) => Ok(Checked::Passed(bytes)),
+            }
+        }
+        Call::Isomalloc(len) => {
+            if len == 0 {
+                return Ok(Checked::Refused(Reply::BadArgument));
+            }
+            if len > 65536 * setup.geometry.slots() as u64 {
+                return Ok(Checked::Refused(Reply::TooLong));
+            }
+            Ok(passed(alloc))
+        }
+        Call::Isofree(address) => {
+            if thread.has_block(address) {
+                Ok(passed(alloc))
+            } else {
+                Ok(Checked::Refused(Reply::NoSuch))
             }
         }
         Call::Unknown(_) => Ok(Checked::Refused(Reply::BadArgument)),

@@ -1,23 +1,22 @@
 //! An event in its midst: the small steps, each with the word that the definition has for it.
 
-ghost use Rattle.std.specs.Prelude.{◌≡◌, ◌<◌, [], IfOk, IfSome, None};
+ghost use Rattle.std.specs.Prelude.{◌≡◌, ◌<◌, ◌∷◌, [], IfOk, IfSome, None};
 ghost use Rattle.run_trace.specs.Local.{nothing, with_booted};
 ghost use Rattle.run_trace.specs.Guests.{stack_end};
-ghost use Rattle.run_trace.specs.Steps.{say, put, print, arrive, take_off, thread_at, thread_in, thread_out, slot_out, slots_in, name_in, change_name, halt, next_name, birth, asks, judge, extra_of, tell, reply_by_link, ends, line_of, shows, acknowledges, hears, knows};
-ghost use Rattle.run_trace.specs.Machine.{free_slot};
+ghost use Rattle.run_trace.specs.Steps.{say, put, print, arrive, take_off, thread_at, at_thread, thread_in, thread_out, slots_out, slots_in, name_in, change_name, halt, next_name, birth, asks, asks_show, asks_join, halts, judge, extra_of, tell, reply_by_link, line_of, shows, acknowledges, hears, knows};
+ghost use Rattle.run_trace.specs.Machine.{free_slot, end_thread};
 ghost use Rattle.marcel_core.specs.Homes.{joined as joined_by, ended as ended_by};
-ghost use Rattle.node_state.specs.Asking.{seen};
 ghost use Rattle.node_state.specs.Events.{fresh_in};
-ghost use Rattle.node_state.specs.Here.{pause, ran_found, stop_found, gives_found, end_here, asks_show_here, asks_join_here, halts_here};
+ghost use Rattle.node_state.specs.Runs.{ran_at, stop_found};
 
-use crate::call::Call;
 use crate::done::Done;
 use crate::homes::{ended, joined};
 use crate::places::Places;
 use crate::thread::Thread;
 use basics::{Items, NoMemory};
 use marcel_core::{Birth, End};
-use run_trace::{Body, Extra, Label, Send, Setup, Wait, Why};
+use raw_slots::Pool;
+use run_trace::{Body, Call, Extra, Label, Send, Setup, Wait, Why};
 use rv_inst::Image;
 use rv_step::Stop;
 use slot_space::{NodeNo, Reply, SlotNo, SlotSet, Tid};
@@ -54,6 +53,8 @@ impl Model for State {
 pub(crate) struct Doing {
     pub(crate) alloc: Global,
     pub(crate) node: State,
+    /// Blocks for the slots of threads to come.
+    pub(crate) pool: Pool,
     labels: Vec<Label>,
     sends: Vec<Send>,
     prints: Vec<u8>,
@@ -114,10 +115,16 @@ impl Doing {
                 names: Vec::new(alloc),
                 halted: false,
             },
+            pool: Pool::new(alloc),
             labels: Vec::new(alloc),
             sends: Vec::new(alloc),
             prints: Vec::new(alloc),
         }
+    }
+
+    /// How many blocks are spare.
+    pub(crate) fn spare(&self) -> u32 {
+        self.pool.spare()
     }
 
     /// What the event has come to, taken out.
@@ -137,7 +144,7 @@ impl Doing {
 
     /// A label more.
     #[tactic(auto, unfolding(run_trace::specs::Steps::say))]
-    fn say(&mut self, label: Label) -> Result<(), NoMemory>
+    pub(crate) fn say(&mut self, label: Label) -> Result<(), NoMemory>
         ensures { IfOk result (λ _. self.new ≡ say label self.old) }
     {
         self.labels.push(label)?;
@@ -190,19 +197,21 @@ impl Doing {
         Ok(())
     }
 
-    /// The thread is here no more.
+    /// The thread is here no more, and its blocks are spare.
     #[tactic(auto, unfolding(run_trace::specs::Steps::thread_out))]
     fn thread_out(&mut self, t: &Tid)
         ensures { self.new ≡ thread_out t.now self.old }
     {
         let node = &mut self.node;
-        node.threads.remove(t);
+        if let Some(thread) = node.threads.remove(t) {
+            thread.end(&mut self.pool);
+        }
     }
 
     /// A thread gets this slot.
-    #[tactic(auto, unfolding(run_trace::specs::Steps::slot_out))]
+    #[tactic(auto, unfolding(run_trace::specs::Steps::slots_out))]
     fn slot_out(&mut self, slot: SlotNo)
-        ensures { self.new ≡ slot_out slot self.old }
+        ensures { self.new ≡ slots_out (slot ∷ []) self.old }
     {
         let node = &mut self.node;
         node.own.remove(slot);
@@ -210,7 +219,7 @@ impl Doing {
 
     /// The node gets these slots.
     #[tactic(auto, unfolding(run_trace::specs::Steps::slots_in))]
-    fn slots_in(&mut self, slots: &SlotSet)
+    pub(crate) fn slots_in(&mut self, slots: &SlotSet)
         ensures { self.new ≡ slots_in slots.now self.old }
     {
         let node = &mut self.node;
@@ -268,18 +277,6 @@ impl Doing {
         node.booted = true;
     }
 
-    /// The thread waits from now on.
-    #[tactic(auto, unfolding(crate::specs::Here::pause, run_trace::specs::Steps::keep))]
-    fn pause(&mut self, t: &Tid, wait: Wait)
-        ensures { self.new ≡ pause t.now wait self.old }
-    {
-        let node = &mut self.node;
-        let Some(thread) = node.threads.get_mut(t) else {
-            return;
-        };
-        thread.wait_for(wait);
-    }
-
     /// The name of the next thread that is born here. Want of memory is also where no more can be counted.
     pub(crate) fn next_name(&self, me: NodeNo) -> Result<Tid, NoMemory>
         ensures { IfOk result (λ t. t ≡ next_name me self.now) }
@@ -333,7 +330,8 @@ impl Doing {
         })?;
         self.slot_out(slot);
         self.name_in()?;
-        let thread = Thread::newborn(self.alloc, entry, a0, sp, slot, priority)?;
+        let pool = &mut self.pool;
+        let thread = Thread::newborn(self.alloc, pool, entry, a0, sp, slot, priority)?;
         self.thread_in(&t, thread)?;
         self.arrive(&t, priority)
     }
@@ -347,7 +345,7 @@ impl Doing {
         vp: u8,
         quantum: u32,
     ) -> Result<Option<Stop>, NoMemory>
-        ensures after { IfOk result (λ stop. self.new ≡ ran_found image.now.bytes t.now vp quantum (thread_at t.now self.old) self.old) }
+        ensures after { IfOk result (λ stop. self.new ≡ at_thread t.now (ran_at image.now.bytes t.now vp quantum) self.old) }
         ensures stop { IfOk result (λ stop. stop ≡ stop_found image.now.bytes quantum (thread_at t.now self.old)) }
     {
         let node = &mut self.node;
@@ -368,7 +366,7 @@ impl Doing {
     /// The thread asks.
     #[tactic(auto, unfolding(run_trace::specs::Steps::asks))]
     pub(crate) fn asks(&mut self, t: &Tid, call: Call) -> Result<(), NoMemory>
-        ensures { IfOk result (λ _. self.new ≡ asks t.now (seen call) self.old) }
+        ensures { IfOk result (λ _. self.new ≡ asks t.now call self.old) }
     {
         let args = call.args(self.alloc)?;
         self.say(Label::Asked {
@@ -380,34 +378,42 @@ impl Doing {
     }
 
     /// The thread asks that its line be shown: it goes to node 0.
-    #[tactic(auto, unfolding(crate::specs::Here::asks_show_here))]
+    #[tactic(auto, unfolding(run_trace::specs::Steps::asks_show, run_trace::specs::Steps::keep))]
     pub(crate) fn asks_show(
         &mut self,
         t: &Tid,
         call: Call,
         bytes: Items<u8>,
     ) -> Result<(), NoMemory>
-        ensures { IfOk result (λ _. self.new ≡ asks_show_here t.now (seen call) bytes self.old) }
+        ensures { IfOk result (λ _. self.new ≡ at_thread t.now (asks_show t.now call bytes) self.old) }
     {
         let args = call.args(self.alloc)?;
         let line = bytes.try_clone(self.alloc)?;
+        let node = &mut self.node;
+        let Some(thread) = node.threads.get_mut(t) else {
+            return Ok(());
+        };
+        thread.wait_for(Wait::ForShow);
         self.say(Label::Asked {
             t: *t,
             call: call.number(),
             args,
             bytes,
         })?;
-        self.pause(t, Wait::ForShow);
         self.put(NodeNo(0), Body::Show { t: *t, bytes: line })
     }
 
     /// The thread asks to join that one: the join goes to its home.
-    #[tactic(auto, unfolding(crate::specs::Here::asks_join_here))]
+    #[tactic(auto, unfolding(run_trace::specs::Steps::asks_join, run_trace::specs::Steps::keep))]
     pub(crate) fn asks_join(&mut self, t: &Tid, call: Call, other: &Tid) -> Result<(), NoMemory>
-        ensures { IfOk result (λ _. self.new ≡ asks_join_here t.now (seen call) other.now self.old) }
+        ensures { IfOk result (λ _. self.new ≡ at_thread t.now (asks_join t.now call other.now) self.old) }
     {
+        let node = &mut self.node;
+        let Some(thread) = node.threads.get_mut(t) else {
+            return Ok(());
+        };
+        thread.wait_for(Wait::ForAnswer);
         self.asks(t, call)?;
-        self.pause(t, Wait::ForAnswer);
         self.put(
             other.home,
             Body::JoinAsk {
@@ -418,11 +424,15 @@ impl Doing {
     }
 
     /// The thread has called halt.
-    #[tactic(auto, unfolding(crate::specs::Here::halts_here))]
+    #[tactic(auto, unfolding(run_trace::specs::Steps::halts, run_trace::specs::Steps::keep))]
     pub(crate) fn halts(&mut self, t: &Tid) -> Result<(), NoMemory>
-        ensures { IfOk result (λ _. self.new ≡ halts_here t.now self.old) }
+        ensures { IfOk result (λ _. self.new ≡ at_thread t.now (halts t.now) self.old) }
     {
-        self.pause(t, Wait::Halted);
+        let node = &mut self.node;
+        let Some(thread) = node.threads.get_mut(t) else {
+            return Ok(());
+        };
+        thread.wait_for(Wait::Halted);
         self.say(Label::Halted(*t))?;
         self.halt();
         Ok(())
@@ -481,10 +491,10 @@ impl Doing {
         )
     }
 
-    /// The thread gives all its slots back, and is here no more.
-    #[tactic(auto, unfolding(run_trace::specs::Steps::gives))]
-    fn gives(&mut self, t: &Tid) -> Result<(), NoMemory>
-        ensures { IfOk result (λ _. self.new ≡ gives_found t.now (thread_at t.now self.old) self.old) }
+    /// The thread gives all its slots back, and is here no more; it has ended, and its home gets a note.
+    #[tactic(auto, unfolding(run_trace::specs::Steps::gives, run_trace::specs::Steps::ends))]
+    pub(crate) fn end_thread(&mut self, t: &Tid, end: End) -> Result<(), NoMemory>
+        ensures { IfOk result (λ _. self.new ≡ at_thread t.now (λ x. end_thread t.now x end) self.old) }
     {
         let node = &self.node;
         let Some(thread) = node.threads.get(t) else {
@@ -498,24 +508,8 @@ impl Doing {
         })?;
         self.slots_in(&slots);
         self.thread_out(t);
-        Ok(())
-    }
-
-    /// The thread has ended, and its home gets a note.
-    #[tactic(auto, unfolding(run_trace::specs::Steps::ends))]
-    fn ends(&mut self, t: &Tid, end: End) -> Result<(), NoMemory>
-        ensures { IfOk result (λ _. self.new ≡ ends t.now end self.old) }
-    {
         self.say(Label::Ended { t: *t, end })?;
         self.put(t.home, Body::EndNote { seq: t.seq, end })
-    }
-
-    /// The thread gives its slots back, and ends.
-    pub(crate) fn end_thread(&mut self, t: &Tid, end: End) -> Result<(), NoMemory>
-        ensures { IfOk result (λ _. self.new ≡ end_here t.now end self.old) }
-    {
-        self.gives(t)?;
-        self.ends(t, end)
     }
 
     /// The thread's line is on the console.

@@ -3,11 +3,14 @@
 #![tactic(auto)]
 
 mod acts;
+mod blocks;
 mod call;
 mod calls;
 mod checks;
 mod doing;
 mod done;
+mod heap;
+mod heap_slots;
 mod homes;
 mod node;
 mod places;
@@ -15,3 +18,6 @@ mod thread;
 
 pub use done::Done;
 pub use node::NodeState;
+
+#[cfg(test)]
+mod tests;

@@ -1,25 +1,28 @@
 //! A thread that is on a node.
 
-ghost use Rattle.std.specs.Prelude.{◌≡◌, ◌<◌, ◌∷◌, [], length, IfOk, Option, None};
-ghost use Rattle.slot_space.specs.Sets.{insert};
+ghost use Rattle.std.specs.Prelude.{◌≡◌, ◌<◌, ◌≤◌, ◌+◌, ◌-◌, ◌^◌, ◌∷◌, [], length, max, min, true, IfOk, OnOk, OnErr, IsTrue, Option, None};
+ghost use Rattle.std.specs.Option.{SomeIff};
+ghost use Rattle.slot_space.specs.Sets.{insert, run};
+ghost use Rattle.iso_blocks.specs.Heap.{rounded, place, starts_at, emptied};
 ghost use Rattle.rv_step.specs.Access.{read};
 ghost use Rattle.run_trace.specs.declared.node.Wait.TheVariants as wait_of;
-ghost use Rattle.run_trace.specs.Guests.{zeros_of, waits, newborn, told, guest_slots};
+ghost use Rattle.run_trace.specs.Guests.{waits, newborn, told, guest_slots, heap_of, with_placed, without_block, takes_slots, gives_slots};
 ghost use Rattle.run_trace.specs.Calls.{call_of};
-ghost use Rattle.node_state.specs.Asking.{seen};
 ghost use Rattle.node_state.specs.Runs.{run_at, after_run};
 
-use crate::call::Call;
+use crate::blocks::{put_all, spare_block};
+use crate::heap_slots::{give_slots, take_run};
 use basics::{Items, NoMemory};
-use raw_slots::{Pool, SlotMem};
-use run_trace::Wait;
+use iso_blocks::Blocks;
+use raw_slots::Pool;
+use run_trace::{Call, Wait};
 use rv_inst::Image;
 use rv_step::{Hart, Ran};
 use slot_space::{SlotNo, SlotSet};
 use std::alloc::Global;
 use std::marker::Model;
 
-/// A thread: what it waits for, its hart with the bytes of its slots, and which slots they are.
+/// A thread: what it waits for, its hart with the bytes of its slots, which slots they are, and its blocks.
 #[derive(Drop)]
 pub struct Thread {
     wait: Wait,
@@ -27,27 +30,19 @@ pub struct Thread {
     stack: SlotNo,
     hart: Hart,
     slots: SlotSet,
+    blocks: Blocks,
 }
 
 impl Model for Thread {
-    ghost use Rattle.std.specs.Prelude.{◌≡◌};
-    ghost use Rattle.rv_step.specs.Memory.{slots_of};
     ghost use Rattle.run_trace.specs.Guests.{Thread as TheThread};
-    ghost use Rattle.node_state.specs.Views.{thread_of};
+    ghost use Rattle.node_state.specs.Views.{thread_of, IsOwn};
 
     ghost Value = { TheThread };
 
-    ghost view = { λ t. thread_of t.wait t.priority t.stack t.hart };
+    ghost view = { λ t. thread_of t.wait t.priority t.stack t.hart t.blocks.live };
 
-    ghost invariant = { λ t. slots_of t.hart.mem.0 ≡ t.slots };
-}
-
-/// The bytes of a new slot.
-#[tactic(auto, using(crate::proofs::Zeros::zeros_are))]
-fn zero_slot(alloc: Global) -> Result<SlotMem, NoMemory>
-    ensures { IfOk result (λ block. block ≡ zeros_of 65536) }
-{
-    Ok(Pool::new(alloc).take()?)
+    // The slots and blocks beside the hart are those that it holds.
+    ghost invariant = { λ t. IsOwn t.stack t.hart t.slots t.blocks };
 }
 
 /// The set of this slot alone.
@@ -62,9 +57,10 @@ fn only(slot: SlotNo) -> SlotSet
 }
 
 impl Thread {
-    /// A new thread, whose only slot is its stack.
+    /// A new thread, whose only slot is its stack: room and a spare block come first, and what follows can't fail.
     pub(crate) fn newborn(
         alloc: Global,
+        pool: &mut Pool,
         entry: u64,
         a0: u64,
         sp: u64,
@@ -72,19 +68,42 @@ impl Thread {
         priority: u8,
     ) -> Result<Thread, NoMemory>
         requires { slot < 4096 }
-        ensures { IfOk result (λ x. x ≡ waits wait_of.No (newborn entry a0 0 sp slot priority)) }
+        ensures thread { IfOk result (λ x. x ≡ waits wait_of.No (newborn entry a0 0 sp slot priority)) }
+        ensures spare { OnOk result (pool.new + 1 ≡ max pool.old 1) }
+        ensures refused { OnErr result (pool.old ≤ pool.new) }
     {
         let mut hart = Hart::birth(alloc, entry, a0, 0, sp);
+        pool.reserve(1)?;
         hart.mem.make_room(1)?;
-        let block = zero_slot(alloc)?;
-        hart.mem.grant(slot, block);
+        hart.mem.grant(slot, spare_block(pool));
         Ok(Thread {
             wait: Wait::No,
             priority,
             stack: slot,
             hart,
             slots: only(slot),
+            blocks: Blocks::new(alloc),
         })
+    }
+
+    /// It has ended, and its blocks are spare.
+    pub(crate) fn end(self, pool: &mut Pool)
+        ensures { pool.new ≡ min (pool.old + length (guest_slots self.guest)) (2 ^ 32 - 1) }
+    {
+        let Thread {
+            wait: _,
+            priority: _,
+            stack: _,
+            hart,
+            slots: _,
+            blocks: _,
+        } = self;
+        let Hart {
+            regs: _,
+            pc: _,
+            mem,
+        } = hart;
+        put_all(pool, mem);
     }
 
     /// Its priority.
@@ -142,7 +161,7 @@ impl Thread {
 
     /// What it asks at its ECALL.
     pub(crate) fn call(&self) -> Call
-        ensures { seen result ≡ call_of self.now.guest.solo.state }
+        ensures { result ≡ call_of self.now.guest.solo.state }
     {
         let regs = &self.hart.regs;
         Call::of(regs[17], regs[10], regs[11], regs[12])
@@ -167,5 +186,80 @@ impl Thread {
         let mut bytes = Vec::new(alloc);
         bytes.extend_from_slice(&buffer[..len])?;
         Ok(Some(Items::new(bytes)))
+    }
+
+    /// A live block of it starts at the address.
+    pub(crate) fn has_block(&self, address: u64) -> bool
+        ensures { result ≡ starts_at self.now.guest.solo.live address }
+    {
+        self.blocks.empties(address).is_some()
+    }
+
+    /// Where a block of at least so many bytes would be placed.
+    pub(crate) fn place_of(&self, len: u64) -> Option<u64>
+        requires some { 1 ≤ len }
+        requires few { len ≤ 2 ^ 28 }
+        ensures { result ≡ place (heap_of self.now.guest.solo) (rounded len) }
+    {
+        self.blocks.place_of(len)
+    }
+
+    /// A block of at least so many bytes is placed, where it has a place, and the thread waits no more.
+    pub(crate) fn place(&mut self, len: u64) -> Result<Option<u64>, NoMemory>
+        requires some { 1 ≤ len }
+        requires few { len ≤ 2 ^ 28 }
+        ensures address { IfOk result (λ address. address ≡ place (heap_of self.old.guest.solo) (rounded len)) }
+        ensures thread { IfOk result (λ address. self.new ≡ waits wait_of.No (with_placed (rounded len) address self.old.guest)) }
+    {
+        let address = self.blocks.place(len)?;
+        self.wait = Wait::No;
+        Ok(address)
+    }
+
+    /// It gets a run of slots for its heap. Want of memory is also where one of them is its own already.
+    pub(crate) fn take(
+        &mut self,
+        pool: &mut Pool,
+        first: SlotNo,
+        count: u16,
+    ) -> Result<(), NoMemory>
+        requires { first + count ≤ 4096 }
+        ensures thread { IfOk result (λ _. self.new ≡ waits wait_of.No (takes_slots (run first count) self.old.guest)) }
+        ensures spare { OnOk result (pool.new + count ≡ max pool.old count) }
+    {
+        let mut got = SlotSet::empty();
+        got.insert_run(first, count);
+        // Its slots ascend.
+        let _stack = self.slots.contains(self.stack);
+        if self.slots.meets(&got) {
+            return Err(NoMemory);
+        }
+        pool.reserve(count as u32)?;
+        self.hart.mem.make_room(count)?;
+        self.blocks.add_slots(first, count)?;
+        take_run(pool, &mut self.hart.mem, first.0, count);
+        self.slots.union_with(&got);
+        self.wait = Wait::No;
+        Ok(())
+    }
+
+    /// The heap slots that no other block meets, where a live block starts at the address.
+    pub(crate) fn empties(&self, address: u64) -> Option<SlotSet>
+        ensures slots { SomeIff result (IsTrue (starts_at self.now.guest.solo.live address)) (emptied (heap_of self.now.guest.solo) address) }
+    {
+        self.blocks.empties(address)
+    }
+
+    /// Its block at the address is gone, and so are the slots that no other block meets; it waits no more.
+    pub(crate) fn free(&mut self, pool: &mut Pool, address: u64)
+        requires { starts_at self.old.guest.solo.live address ≡ true }
+        ensures { self.new ≡ waits wait_of.No (without_block address (gives_slots (emptied (heap_of self.old.guest.solo) address) self.old.guest)) }
+    {
+        let Some(slots) = self.blocks.free(address) else {
+            return;
+        };
+        give_slots(pool, &mut self.hart.mem, &slots);
+        self.slots.remove_all(&slots);
+        self.wait = Wait::No;
     }
 }

@@ -1,0 +1,26 @@
+-- The steps of isomalloc and isofree, looked up where the thread stands.
+use Rattle.std.specs.Prelude.{◌≡◌, ℕ, List, [], ◌∷◌, Option, Some, None}
+use Rattle.slot_space.specs.declared.names.Tid.{Tid}
+use Rattle.iso_blocks.specs.Heap.{place, emptied}
+use Rattle.run_trace.specs.declared.label.Label.TheVariants.{Gave}
+use Rattle.run_trace.specs.declared.node.Wait.TheVariants as wait
+use Rattle.run_trace.specs.Guests.{Thread, waits, heap_of, gives_slots, without_block, slots_for}
+use Rattle.run_trace.specs.Local.{Doing}
+use Rattle.run_trace.specs.Steps.{say, keep, slots_in, takes_run}
+use Rattle.run_trace.specs.Machine.{claimed, free_run}
+
+abbrev pub claim_found : ℕ → Doing → Option Thread → Option ℕ
+claim_found size d None = None
+claim_found size d (Some x) = claimed (place (heap_of x.guest.solo) size) (free_run d.node.slots.own (slots_for size))
+
+abbrev pub takes_at : Tid → (first count : ℕ) → Thread → Doing → Doing
+takes_at t first count x d = takes_run t first count x.guest d
+
+-- the node gets these slots, where there are any, and the label says so
+unfoldable pub gives_back : Tid → List ℕ → Doing → Doing
+gives_back t [] d = d
+gives_back t (s ∷ slots) d = slots_in (s ∷ slots) (say (Gave t (s ∷ slots)) d)
+
+-- the thread's block is gone, and with it the slots that no other block meets
+abbrev pub drops_at : Tid → ℕ → Thread → Doing → Doing
+drops_at t address x d = keep t (waits wait.No (without_block address (gives_slots (emptied (heap_of x.guest.solo) address) x.guest))) d

@@ -1,0 +1,172 @@
+//! isomalloc and isofree: blocks of a thread, and the slots that it takes and gives for them.
+
+ghost use Rattle.std.specs.Prelude.{◌≡◌, ◌<◌, ◌≤◌, ◌+◌, ◌^◌, true, IfOk, IfSome};
+ghost use Rattle.iso_blocks.specs.Heap.{rounded};
+ghost use Rattle.run_trace.specs.Steps.{at_thread, thread_at};
+ghost use Rattle.run_trace.specs.Machine.{free_run, places, allocates, frees, place_code};
+ghost use Rattle.run_trace.specs.Guests.{slots_for};
+ghost use Rattle.node_state.specs.Asking.{HasBlock};
+ghost use Rattle.node_state.specs.Heaps.{claim_found, takes_at, drops_at, gives_back};
+
+use crate::doing::Doing;
+use basics::{Items, NoMemory};
+use run_trace::Label;
+use slot_space::{Reply, SlotNo, SlotSet, Tid};
+
+/// How many slots a block of at least so many bytes takes.
+fn slots_for(len: u64) -> u16
+    requires some { 1 ≤ len }
+    requires few { len ≤ 2 ^ 28 }
+    ensures count { result ≡ slots_for (rounded len) }
+    ensures some { 1 ≤ result }
+    ensures few { result ≤ 4096 }
+{
+    let size = (len + 15) / 16 * 16;
+    ((size + 65535) / 65536) as u16
+}
+
+/// The reply of a block that has this place or none.
+fn place_code(address: Option<u64>) -> u64
+    ensures { result ≡ place_code address }
+{
+    match address {
+        None => Reply::Full.code(),
+        Some(address) => address,
+    }
+}
+
+impl Doing {
+    /// The lowest run of so many slots that no thread holds.
+    fn free_run(&self, count: u16) -> Option<SlotNo>
+        requires { 1 ≤ count }
+        ensures run { result ≡ free_run self.now.node.slots.own count }
+        ensures within { IfSome result (λ first. first + count ≤ 4096) }
+    {
+        let node = &self.node;
+        // The node's slots are below 4096.
+        let _some = node.own.contains(SlotNo(0));
+        node.own.lowest_run(count)
+    }
+
+    /// The run that the thread takes for a block of at least so many bytes: none where the block has a place.
+    fn claim(&self, t: &Tid, len: u64, count: u16) -> Option<SlotNo>
+        requires some { 1 ≤ len }
+        requires few { len ≤ 2 ^ 28 }
+        requires count { count ≡ slots_for (rounded len) }
+        requires one { 1 ≤ count }
+        ensures run { result ≡ claim_found (rounded len) self.now (thread_at t.now self.now) }
+        ensures within { IfSome result (λ first. first + count ≤ 4096) }
+    {
+        let node = &self.node;
+        let Some(thread) = node.threads.get(t) else {
+            return None;
+        };
+        match thread.place_of(len) {
+            Some(_) => None,
+            None => self.free_run(count),
+        }
+    }
+
+    /// The thread takes a run of the node's slots for its heap.
+    #[tactic(auto, unfolding(run_trace::specs::Steps::takes_run, run_trace::specs::Steps::keep, run_trace::specs::Steps::slots_out))]
+    fn takes_run(&mut self, t: &Tid, first: SlotNo, count: u16) -> Result<(), NoMemory>
+        requires { first + count ≤ 4096 }
+        ensures { IfOk result (λ _. self.new ≡ at_thread t.now (takes_at t.now first count) self.old) }
+    {
+        let node = &mut self.node;
+        let pool = &mut self.pool;
+        let Some(thread) = node.threads.get_mut(t) else {
+            return Ok(());
+        };
+        thread.take(pool, first, count)?;
+        node.own.remove_run(first, count);
+        self.say(Label::Took {
+            t: *t,
+            first,
+            count,
+        })
+    }
+
+    /// The thread's block is placed where it has a place, else the reply is Full.
+    #[tactic(auto, unfolding(run_trace::specs::Steps::settle, run_trace::specs::Steps::judge, run_trace::specs::Steps::keep))]
+    fn places(&mut self, t: &Tid, len: u64) -> Result<(), NoMemory>
+        requires some { 1 ≤ len }
+        requires few { len ≤ 2 ^ 28 }
+        ensures { IfOk result (λ _. self.new ≡ at_thread t.now (places t.now (rounded len)) self.old) }
+    {
+        let node = &mut self.node;
+        let Some(thread) = node.threads.get_mut(t) else {
+            return Ok(());
+        };
+        let address = thread.place(len)?;
+        let code = place_code(address);
+        self.judge(t, code, None)?;
+        self.tell(t, code, None)
+    }
+
+    /// isomalloc, past its checks.
+    #[tactic(auto, using(crate::proofs::Heaps::placed_at_once, crate::proofs::Heaps::placed_after))]
+    pub(crate) fn allocates(&mut self, t: &Tid, len: u64) -> Result<(), NoMemory>
+        requires some { 0 < len }
+        requires few { len ≤ 2 ^ 28 }
+        ensures { IfOk result (λ _. self.new ≡ at_thread t.now (allocates t.now (rounded len)) self.old) }
+    {
+        let count = slots_for(len);
+        match self.claim(t, len, count) {
+            None => self.places(t, len),
+            Some(first) => {
+                self.takes_run(t, first, count)?;
+                self.places(t, len)
+            }
+        }
+    }
+
+    /// The node gets these slots of the thread, where there are any.
+    #[tactic(auto, unfolding(crate::specs::Heaps::gives_back))]
+    fn gives_back(&mut self, t: &Tid, slots: &SlotSet) -> Result<(), NoMemory>
+        ensures { IfOk result (λ _. self.new ≡ gives_back t.now slots.now self.old) }
+    {
+        if slots.is_empty() {
+            return Ok(());
+        }
+        let members = slots.members(self.alloc)?;
+        self.say(Label::Gave {
+            t: *t,
+            slots: Items::new(members),
+        })?;
+        self.slots_in(slots);
+        Ok(())
+    }
+
+    /// The thread's block at the address is gone, and with it the slots that no other block meets.
+    #[tactic(auto, unfolding(run_trace::specs::Steps::keep))]
+    fn drop_block(&mut self, t: &Tid, address: u64)
+        requires { HasBlock address (thread_at t.now self.old) }
+        ensures { self.new ≡ at_thread t.now (drops_at t.now address) self.old }
+    {
+        let node = &mut self.node;
+        let pool = &mut self.pool;
+        let Some(thread) = node.threads.get_mut(t) else {
+            return;
+        };
+        thread.free(pool, address);
+    }
+
+    /// isofree, past its checks.
+    pub(crate) fn frees(&mut self, t: &Tid, address: u64) -> Result<(), NoMemory>
+        requires { HasBlock address (thread_at t.now self.old) }
+        ensures { IfOk result (λ _. self.new ≡ at_thread t.now (frees t.now address) self.old) }
+    {
+        let node = &self.node;
+        let Some(thread) = node.threads.get(t) else {
+            return Ok(());
+        };
+        let Some(slots) = thread.empties(address) else {
+            return Ok(());
+        };
+        self.gives_back(t, &slots)?;
+        self.drop_block(t, address);
+        self.judge(t, 0, None)?;
+        self.tell(t, 0, None)
+    }
+}
