@@ -23,3 +23,4 @@ pub mod Consequences
 pub mod Stillness
 pub mod Beginnings
 pub mod NoStrays
+pub mod NothingOutside

@@ -125,7 +125,7 @@ none_left : (net : Net) (n : ℕ) (a : Act) → ((i : ℕ) (ps : List Packet) �
 none_left net n a h i j = elim (eqb n j) as (λ v. words_of j (net.links i j) ≡ words_of j (cond v (left_after i a (net.links i j)) (net.links i j))) [ true ↦ ap (words_of j) (sym (h i (net.links i j))) | false ↦ refl ]
 
 -- what the first packet of a link tells of its thread
-first_tells : (p : Program) (w : Spots) (net : Net) → Stands p w net → (f n : ℕ) (x : Packet) → Some x ≡ first_of (net.links f n)
+pub first_tells : (p : Program) (w : Spots) (net : Net) → Stands p w net → (f n : ℕ) (x : Packet) → Some x ≡ first_of (net.links f n)
     → Tells (word_name (word_of n x.body)) f n (word_of n x.body) (w.threads (word_name (word_of n x.body))).life (w.threads (word_name (word_of n x.body))).verdict
 first_tells p w net s f n x h =
     let t : Tid = word_name (word_of n x.body) in
@@ -193,12 +193,18 @@ module _ (p : Program) (w : Spots) (net : Net) (s : Stands p w net) (q n : ℕ) 
 
   -- ## A run
 
+  -- the thread that is picked is ready
+  pub picked_ready : (r : Row) → best (net.nodes n).places.rows ≡ Some r → (w.threads r.tid).life ≡ On n Ready
+  picked_ready r picked =
+      let t : Tid = r.tid in
+      let found : item_of is_tid listed_name (map listed (net.nodes n).places.rows) t ≡ Some (listed r) = row_found (net.nodes n).places.rows r (s.nodes n).rows.apart (best_is (net.nodes n).places.rows r picked).0 in
+      (at_row n t (w.threads t).life (w.threads t).guest.priority (listed r) (sym ((s.nodes n).rows.shows t) ∙ found)).0
+
   ran_midst : nat_lt n (nodes_of p) ≡ true → (vp : ℕ) (r : Row) (x : Thread) → best (net.nodes n).places.rows ≡ Some r → lookup (is_tid r.tid) (net.nodes n).threads ≡ Some x
       → Midst p net q n w (under_way net) (run_thread p n vp q r.tid x (nothing (net.nodes n))) []
   ran_midst below vp r x picked f =
       let t : Tid = r.tid in
-      let found : item_of is_tid listed_name (map listed (net.nodes n).places.rows) t ≡ Some (listed r) = row_found (net.nodes n).places.rows r (s.nodes n).rows.apart (best_is (net.nodes n).places.rows r picked).0 in
-      let ready : (w.threads t).life ≡ On n Ready = (at_row n t (w.threads t).life (w.threads t).guest.priority (listed r) (sym ((s.nodes n).rows.shows t) ∙ found)).0 in
+      let ready : (w.threads t).life ≡ On n Ready = picked_ready r picked in
       let same : Some (waits wait.No (w.threads t).guest) ≡ Some x = sym (on_node p net q n w (under_way net) (nothing (net.nodes n)) [] t Ready here ready) ∙ f in
       let one : waits wait.No (w.threads t).guest ≡ x = cc same in
       subst (λ z. Midst p net q n w (under_way net) (run_thread p n vp q t z (nothing (net.nodes n))) []) one (run_ok p net q n w (under_way net) below (nothing (net.nodes n)) t vp here ready)
@@ -273,10 +279,19 @@ acts_simulate p w net stamp n round (RunThread vp q) (Some x) d s below is i h =
 acts_simulate p w net stamp n round (Take from) None d s below is i h = absurd (cc i)
 acts_simulate p w net stamp n round (Move t to) (Some x) d s below is i h = absurd (cc i)
 
+-- an event is of a node of the cluster, and is what its act does
+possible : (p : Program) (n : ℕ) (s : Local) (a : Act) (o : Option Packet) (d : Doing) → local_event p n s a o ≡ Some d → (nat_lt n (nodes_of p) ≡ true) × (acts p n s a o ≡ Some d)
+possible p n s a o d is = by (is_range p n s a) refl (opened p n s a o d is)
+  where
+    by : (v : Bool) → is_range p n s a ≡ v → cond v (acts p n s a o) None ≡ Some d → (nat_lt n (nodes_of p) ≡ true) × (acts p n s a o ≡ Some d)
+    by true e g = (range_below p n s a e, g)
+    by false e g = absurd (cc g)
+
+pub event_below : (p : Program) (n : ℕ) (s : Local) (a : Act) (o : Option Packet) (d : Doing) → local_event p n s a o ≡ Some d → nat_lt n (nodes_of p) ≡ true
+event_below p n s a o d is = (possible p n s a o d is).0
+
 pub simulates : (p : Program) (w : Spots) (net : Net) (stamp n round : ℕ) (a : Act) (o : Option Packet) (d : Doing) → Stands p w net → local_event p n (net.nodes n) a o ≡ Some d → o ≡ next_packet net n a
     → Simulates p w net (event stamp n round a o d)
-simulates p w net stamp n round a o d s is h = by (is_range p n (net.nodes n) a) refl (opened p n (net.nodes n) a o d is)
-  where
-    by : (v : Bool) → is_range p n (net.nodes n) a ≡ v → cond v (acts p n (net.nodes n) a o) None ≡ Some d → Simulates p w net (event stamp n round a o d)
-    by true e g = acts_simulate p w net stamp n round a o d s (range_below p n (net.nodes n) a e) is g h
-    by false e g = absurd (cc g)
+simulates p w net stamp n round a o d s is h =
+    let k = possible p n (net.nodes n) a o d is in
+    acts_simulate p w net stamp n round a o d s k.0 is k.1 h

@@ -5,14 +5,16 @@ use Rattle.slot_space.specs.declared.names.Tid.{Tid}
 use Rattle.run_trace.specs.declared.node.Row.{Row}
 use Rattle.run_trace.specs.Names.{is_tid}
 use Rattle.run_trace.specs.Program.{Program}
-use Rattle.run_trace.specs.Guests.{Thread}
+use Rattle.run_trace.specs.Guests.{Thread, waits}
 use Rattle.run_trace.specs.Cluster.{Net}
 use Rattle.run_trace.specs.Holding.{IsOn}
 use Rattle.run_trace.specs.Keyed.{item_of}
+use Rattle.run_trace.specs.Places.{best}
 use Rattle.run_trace.specs.Outcome.{Lives, AllLinksEmpty, WaitsByItsRule, IsStuck}
 use Rattle.run_trace.specs.Rules.{IsSettled}
 use Rattle.run_trace.specs.Spots.{Stage, Ready, Running, Due, Served, Told_next, Ends, Leaves, Halts, Stays, Shows, Showing, Shown_there, Asks, Awaits, Answers, Answered, Life, Unborn, On, Noting, Gone, Response, Spots}
-use Rattle.run_trace.specs.Stands.{Stands, listed, listed_name, row_part, row_in_life, link_part, on_link, way_of, Way, word_name, words_of, phase_of, phase_at, During, thread_in_life, thread_in_stage}
+use Rattle.run_trace.specs.Stands.{Stands, listed, listed_name, row_part, row_in_life, link_part, on_link, way_of, Way, word_name, words_of, phase_of, phase_at, During, thread_in_life, thread_in_stage, wait_of}
+use Rattle.trace_laws.proofs.Simulate.{picked_ready}
 use Rattle.trace_laws.proofs.Wholes.{settled_at}
 use Rattle.trace_laws.proofs.Consequences.{OnNode, on_node_is}
 
@@ -115,6 +117,10 @@ module _ (p : Program) (w : Spots) (net : Net) (s : Stands p w net) where
   lives_there t n x h =
       let on : OnNode n (w.threads t) x = on_node_is n t (w.threads t) x (sym ((s.nodes n).threads.shows t) ∙ h) in
       subst (λ z. Lives z) (sym on.life) tt
+
+  pub picked_there : (n : ℕ) (r : Row) → best (net.nodes n).places.rows ≡ Some r → (x : Thread) × IsOn net n r.tid x
+  picked_there n r picked =
+      (waits (wait_of Ready) (w.threads r.tid).guest, (s.nodes n).threads.shows r.tid ∙ ap (λ z. thread_in_life n z (w.threads r.tid).guest) (picked_ready p w net s 0 n r picked) ∙ (rw (eq-eqb n n refl) refl))
 
   -- a thread has called halt exactly where a node says so
   pub halts_are : (n : ℕ) → (net.nodes n).halted ≡ w.halts n

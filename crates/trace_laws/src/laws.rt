@@ -1,11 +1,12 @@
 //! The laws, each as a contract.
 
-ghost use Rattle.std.specs.Prelude.{◌≡◌, ◌<◌, ℕ, List, map, ◌++◌, ◌∷◌, ◌↔◌, Some, [], false};
+ghost use Rattle.std.specs.Prelude.{◌≡◌, ◌<◌, ◌≤◌, ◌⊎◌, ℕ, List, map, ◌++◌, ◌∷◌, ◌↔◌, Some, [], false};
 ghost use Rattle.rv_step.specs.Run.{after, StopsBy};
 ghost use Rattle.rv_step.specs.Step.{State};
 ghost use Rattle.rv_step.specs.declared.hart.Stop.{Stop};
 ghost use Rattle.slot_space.specs.declared.names.Tid.{Tid};
 ghost use Rattle.run_trace.specs.declared.entry.Entry.{Entry};
+ghost use Rattle.run_trace.specs.declared.node.Row.{Row};
 ghost use Rattle.run_trace.specs.Program.{Program, nodes_of};
 ghost use Rattle.trace_laws.specs.Beginnings.{BeginsSo};
 ghost use Rattle.trace_laws.specs.Gathers.{events_in, Gathers};
@@ -17,9 +18,11 @@ ghost use Rattle.run_trace.specs.Guests.{Run, Thread, run_of};
 ghost use Rattle.run_trace.specs.Histories.{IsInOrder, Joins, taken_from, sent_to, Turn};
 ghost use Rattle.run_trace.specs.Holding.{IsOn, Has};
 ghost use Rattle.run_trace.specs.Legality.{AreRising, Begins, boot_entries, Legal, ObeysFrom};
+ghost use Rattle.run_trace.specs.Local.{fresh};
 ghost use Rattle.run_trace.specs.Outcome.{AllLinksEmpty, IsStuck, Lives};
+ghost use Rattle.run_trace.specs.Places.{best};
 ghost use Rattle.run_trace.specs.Rules.{spots_of};
-ghost use Rattle.run_trace.specs.Spots.{Holder, Spots, at_first};
+ghost use Rattle.run_trace.specs.Spots.{Holder, On, Spots, Stage, at_first};
 ghost use Rattle.run_trace.specs.Stands.{Stands};
 ghost use Rattle.run_trace.specs.Trace.{IsRun, entry_of, events_of, Fits, net_after_trace};
 
@@ -99,4 +102,17 @@ pub fn quiet()
     ensures stuck { (p : Program) (w : Spots) (net : Net) → Stands p w net → ((n : ℕ) → (net.nodes n).places.rows ≡ []) → AllLinksEmpty net → ((n : ℕ) → (net.nodes n).halted ≡ false) → (t : Tid) → Lives (w.threads t).life → IsStuck w net }
     ensures somewhere { (p : Program) (w : Spots) (net : Net) → Stands p w net → (t : Tid) → Lives (w.threads t).life → (n : ℕ) × (x : Thread) × IsOn net n t x }
     ensures lives { (p : Program) (w : Spots) (net : Net) → Stands p w net → (t : Tid) (n : ℕ) (x : Thread) → IsOn net n t x → Lives (w.threads t).life }
+{}
+
+/// In a run from the beginning, whatever is no node of the cluster is as before the first event: nothing is there, and no link
+/// leads there or from there. Each thread that is on a node is on a node of the cluster.
+pub fn inside()
+    ensures nodes { (p : Program) (lines : List Entry) → IsRun p (fresh_net p) lines → (n : ℕ) → nodes_of p ≤ n → (net_after_trace p (fresh_net p) lines).nodes n ≡ fresh p n }
+    ensures links { (p : Program) (lines : List Entry) → IsRun p (fresh_net p) lines → (i j : ℕ) → (nodes_of p ≤ i) ⊎ (nodes_of p ≤ j) → (net_after_trace p (fresh_net p) lines).links i j ≡ [] }
+    ensures lives { (p : Program) (lines : List Entry) → IsRun p (fresh_net p) lines → (t : Tid) (n : ℕ) (stage : Stage) → ((spots_of p (at_first p) lines).threads t).life ≡ On n stage → n < nodes_of p }
+{}
+
+/// The thread that a node picks from its run list is on that node.
+pub fn picked()
+    ensures { (p : Program) (w : Spots) (net : Net) → Stands p w net → (n : ℕ) (r : Row) → best (net.nodes n).places.rows ≡ Some r → (x : Thread) × IsOn net n r.tid x }
 {}

@@ -5,6 +5,6 @@
 mod laws;
 
 pub use laws::{
-    alone, begun, expected, gathered, joined, judged, legal, merged, one_holder, quiet, ran,
-    started, whole,
+    alone, begun, expected, gathered, inside, joined, judged, legal, merged, one_holder, picked,
+    quiet, ran, started, whole,
 };

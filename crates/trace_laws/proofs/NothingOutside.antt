@@ -1,0 +1,226 @@
+-- Nothing happens outside the cluster's nodes.
+use Rattle.std.proofs.Common.{◌≡◌, ℕ, ◌<◌, ◌≤◌, ◌/◌, ◌^◌, ◌⊎◌, inl, inr, List, [], ◌∷◌, ◌++◌, Option, Some, None, Bool, true, false, eqb, ltb, cond, refl, sym, ap, ◌∙◌, subst, arith}
+use Rattle.std.specs.Prelude.{nat_lt, slice_get}
+use Rattle.std.specs.Map.{lookup}
+use Rattle.std.proofs.lemmas.Bool.{ne_eqb, ltb-true, ltb-false}
+use Rattle.std.proofs.lemmas.Bool.Decides.{nat_tests}
+use Rattle.slot_space.specs.declared.names.Tid.{Tid}
+use Rattle.slot_space.specs.declared.names.Reply.{Reply}
+use Rattle.rv_step.specs.declared.hart.Stop.{Stop}
+use Rattle.rv_step.specs.Step.{State}
+use Rattle.marcel_core.specs.declared.birth.Birth.{Birth}
+use Rattle.marcel_core.specs.declared.end.End.{End}
+use Rattle.marcel_core.specs.Homes.{joiner}
+use Rattle.run_trace.specs.declared.call.Call.{Call}
+use Rattle.run_trace.specs.declared.call.Call.TheVariants.{Join}
+use Rattle.run_trace.specs.declared.entry.Act.{Act}
+use Rattle.run_trace.specs.declared.entry.Act.TheVariants.{Boot, Run, Take, Move}
+use Rattle.run_trace.specs.declared.entry.Entry.{Entry}
+use Rattle.run_trace.specs.declared.label.Label.{Label}
+use Rattle.run_trace.specs.declared.label.Label.TheVariants.{Born, Ran, Asked, Heard, Judged, Told, Took, Gave, Ended, Known, Left, Came, Lent, InHand, Decided, Returned, Home, Down, Burst, Gathered, Shown, Halted, Dropped}
+use Rattle.run_trace.specs.declared.label.Why.{Why}
+use Rattle.run_trace.specs.declared.label.Why.TheVariants as why
+use Rattle.run_trace.specs.declared.packet.Packet.{Packet}
+use Rattle.run_trace.specs.Names.{is_tid}
+use Rattle.run_trace.specs.Program.{Program, nodes_of}
+use Rattle.run_trace.specs.Guests.{Solo, Thread}
+use Rattle.run_trace.specs.Calls.{call_of, refusal}
+use Rattle.run_trace.specs.Local.{Local, fresh}
+use Rattle.run_trace.specs.Cluster.{Net, fresh_net, first_of, rest_of, left_after}
+use Rattle.run_trace.specs.Trace.{IsRun, net_after_trace}
+use Rattle.run_trace.specs.Holding.{IsOn}
+use Rattle.run_trace.specs.Outcome.{Lives}
+use Rattle.run_trace.specs.Spots.{Stage, Asks, Life, On, Spot, Spots, update, creator_served, joiner_served, heard_at, judged_life, gave_life, shown_life, ran_stage, stage_of_call, asked_stage, passed_stage, end_in, at_first, after_label, after_labels}
+use Rattle.run_trace.specs.Rules.{spots_of}
+use Rattle.run_trace.specs.Stands.{Stands, Word, Line, Line_shown, Joins, Reply as Reply_word, Ended_word}
+use Rattle.trace_laws.proofs.Parts.{Tells}
+use Rattle.trace_laws.proofs.Simulate.{event_below, first_tells}
+use Rattle.trace_laws.proofs.Wholes.{run_whole, starts}
+use Rattle.trace_laws.proofs.Consequences.{OnNode, on_node_is}
+use Rattle.trace_laws.proofs.Stillness.{is_somewhere}
+
+-- ## A join names a thread of the cluster
+
+-- the home that a join is under way to; 0 where there is none
+abbrev asked_home : Life → ℕ
+asked_home (On m (Asks u)) = u.home
+asked_home _ = 0
+
+abbrev AllAsk : Program → (Tid → Spot) → Type 0
+AllAsk p w = (t : Tid) → asked_home (w t).life < nodes_of p
+
+first_node : (p : Program) → 0 < nodes_of p
+first_node p = p.setup.geometry.some_node
+
+-- the home that a call names; 0 where it names none
+abbrev named_home : Call → ℕ
+named_home (Join name) = name / 2 ^ 32
+named_home _ = 0
+
+passed_asks : (p : Program) (n : ℕ) (t : Tid) (x : Solo) (c : Call) → asked_home (On n (passed_stage p n t x c)) ≤ named_home c
+passed_asks p n t x c = grind arith
+
+-- the checks of a call refuse a home that is no node
+named_inside : (p : Program) (t : Tid) (x : Solo) (c : Call) → refusal p t x c ≡ None → named_home c < nodes_of p
+named_inside p t x c h = grind (arith, nat_tests, h, first_node p)
+
+call_asks : (p : Program) (n : ℕ) (t : Tid) (x : Solo) → asked_home (On n (stage_of_call p n t x)) < nodes_of p
+call_asks p n t x = by (call_of x.state) (refusal p t x (call_of x.state)) refl
+  where
+    by : (c : Call) (o : Option Reply) → refusal p t x c ≡ o → asked_home (On n (asked_stage p n t x c o)) < nodes_of p
+    by c None e = omega (arith, passed_asks p n t x c, named_inside p t x c e)
+    by c (Some reply) e = first_node p
+
+-- nothing else begins to ask
+ran_asks : (n : ℕ) (stop : Stop) (s : State) → asked_home (On n (ran_stage stop s)) ≡ 0
+ran_asks n stop s = grind arith
+
+heard_asks : (births : ℕ → List Birth) (life : Life) → asked_home (heard_at births life) ≤ asked_home life
+heard_asks births life = grind arith
+
+judged_asks : (life : Life) → asked_home (judged_life life) ≤ asked_home life
+judged_asks life = grind arith
+
+gave_asks : (life : Life) → asked_home (gave_life life) ≤ asked_home life
+gave_asks life = grind arith
+
+shown_asks : (life : Life) → asked_home (shown_life life) ≤ asked_home life
+shown_asks life = grind arith
+
+asks_with : (p : Program) (w : Tid → Spot) (u : Tid) (s : Spot) → AllAsk p w → asked_home s.life < nodes_of p → AllAsk p (update w u s)
+asks_with p w u s h k t = elim (is_tid u t) as (λ v. asked_home (cond v s (w t)).life < nodes_of p) [ true ↦ k | false ↦ h t ]
+
+-- its new life asks for no other home
+asks_on : (p : Program) (w : Tid → Spot) (u : Tid) (s : Spot) → AllAsk p w → asked_home s.life ≤ asked_home (w u).life → AllAsk p (update w u s)
+asks_on p w u s h k = asks_with p w u s h (omega (arith, k, h u))
+
+creator_asks : (p : Program) (n : ℕ) (t : Tid) (why : Why) (w : Tid → Spot) → AllAsk p w → AllAsk p (creator_served n t why w)
+creator_asks p n t why.Main w h = h
+creator_asks p n t (why.Create by) w h = asks_with p w by _ h (first_node p)
+creator_asks p n t (why.Inside by bubble) w h = h
+creator_asks p n t (why.Service by count) w h = h
+
+joiner_asks : (p : Program) (t : Tid) (end : End) (o : Option (Tid × ℕ)) (w : Tid → Spot) → AllAsk p w → AllAsk p (joiner_served t end o w)
+joiner_asks p t end None w h = h
+joiner_asks p t end (Some by) w h = asks_with p w by.0 _ h (first_node p)
+
+label_asks : (p : Program) (n : ℕ) (l : Label) (w : Spots) → AllAsk p w.threads → AllAsk p (after_label p n l w).threads
+label_asks p n (Born t why entry a0 a1 sp slot) w h = asks_with p (creator_served n t why w.threads) t _ (creator_asks p n t why w.threads h) (first_node p)
+label_asks p n (Ran t vp count stop) w h = asks_with p w.threads t _ h (subst (λ k. k < nodes_of p) (sym (ran_asks n stop _)) (first_node p))
+label_asks p n (Asked t call args bytes) w h = asks_with p w.threads t _ h (call_asks p n t (w.threads t).guest.solo)
+label_asks p n (Heard t) w h = asks_on p w.threads t _ h (heard_asks w.births (w.threads t).life)
+label_asks p n (Judged t reply extra) w h = asks_on p w.threads t _ h (judged_asks (w.threads t).life)
+label_asks p n (Told t) w h = asks_with p w.threads t _ h (first_node p)
+label_asks p n (Took t first count) w h = asks_with p w.threads t _ h (h t)
+label_asks p n (Gave t slots) w h = asks_on p w.threads t _ h (gave_asks (w.threads t).life)
+label_asks p n (Ended t end) w h = asks_with p w.threads t _ h (first_node p)
+label_asks p n (Known t) w h =
+    let end : End = end_in (w.threads t).life in
+    let o : Option (Tid × ℕ) = joiner (slice_get (w.births t.home) t.seq) in
+    asks_with p (joiner_served t end o w.threads) t _ (joiner_asks p t end o w.threads h) (first_node p)
+label_asks p n (Shown t) w h = asks_on p w.threads t _ h (shown_asks (w.threads t).life)
+label_asks p n (Halted t) w h = asks_with p w.threads t _ h (first_node p)
+label_asks p n (Left t to) w h = h
+label_asks p n (Came t) w h = h
+label_asks p n (Decided t count first) w h = h
+label_asks p n (Dropped t count reply) w h = h
+label_asks p n (Lent to slots) w h = h
+label_asks p n (InHand lender slots) w h = h
+label_asks p n (Returned to slots) w h = h
+label_asks p n (Home slots) w h = h
+label_asks p n (Down bubble list) w h = h
+label_asks p n (Burst bubble list) w h = h
+label_asks p n (Gathered bubble count) w h = h
+
+labels_ask : (p : Program) (n : ℕ) (ls : List Label) (w : Spots) → AllAsk p w.threads → AllAsk p (after_labels p n ls w).threads
+labels_ask p n [] w h = h
+labels_ask p n (l ∷ ls) w h = labels_ask p n ls (after_label p n l w) (label_asks p n l w h)
+
+spots_ask : (p : Program) (lines : List Entry) → AllAsk p (spots_of p (at_first p) lines).threads
+spots_ask p [] t = first_node p
+spots_ask p (x ∷ xs) t = labels_ask p x.node x.labels (spots_of p (at_first p) xs) (spots_ask p xs) t
+
+-- ## What is no node has no event, and so sends nothing
+
+record Untouched (p : Program) (net : Net) : Type 0 where
+  nodes : (n : ℕ) → nodes_of p ≤ n → net.nodes n ≡ fresh p n
+  links : (i j : ℕ) → nodes_of p ≤ i → net.links i j ≡ []
+
+left_none : (i : ℕ) (a : Act) (ps : List Packet) → ps ≡ [] → left_after i a ps ≡ []
+left_none i Boot ps e = e
+left_none i (Run vp quantum) ps e = e
+left_none i (Move t to) ps e = e
+left_none i (Take from) ps e = rw e (elim (eqb from i) as (λ v. cond v (rest_of []) [] ≡ []) [ true ↦ refl | false ↦ refl ])
+
+taken_none : (b : Bool) (i : ℕ) (a : Act) (ps qs : List Packet) → ps ≡ [] → qs ≡ [] → cond b (left_after i a ps) ps ++ qs ≡ []
+taken_none true i a ps qs e f = rw (left_none i a ps e, f) refl
+taken_none false i a ps qs e f = rw (e, f) refl
+
+untouched : (p : Program) (lines : List Entry) → IsRun p (fresh_net p) lines → Untouched p (net_after_trace p (fresh_net p) lines)
+untouched p [] r = record { nodes = λ n l. refl; links = λ i j l. refl }
+untouched p (x ∷ xs) r =
+    let was : Untouched p (net_after_trace p (fresh_net p) xs) = untouched p xs r.0 in
+    let net : Net = net_after_trace p (fresh_net p) xs in
+    let below : x.node < nodes_of p = ltb-true x.node (nodes_of p) (event_below p x.node (net.nodes x.node) x.act _ r.1.step.done r.1.step.is) in
+    record {
+      nodes = λ n l. (let apart : eqb x.node n ≡ false = ne_eqb x.node n (λ e. absurd (omega (arith, e, l, below))) in rw apart (was.nodes n l));
+      links = λ i j l.
+          (let apart : eqb x.node i ≡ false = ne_eqb x.node i (λ e. absurd (omega (arith, e, l, below))) in
+          taken_none (eqb x.node j) i x.act (net.links i j) _ (was.links i j l) (rw apart refl));
+    }
+
+-- ## Threads on nodes, and the links that they go by
+
+module _ (p : Program) (w : Spots) (net : Net) (s : Stands p w net) (asks : AllAsk p w.threads) (out : Untouched p net) where
+  there_inside : (t : Tid) (n : ℕ) (x : Thread) → IsOn net n t x → n < nodes_of p
+  there_inside t n x h = by (ltb n (nodes_of p)) refl
+    where
+      by : (v : Bool) → ltb n (nodes_of p) ≡ v → n < nodes_of p
+      by true e = ltb-true n (nodes_of p) e
+      by false e =
+          let none : lookup (is_tid t) (net.nodes n).threads ≡ None = ap (λ (z : Local). lookup (is_tid t) z.threads) (out.nodes n (ltb-false n (nodes_of p) e)) in
+          absurd (cc (none, h))
+
+  on_inside : (t : Tid) (n : ℕ) (stage : Stage) → (w.threads t).life ≡ On n stage → n < nodes_of p
+  on_inside t n stage e =
+      let k : (m : ℕ) × (x : Thread) × IsOn net m t x = is_somewhere p w net s t (subst (λ z. Lives z) (sym e) tt) in
+      let on : OnNode k.0 (w.threads t) k.1 = on_node_is k.0 t (w.threads t) k.1 (sym ((s.nodes k.0).threads.shows t) ∙ k.2) in
+      let same : k.0 ≡ n = cc (e, on.life) in
+      subst (λ m. m < nodes_of p) same (there_inside t k.0 k.1 k.2)
+
+  -- what is said of a thread goes to a node
+  to_node : (t : Tid) (i j : ℕ) (word : Word) → Tells t i j word (w.threads t).life (w.threads t).verdict → j < nodes_of p
+  to_node t i j (Line u bytes) k = subst (λ z. z < nodes_of p) (sym k.2) (first_node p)
+  to_node t i j (Line_shown u code second) k = on_inside t j _ k.1
+  to_node t i j (Joins u target) k = subst (λ z. z < nodes_of p) (sym k.2) (subst (λ z. asked_home z < nodes_of p) k.1 (asks t))
+  to_node t i j (Reply_word u code second) k = on_inside t j _ k.1
+  to_node t i j (Ended_word u end) k = by (nat_lt t.home (nodes_of p)) refl
+    where
+      by : (v : Bool) → nat_lt t.home (nodes_of p) ≡ v → j < nodes_of p
+      by true e = subst (λ z. z < nodes_of p) (sym k.2) (ltb-true t.home (nodes_of p) e)
+      by false e = absurd (cc (k.1, s.agrees.homes t e))
+
+  links_inside : (i j : ℕ) → (nodes_of p ≤ i) ⊎ (nodes_of p ≤ j) → net.links i j ≡ []
+  links_inside i j (inl l) = out.links i j l
+  links_inside i j (inr l) = by (net.links i j) refl
+    where
+      by : (ps : List Packet) → net.links i j ≡ ps → ps ≡ []
+      by [] e = refl
+      by (x ∷ ps) e =
+          let below : j < nodes_of p = to_node _ i j _ (first_tells p w net s i j x (sym (ap first_of e))) in
+          absurd (omega (arith, below, l))
+
+-- ## The law
+
+pub record Inside (p : Program) (w : Spots) (net : Net) : Type 0 where
+  pub nodes : (n : ℕ) → nodes_of p ≤ n → net.nodes n ≡ fresh p n
+  pub links : (i j : ℕ) → (nodes_of p ≤ i) ⊎ (nodes_of p ≤ j) → net.links i j ≡ []
+  pub lives : (t : Tid) (n : ℕ) (stage : Stage) → (w.threads t).life ≡ On n stage → n < nodes_of p
+
+pub run_inside : (p : Program) (lines : List Entry) → IsRun p (fresh_net p) lines → Inside p (spots_of p (at_first p) lines) (net_after_trace p (fresh_net p) lines)
+run_inside p lines r =
+    let w : Spots = spots_of p (at_first p) lines in
+    let net : Net = net_after_trace p (fresh_net p) lines in
+    let s : Stands p w net = (run_whole p (at_first p) (fresh_net p) (starts p) lines r).stands in
+    let out : Untouched p net = untouched p lines r in
+    record { nodes = out.nodes; links = links_inside p w net s (spots_ask p lines) out; lives = on_inside p w net s (spots_ask p lines) out }
