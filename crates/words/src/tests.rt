@@ -6,27 +6,34 @@ static OPTIONS: [&str; 2] = ["nodes", "trace"];
 
 static FLAGS: [&str; 1] = ["moves"];
 
-/// What the words, with a `|` between each two, give under each name.
-fn given(alloc: Global, line: &str) -> Result<String, Fail> {
+fn grammar() -> Grammar<'static> {
+    Grammar {
+        options: &OPTIONS,
+        flags: &FLAGS,
+    }
+}
+
+/// What the words give under each name.
+fn given(alloc: Global, words: &[String]) -> Result<String, Fail> {
+    match read(alloc, grammar(), words) {
+        Ok(given) => Ok(format!(in alloc;
+            "{:?} {:?} {:?} {:?}",
+            given.values("nodes"),
+            given.values("trace"),
+            given.values("moves"),
+            given.values("FILE")
+        )?),
+        Err(error) => Ok(format!(in alloc; "{error}")?),
+    }
+}
+
+/// The same of a line of words with a `|` between each two.
+fn given_by(alloc: Global, line: &str) -> Result<String, Fail> {
     let mut words = Vec::new(alloc);
     for word in line.split('|') {
         words.push(word.to_string(alloc)?)?;
     }
-    let grammar = Grammar {
-        options: &OPTIONS,
-        flags: &FLAGS,
-    };
-    let given = match read(alloc, grammar, &words) {
-        Ok(given) => given,
-        Err(error) => return Ok(format!(in alloc; "{error}")?),
-    };
-    Ok(format!(in alloc;
-        "{:?} {:?} {:?} {:?}",
-        given.values("nodes"),
-        given.values("trace"),
-        given.values("moves"),
-        given.values("FILE")
-    )?)
+    given(alloc, &words)
 }
 
 // The rows are worked by hand from what words may be.
@@ -55,7 +62,7 @@ fn words_give_what_they_say(rt: HostRuntime) -> Result<(), Fail> {
         ("p|", "bad usage"),
     ];
     for (line, want) in rows {
-        let found = given(rt.alloc(), line)?;
+        let found = given_by(rt.alloc(), line)?;
         assert_eq!(rt; found.as_str(), want, "at {line}");
     }
     Ok(())
