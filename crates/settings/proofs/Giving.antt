@@ -1,9 +1,9 @@
 -- Settings by what is given.
-use Rattle.std.proofs.Common.{◌≡◌, ◌∙◌, ap, sym, refl, List, Option, Some, None, map}
+use Rattle.std.proofs.Common.{◌≡◌, ◌∙◌, ap, sym, List, Some}
 use Rattle.std.proofs.Math.Path.{fun_ext}
 use Rattle.words.specs.Words.{Item, GrammarOf, Text, items_of, values}
 use Rattle.settings.specs.declared.verb.Verb.{Verb}
-use Rattle.settings.specs.Settings.{Chosen, chosen_by, grammar_of, settings_by}
+use Rattle.settings.specs.Settings.{chosen_by, grammar_of, settings_by}
 
 -- what is given under each name is all that the settings need to know of the words
 pub settings_by-given : (verb : Verb) (words : List Text) (g : GrammarOf) → g ≡ grammar_of verb → (given : Text → List Text)

@@ -1,13 +1,8 @@
 -- Options whose values are numbers, and what is given at most once.
-use Rattle.std.specs.Prelude.{◌==◌, ◌&&◌, ℕ, Bool, false, not, List, [], ◌∷◌, length, Option, Some, None, if◌then◌else◌, codes, nat_le, option_and_then}
+use Rattle.std.specs.Prelude.{◌&&◌, ℕ, Bool, List, [], ◌∷◌, length, Option, Some, None, if◌then◌else◌, codes, nat_le, option_and_then}
 use Rattle.std.specs.List.{list_all}
 use Rattle.std.specs.Str.Parse.{digits_value}
-use Rattle.words.specs.Words.{Text}
-
--- a value or a name is not empty and does not begin with `-`
-abbrev pub is_name : Text → Bool
-is_name [] = false
-is_name (b ∷ bs) = not (b == 45)
+use Rattle.words.specs.Words.{Text, is_name}
 
 -- the value, if there is one; None where there are two, or where it is no name
 abbrev pub at_most_one : List Text → Option (Option Text)
@@ -51,6 +46,10 @@ turns = record { name = codes "turns"; low = 1; high = 1000000; usual = 100000 }
 
 abbrev pub seed : NumberOf
 seed = record { name = codes "seed"; low = 0; high = 18446744073709551615; usual = 0 }
+
+-- all of them
+abbrev pub number_options : List NumberOf
+number_options = slots ∷ quantum ∷ turns ∷ seed ∷ []
 
 abbrev pub number_or_usual : NumberOf → Option Text → Option ℕ
 number_or_usual o None = Some o.usual

@@ -1,9 +1,9 @@
 -- The settings that a command line asks for, as a function of all its words.
-use Rattle.std.specs.Prelude.{ℕ, List, [], ◌∷◌, map, Option, Some, None, if◌then◌else◌, codes}
+use Rattle.std.specs.Prelude.{◌≡◌, ◌≤◌, ℕ, count_by, List, [], ◌∷◌, map, Option, Some, None, if◌then◌else◌, codes}
 use Rattle.std.specs.List.{list_all}
 use Rattle.std.specs.Str.{bytes_eq}
-use Rattle.words.specs.Words.{GrammarOf, Text, file, items_of, values}
-use Rattle.settings.specs.Numbers.{is_name, number_at, slots, quantum, turns, seed}
+use Rattle.words.specs.Words.{GrammarOf, Text, file, is_name, is_use, items_of, values}
+use Rattle.settings.specs.Numbers.{NumberOf, number_at, number_options, slots, quantum, turns, seed}
 use Rattle.settings.specs.declared.verb.Verb.{Verb}
 use Rattle.settings.specs.declared.verb.Verb.TheVariants as verb
 use Rattle.settings.specs.declared.command.Command.{Command}
@@ -19,7 +19,7 @@ verb_of word =
 -- what a command takes beside its positional words
 abbrev pub grammar_of : Verb → GrammarOf
 grammar_of verb.Asm = record { options = []; flags = [] }
-grammar_of verb.Sim = record { options = map (λ o. o.name) (slots ∷ quantum ∷ turns ∷ seed ∷ []); flags = [] }
+grammar_of verb.Sim = record { options = map (λ o. o.name) number_options; flags = [] }
 
 -- a command and its positional words
 abbrev pub command_with : Verb → List Text → Option Command
@@ -65,3 +65,7 @@ settings_by verb words = some_then (items_of (grammar_of verb) words) (λ items.
 abbrev pub settings_of : List Text → Option Chosen
 settings_of [] = None
 settings_of (word ∷ words) = some_then (verb_of word) (λ verb. settings_by verb words)
+
+-- words in which the option stands twice have no settings
+abbrev pub IsOnceOnly : NumberOf → Type 0
+IsOnceOnly option = (words : List Text) → 2 ≤ count_by (is_use option.name) words → settings_of words ≡ None

@@ -2,7 +2,7 @@
 
 ghost use Rattle.std.specs.Prelude.{◌≡◌, Some, None, IfOk, IsErrOf, map};
 ghost use Rattle.std.specs.List.{list_all};
-ghost use Rattle.settings.specs.Numbers.{is_name};
+ghost use Rattle.words.specs.Words.{is_name};
 ghost use Rattle.settings.specs.Settings.{command_of};
 
 use crate::name::Name;

@@ -5,6 +5,7 @@
 mod asked;
 mod command;
 mod command_line;
+mod laws;
 mod name;
 mod number;
 mod table;

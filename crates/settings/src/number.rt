@@ -3,7 +3,8 @@
 ghost use Rattle.std.specs.Prelude.{◌≡◌, ◌≤◌, IfSome, map};
 ghost use Rattle.std.specs.Option.{option_map};
 ghost use Rattle.std.specs.List.{list_all};
-ghost use Rattle.settings.specs.Numbers.{at_most_one, is_digit, is_name, number_of};
+ghost use Rattle.words.specs.Words.{is_name};
+ghost use Rattle.settings.specs.Numbers.{at_most_one, is_digit, number_of};
 
 /// An option's name, the least and the greatest number that it takes, and the number that stands where it isn't given.
 #[derive(Clone, Copy)]

@@ -3,3 +3,4 @@ pub mod Rows
 pub mod Values
 pub mod Walks
 pub mod Parses
+pub mod Uses

@@ -1,6 +1,6 @@
 -- The command of `clap` that has these options and flags. Each use is one more value of its argument, so that nothing is
 -- refused for being given twice, and the first argument takes all positional words.
-use Rattle.std.specs.Prelude.{true, List, [], ◌∷◌, ◌++◌, map, Some, codes}
+use Rattle.std.specs.Prelude.{true, [], ◌∷◌, ◌++◌, map, Some, codes}
 use Rattle.clap.specs.Walk.{Rule}
 use Rattle.clap.specs.Simple.{App, new_app, new_rule}
 use Rattle.clap.specs.declared.builder.action.ArgAction.TheVariants.{Append}

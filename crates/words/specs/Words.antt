@@ -1,5 +1,5 @@
 -- What a list of words gives, by the options and flags that a command has.
-use Rattle.std.specs.Prelude.{◌==◌, ◌||◌, ℕ, Bool, true, false, not, List, [], ◌∷◌, map, filter, Option, Some, None, is_some, if◌then◌else◌, codes, option_and_then}
+use Rattle.std.specs.Prelude.{◌==◌, ◌||◌, ℕ, Bool, false, not, List, [], ◌∷◌, map, filter, Option, Some, None, is_some, if◌then◌else◌, codes, option_and_then}
 use Rattle.std.specs.Option.{option_map, option_map_or}
 use Rattle.std.specs.List.{list_any, list_all, before_first, after_first}
 use Rattle.std.specs.Str.{bytes_eq}
@@ -57,6 +57,19 @@ form_of word = if bytes_eq word (45 ∷ 45 ∷ []) then end else option_map_or (
 abbrev pub is_clean : Text → Bool
 is_clean [] = false
 is_clean (b ∷ bs) = not (b == 45) || is_some (without_hyphen bs)
+
+-- a value or a positional word that is asked for is not empty and does not begin with `-`
+abbrev pub is_name : Text → Bool
+is_name [] = false
+is_name (b ∷ bs) = not (b == 45)
+
+abbrev pub names_in : Text → Form → Bool
+names_in name (long n value) = bytes_eq n name
+names_in name _ = false
+
+-- whether a word is `--name` or `--name=value`
+abbrev pub is_use : Text → Text → Bool
+is_use name word = names_in name (form_of word)
 
 -- ---- all the words
 

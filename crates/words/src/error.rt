@@ -2,7 +2,6 @@
 
 ghost use Rattle.std.specs.Prelude.{◌≡◌};
 
-use basics::NoMemory;
 use std::alloc::AllocError;
 use thiserror::Error;
 
@@ -23,16 +22,6 @@ impl From<AllocError> for WordsError {
     ghost from_gives = { λ _ e. e ≡ error.NoMemory };
 
     fn from(_error: AllocError) -> WordsError {
-        WordsError::NoMemory
-    }
-}
-
-impl From<NoMemory> for WordsError {
-    ghost use Rattle.words.specs.declared.error.WordsError.TheVariants as error;
-
-    ghost from_gives = { λ _ e. e ≡ error.NoMemory };
-
-    fn from(_error: NoMemory) -> WordsError {
         WordsError::NoMemory
     }
 }

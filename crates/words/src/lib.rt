@@ -5,6 +5,7 @@
 mod error;
 mod given;
 mod grammar;
+mod laws;
 mod parser;
 mod reading;
 

@@ -1,7 +1,7 @@
 use Rattle.std.proofs.Common.{◌≡◌, ◌∙◌, sym, refl, map, false}
 use Rattle.std.specs.List.{list_all}
 use Rattle.std.proofs.lemmas.List.Folds.{list_all-map}
-use Rattle.settings.specs.Numbers.{is_name}
+use Rattle.words.specs.Words.{is_name}
 use Rattle.settings.proofs.command.command_of.Goals as goal
 
 pub returns-then-not-are_names-clause-usage : goal.returns-then-not-are_names-clause-usage
