@@ -4,7 +4,8 @@ use Rattle.std.specs.Prelude.{codes, cond, count_by}
 use Rattle.std.specs.Str.{bytes_eq}
 use Rattle.std.specs.List.{list_all}
 use Rattle.std.proofs.lemmas.List.Elements.{All-cons, All-nil}
-use Rattle.words.specs.Words.{Item, Text, file, is_name, is_use, items_of, values}
+use Rattle.words.specs.Uses.{is_use}
+use Rattle.words.specs.Words.{Item, Text, file, is_name, items_of, values}
 use Rattle.words.proofs.Rules.{same_text}
 use Rattle.words.proofs.Uses.{tally, tally_is, uses_have_values}
 use Rattle.settings.specs.declared.verb.Verb.{Verb}

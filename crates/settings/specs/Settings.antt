@@ -2,7 +2,8 @@
 use Rattle.std.specs.Prelude.{◌≡◌, ◌≤◌, ℕ, count_by, List, [], ◌∷◌, map, Option, Some, None, if◌then◌else◌, codes}
 use Rattle.std.specs.List.{list_all}
 use Rattle.std.specs.Str.{bytes_eq}
-use Rattle.words.specs.Words.{GrammarOf, Text, file, is_name, is_use, items_of, values}
+use Rattle.words.specs.Uses.{is_use}
+use Rattle.words.specs.Words.{GrammarOf, Text, file, is_name, items_of, values}
 use Rattle.settings.specs.Numbers.{NumberOf, number_at, number_options, slots, quantum, turns, seed}
 use Rattle.settings.specs.declared.verb.Verb.{Verb}
 use Rattle.settings.specs.declared.verb.Verb.TheVariants as verb

@@ -69,103 +69,69 @@ fn words_ask_for_what_they_say(rt: HostRuntime) -> Result<(), Fail> {
     Ok(())
 }
 
+// Each row has words against one rule, with a `;` between each two.
 #[test]
 fn all_other_words_are_bad_usage(rt: HostRuntime) -> Result<(), Fail> {
     assert!(rt; matches!(settings(rt.alloc(), &[]), Err(WordsError::Usage)));
-    let lines: [&str; 89] = [
-        "",
-        "|sim|p",
-        "fly|p",
-        "run|p",
-        "Sim|p",
-        "p|sim",
-        "--slots|5|sim|p",
-        "--|sim|p",
-        "help",
-        "help|sim",
-        "--help",
-        "-h",
-        "--version",
-        "-V",
-        "asm",
-        "sim",
-        "asm|p|q",
-        "sim|p|q",
-        "sim|p|--|q",
-        "asm|--",
-        "sim|--slots|5",
-        "asm|p|--slots|5",
-        "asm|p|--slots=5",
-        "asm|p|--seed|0",
-        "asm|p|--help",
-        "sim|p|--help",
-        "sim|p|-h",
-        "sim|p|--version",
-        "sim|p|-V",
-        "sim|--help",
-        "sim|p|--slots",
-        "sim|p|--quantum",
-        "sim|p|--turns",
-        "sim|p|--seed",
-        "sim|p|--slots=",
-        "sim|p|--quantum=",
-        "sim|p|--turns=",
-        "sim|p|--seed=",
-        "sim|p|--slots|",
-        "sim|p|--slots|--seed|1",
-        "sim|p|--slots|--",
-        "sim|--slots|--|5|p",
-        "sim|--slots|-|p",
-        "sim|p|--slots|0",
-        "sim|p|--slots|4097",
-        "sim|p|--quantum|0",
-        "sim|p|--quantum|65537",
-        "sim|p|--turns|0",
-        "sim|p|--turns|1000001",
-        "sim|p|--seed|18446744073709551616",
-        "sim|p|--seed=99999999999999999999",
-        "sim|p|--slots|5|--slots|5",
-        "sim|p|--slots|5|--slots|6",
-        "sim|p|--quantum=5|--quantum|5",
-        "sim|--turns|5|p|--turns=5",
-        "sim|--seed=5|p|--seed=6",
-        "sim|p|--fly",
-        "sim|p|--fly|5",
-        "sim|p|--fly=5",
-        "sim|p|--nodes|2",
-        "sim|p|--slot|5",
-        "sim|p|--slots5",
-        "sim|p|--SLOTS|5",
-        "sim|p|-s|5",
-        "sim|p|--=5",
-        "sim|p|---slots=5",
-        "sim|-p",
-        "sim|--|-p",
-        "sim|--|--slots",
-        "sim|-",
-        "sim|--|-",
-        "sim|",
-        "sim|--|",
-        "sim|p|",
-        "asm|-p",
-        "asm|",
-        "sim|p|--slots|+5",
-        "sim|p|--slots=+5",
-        "sim|p|--slots|-5",
-        "sim|p|--slots=-5",
-        "sim|p|--seed|-0",
-        "sim|p|--slots|000000000000000000016",
-        "sim|p|--slots| 5",
-        "sim|p|--slots=5 ",
-        "sim|p|--slots|0x10",
-        "sim|p|--slots|5x",
-        "sim|p|--slots|1_0",
-        "sim|p|--slots|5.0",
-        "sim|p|--slots|٥",
+    let rows: [(&str, &str); 13] = [
+        (
+            "no word is a command",
+            ";|sim|p;fly|p;run|p;Sim|p;p|sim;--slots|5|sim|p;--|sim|p",
+        ),
+        (
+            "help or the version",
+            "help;help|sim;--help;-h;--version;-V;asm|p|--help;sim|p|--help;sim|p|-h;sim|p|--version;sim|p|-V;sim|--help",
+        ),
+        (
+            "a positional word is missing",
+            "asm;sim;asm|--;sim|--slots|5",
+        ),
+        (
+            "a positional word is one too many",
+            "asm|p|q;sim|p|q;sim|p|--|q",
+        ),
+        (
+            "asm has no options",
+            "asm|p|--slots|5;asm|p|--slots=5;asm|p|--seed|0",
+        ),
+        (
+            "no value",
+            "sim|p|--slots;sim|p|--quantum;sim|p|--turns;sim|p|--seed;sim|p|--slots|--seed|1;sim|p|--slots|--;sim|--slots|--|5|p",
+        ),
+        (
+            "an empty value",
+            "sim|p|--slots=;sim|p|--quantum=;sim|p|--turns=;sim|p|--seed=;sim|p|--slots|",
+        ),
+        (
+            "out of range",
+            "sim|p|--slots|0;sim|p|--slots|4097;sim|p|--quantum|0;sim|p|--quantum|65537;sim|p|--turns|0;sim|p|--turns|1000001;sim|p|--seed|18446744073709551616;sim|p|--seed=99999999999999999999",
+        ),
+        (
+            "an option twice",
+            "sim|p|--slots|5|--slots|5;sim|p|--slots|5|--slots|6;sim|p|--quantum=5|--quantum|5;sim|--turns|5|p|--turns=5;sim|--seed=5|p|--seed=6",
+        ),
+        (
+            "an unknown option",
+            "sim|p|--fly;sim|p|--fly|5;sim|p|--fly=5;sim|p|--nodes|2;sim|p|--slot|5;sim|p|--slots5;sim|p|--SLOTS|5;sim|p|-s|5;sim|p|--=5;sim|p|---slots=5",
+        ),
+        (
+            "a name that is empty or begins with a hyphen",
+            "sim|-p;sim|--|-p;sim|--|--slots;sim|-;sim|--|-;sim|;sim|--|;sim|p|;asm|-p;asm|",
+        ),
+        (
+            "a sign",
+            "sim|p|--slots|+5;sim|p|--slots=+5;sim|p|--slots|-5;sim|p|--slots=-5;sim|p|--seed|-0;sim|--slots|-|p",
+        ),
+        (
+            "no number of one to twenty digits",
+            "sim|p|--slots|000000000000000000016;sim|p|--slots| 5;sim|p|--slots=5 ;sim|p|--slots|0x10;sim|p|--slots|5x;sim|p|--slots|1_0;sim|p|--slots|5.0;sim|p|--slots|٥",
+        ),
     ];
-    for line in lines {
-        let found = asked(rt.alloc(), line)?;
-        assert_eq!(rt; found.as_str(), "bad usage", "at {line}");
+    for (rule, lines) in rows {
+        for line in lines.split(';') {
+            let found = asked(rt.alloc(), line)?;
+            assert_eq!(rt; found.as_str(), "bad usage", "{rule}: {line}");
+        }
     }
     Ok(())
 }

@@ -25,7 +25,7 @@ Item = Text × Text
 
 -- ---- the form of a word
 
--- `--`, or `--name` or `--name=value`, or a plain word
+-- `--`, or `--name` or `--name=value`, or a plain word; `-` is 45, and `=` is 61
 pub data Form : Type 0 where
   end : Form
   long : Text → Option Text → Form
@@ -62,14 +62,6 @@ is_clean (b ∷ bs) = not (b == 45) || is_some (without_hyphen bs)
 abbrev pub is_name : Text → Bool
 is_name [] = false
 is_name (b ∷ bs) = not (b == 45)
-
-abbrev pub names_in : Text → Form → Bool
-names_in name (long n value) = bytes_eq n name
-names_in name _ = false
-
--- whether a word is `--name` or `--name=value`
-abbrev pub is_use : Text → Text → Bool
-is_use name word = names_in name (form_of word)
 
 -- ---- all the words
 

@@ -2,7 +2,8 @@
 
 ghost use Rattle.std.specs.Prelude.{◌≡◌, ◌≤◌, List, length, Some, true, count_by};
 ghost use Rattle.std.specs.List.{list_all};
-ghost use Rattle.words.specs.Words.{GrammarOf, Item, Text, file, is_name, is_use, items_of, values};
+ghost use Rattle.words.specs.Uses.{is_use};
+ghost use Rattle.words.specs.Words.{GrammarOf, Item, Text, file, is_name, items_of, values};
 
 /// Where the words give something, and no positional word begins with `-`, each use of an option or a flag gives it a value.
 fn each_use_gives_a_value()
