@@ -1,0 +1,60 @@
+-- Options whose values are numbers, and what is given at most once.
+use Rattle.std.specs.Prelude.{◌&&◌, ℕ, Bool, List, [], ◌∷◌, length, Option, Some, None, if◌then◌else◌, codes, nat_le, option_and_then}
+use Rattle.std.specs.List.{list_all}
+use Rattle.std.specs.Str.Parse.{digits_value}
+use Rattle.words.specs.Words.{Text, is_name}
+
+-- the value, if there is one; None where there are two, or where it is no name
+abbrev pub at_most_one : List Text → Option (Option Text)
+at_most_one [] = Some None
+at_most_one (v ∷ []) = if is_name v then Some (Some v) else None
+at_most_one (v ∷ w ∷ vs) = None
+
+-- ---- numbers
+
+abbrev pub is_digit : ℕ → Bool
+is_digit b = nat_le 48 b && nat_le b 57
+
+-- one to twenty digits
+abbrev pub is_number : Text → Bool
+is_number text = nat_le 1 (length text) && (nat_le (length text) 20 && list_all is_digit text)
+
+abbrev pub within : ℕ → ℕ → ℕ → Option ℕ
+within low high n = if nat_le low n && nat_le n high then Some n else None
+
+-- the number that a text writes in decimal, within these bounds
+abbrev pub number_of : ℕ → ℕ → Text → Option ℕ
+number_of low high text = if is_number text then within low high (digits_value 10 text) else None
+
+-- ---- options
+
+-- an option's name, the least and the greatest number that it takes, and the number that stands where it isn't given
+pub record NumberOf : Type 0 where
+  pub name : Text
+  pub low : ℕ
+  pub high : ℕ
+  pub usual : ℕ
+
+abbrev pub slots : NumberOf
+slots = record { name = codes "slots"; low = 1; high = 4096; usual = 256 }
+
+abbrev pub quantum : NumberOf
+quantum = record { name = codes "quantum"; low = 1; high = 65536; usual = 1000 }
+
+abbrev pub turns : NumberOf
+turns = record { name = codes "turns"; low = 1; high = 1000000; usual = 100000 }
+
+abbrev pub seed : NumberOf
+seed = record { name = codes "seed"; low = 0; high = 18446744073709551615; usual = 0 }
+
+-- all of them
+abbrev pub number_options : List NumberOf
+number_options = slots ∷ quantum ∷ turns ∷ seed ∷ []
+
+abbrev pub number_or_usual : NumberOf → Option Text → Option ℕ
+number_or_usual o None = Some o.usual
+number_or_usual o (Some text) = number_of o.low o.high text
+
+-- the option's number, by the values that are given under each name
+abbrev pub number_at : (Text → List Text) → NumberOf → Option ℕ
+number_at given o = option_and_then (number_or_usual o) (at_most_one (given o.name))

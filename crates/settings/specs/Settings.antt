@@ -1,0 +1,72 @@
+-- The settings that a command line asks for, as a function of all its words.
+use Rattle.std.specs.Prelude.{◌≡◌, ◌≤◌, ℕ, count_by, List, [], ◌∷◌, map, Option, Some, None, if◌then◌else◌, codes}
+use Rattle.std.specs.List.{list_all}
+use Rattle.std.specs.Str.{bytes_eq}
+use Rattle.words.specs.Uses.{is_use}
+use Rattle.words.specs.Words.{GrammarOf, Text, file, is_name, items_of, values}
+use Rattle.settings.specs.Numbers.{NumberOf, number_at, number_options, slots, quantum, turns, seed}
+use Rattle.settings.specs.declared.verb.Verb.{Verb}
+use Rattle.settings.specs.declared.verb.Verb.TheVariants as verb
+use Rattle.settings.specs.declared.command.Command.{Command}
+use Rattle.settings.specs.declared.command.Command.TheVariants as command
+
+-- ---- the commands
+
+abbrev pub verb_of : Text → Option Verb
+verb_of word =
+    if bytes_eq word (codes "asm") then Some verb.Asm
+    else (if bytes_eq word (codes "sim") then Some verb.Sim else None)
+
+-- what a command takes beside its positional words
+abbrev pub grammar_of : Verb → GrammarOf
+grammar_of verb.Asm = record { options = []; flags = [] }
+grammar_of verb.Sim = record { options = map (λ o. o.name) number_options; flags = [] }
+
+-- a command and its positional words
+abbrev pub command_with : Verb → List Text → Option Command
+command_with verb.Asm (name ∷ []) = Some (command.Asm name)
+command_with verb.Sim (name ∷ []) = Some (command.Sim name)
+command_with _ _ = None
+
+abbrev pub command_of : Verb → List Text → Option Command
+command_of verb names = if list_all is_name names then command_with verb names else None
+
+-- ---- the settings
+
+-- what is asked for, in numbers
+pub record Chosen : Type 0 where
+  pub command : Command
+  pub nodes : ℕ
+  pub slots : ℕ
+  pub quantum : ℕ
+  pub turns : ℕ
+  pub seed : ℕ
+
+abbrev pub some_then : {A B : Type 0} → Option A → (A → Option B) → Option B
+some_then None next = None
+some_then (Some x) next = next x
+
+-- a command with its numbers, by the values that are given under each name
+abbrev pub chosen_with : Command → (Text → List Text) → Option Chosen
+chosen_with command given =
+    some_then (number_at given slots) (λ slots.
+    some_then (number_at given quantum) (λ quantum.
+    some_then (number_at given turns) (λ turns.
+    some_then (number_at given seed) (λ seed.
+    Some (record { command = command; nodes = 1; slots = slots; quantum = quantum; turns = turns; seed = seed })))))
+
+abbrev pub chosen_by : Verb → (Text → List Text) → Option Chosen
+chosen_by verb given = some_then (command_of verb (given file)) (λ command. chosen_with command given)
+
+-- the settings of a command by the words behind it
+abbrev pub settings_by : Verb → List Text → Option Chosen
+settings_by verb words = some_then (items_of (grammar_of verb) words) (λ items. chosen_by verb (λ name. values name items))
+
+-- the settings of a command line, or none: the first word is the command
+abbrev pub settings_of : List Text → Option Chosen
+settings_of [] = None
+settings_of (word ∷ words) = some_then (verb_of word) (λ verb. settings_by verb words)
+
+-- words in which the option stands twice have no settings
+abbrev pub IsOnceOnly : NumberOf → Type 0
+IsOnceOnly option = (words : List Text) → 2 ≤ count_by (is_use option.name) words → settings_of words ≡ None

@@ -1,0 +1,48 @@
+//! What a command line asks for.
+
+ghost use Rattle.std.specs.Prelude.{◌≡◌, IfSome};
+ghost use Rattle.std.specs.Option.{option_map};
+ghost use Rattle.words.specs.Seen.{values_given};
+ghost use Rattle.settings.specs.Settings.{chosen_with};
+ghost use Rattle.settings.specs.Seen.{chosen, IsWithinLimits};
+
+use crate::command::Command;
+use crate::table::{QUANTUM, SEED, SLOTS, TURNS, number_at};
+use run_trace::Setup;
+use slot_space::Geometry;
+use words::Given;
+
+/// What a command line asks for.
+#[derive(Debug, Drop)]
+pub struct Settings {
+    pub command: Command,
+    /// The cluster.
+    pub setup: Setup,
+    /// How many rounds there are at most.
+    pub turns: u64,
+    /// What the order of events is drawn from.
+    pub seed: u64,
+}
+
+/// A command with its numbers.
+pub(crate) fn settings_with(command: Command, given: &Given) -> Option<Settings>
+    ensures value { option_map chosen result ≡ chosen_with command (values_given given.now) }
+    ensures limits { IfSome result IsWithinLimits }
+{
+    let slots = number_at(given, SLOTS)?;
+    let quantum = number_at(given, QUANTUM)?;
+    let turns = number_at(given, TURNS)?;
+    let seed = number_at(given, SEED)?;
+    Some(Settings {
+        command,
+        setup: Setup {
+            geometry: Geometry {
+                nodes: 1,
+                slots: slots as u16,
+            },
+            quantum: quantum as u32,
+        },
+        turns,
+        seed,
+    })
+}

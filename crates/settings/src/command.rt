@@ -1,0 +1,42 @@
+//! The commands with the names of their files.
+
+ghost use Rattle.std.specs.Prelude.{◌≡◌, Some, None, IfOk, IsErrOf, map};
+ghost use Rattle.std.specs.List.{list_all};
+ghost use Rattle.words.specs.Words.{is_name};
+ghost use Rattle.settings.specs.Settings.{command_of};
+
+use crate::name::Name;
+use crate::number::is_name;
+use crate::verb::Verb;
+use std::alloc::Global;
+use words::WordsError;
+
+/// What is asked for.
+#[derive(Debug, Drop)]
+pub enum Command {
+    /// To assemble this file, and list its image.
+    Asm(Name),
+    /// To assemble this file, and run it under a simulated order of events.
+    Sim(Name),
+}
+
+fn are_names(words: &[&str]) -> bool
+    ensures { result ≡ list_all (λ s. is_name s.now) words.now }
+{
+    words.iter().all(|word| is_name(word))
+}
+
+/// The command with its positional words.
+pub(crate) fn command_of(alloc: Global, verb: Verb, names: &[&str]) -> Result<Command, WordsError>
+    ensures ok { IfOk result (λ c. command_of verb (map (λ s. s.now) names.now) ≡ Some c) }
+    ensures usage { IsErrOf result WordsError.Usage → command_of verb (map (λ s. s.now) names.now) ≡ None }
+{
+    if !are_names(names) {
+        return Err(WordsError::Usage);
+    }
+    match (verb, names) {
+        (Verb::Asm, [file]) => Ok(Command::Asm(Name::of(alloc, file)?)),
+        (Verb::Sim, [file]) => Ok(Command::Sim(Name::of(alloc, file)?)),
+        _ => Err(WordsError::Usage),
+    }
+}

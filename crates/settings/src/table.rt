@@ -1,0 +1,48 @@
+//! The table of options.
+
+ghost use Rattle.std.specs.Prelude.{◌≡◌, ◌≤◌, IfSome};
+ghost use Rattle.words.specs.Seen.{values_given};
+ghost use Rattle.settings.specs.Numbers.{number_at};
+ghost use Rattle.settings.specs.Seen.{option_seen};
+
+use crate::number::{NumberOption, at_most_one, number_of};
+use words::Given;
+
+pub(crate) const SLOTS: NumberOption = NumberOption {
+    name: "slots",
+    low: 1,
+    high: 4096,
+    usual: 256,
+};
+
+pub(crate) const QUANTUM: NumberOption = NumberOption {
+    name: "quantum",
+    low: 1,
+    high: 65536,
+    usual: 1000,
+};
+
+pub(crate) const TURNS: NumberOption = NumberOption {
+    name: "turns",
+    low: 1,
+    high: 1_000_000,
+    usual: 100_000,
+};
+
+pub(crate) const SEED: NumberOption = NumberOption {
+    name: "seed",
+    low: 0,
+    high: u64::MAX,
+    usual: 0,
+};
+
+/// The option's number.
+pub(crate) fn number_at(given: &Given, option: NumberOption) -> Option<u64>
+    ensures value { result ≡ number_at (values_given given.now) (option_seen option) }
+    ensures bounds { IfSome result (λ n. (option.low ≤ n) × (n ≤ option.high)) }
+{
+    match at_most_one(given.values(option.name))? {
+        None => Some(option.usual),
+        Some(text) => number_of(text, option.low, option.high),
+    }
+}

@@ -1,0 +1,4 @@
+pub mod Words
+pub mod Parser
+pub mod Uses
+pub mod Seen
