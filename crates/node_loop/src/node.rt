@@ -54,7 +54,7 @@ impl Model for Node {
     ghost view = { λ n. view_of (program n.setup n.image) n.me n.state n.clock n.round n.entries.items n.console.items n.link.packets.items };
 
     // It is one of the cluster's nodes, and no stamp reaches the end of its type.
-    ghost invariant = { λ n. (n.clock ≤ 2 ^ 62 + length n.entries.items) × (n.me < n.setup.geometry.nodes) };
+    ghost invariant = { λ n. (n.clock ≤ 2 ^ 62 + length n.entries.items) × (n.me < n.setup.geometry.nodes) × (n.round < 2 ^ 64) };
 }
 
 impl Node {
@@ -174,19 +174,20 @@ impl Node {
     /// The node's clock is at least this from now on, and its next round begins.
     pub fn raise(&mut self, clock: u64)
         requires { clock < 2 ^ 62 }
-        ensures { self.new ≡ raised clock self.old }
+        ensures raised { self.new ≡ raised clock self.old }
+        ensures alone { StandsAlone self.old → clock ≤ self.old.clock → StandsAlone self.new }
     {
         self.clock = self.clock.max(clock);
         self.round = self.round.saturating_add(1);
     }
 
     /// Whether a thread can be picked, or the link holds a packet.
-    pub fn possible(&self, act: Act) -> bool
-        ensures { result ≡ can self.now act }
+    pub fn possible(&self, act: &Act) -> bool
+        ensures { result ≡ can self.now act.now }
     {
         match act {
             Act::Run(_, _) => self.state.ready() > 0,
-            Act::Take(from) => self.has_packet(from),
+            Act::Take(from) => self.has_packet(*from),
             _ => false,
         }
     }

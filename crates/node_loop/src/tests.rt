@@ -373,7 +373,7 @@ fn node_after(alloc: Global, row: &Row) -> Result<(Node, bool), Fail> {
             return Err("each act is possible".into());
         }
     }
-    let is_still = !node.possible(Act::Run(0, 1000)) && !node.has_packet(NodeNo(0));
+    let is_still = !node.possible(&Act::Run(0, 1000)) && !node.has_packet(NodeNo(0));
     Ok((node, is_still))
 }
 
