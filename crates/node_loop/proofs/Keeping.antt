@@ -231,13 +231,21 @@ module _ (p : Program) (state : Local) (clock round : ℕ) (entries : List Entry
         clock = omega (arith, stamp_is, longer, s.clock);
       }
 
+-- what a turn of the only node comes to
+pub record Keeps (v : NodeView) (act : Act) (done : Doing) : Type 0 where
+  pub stands : StandsAlone (after_turn v act done)
+  pub later : (after_turn v act done).clock ≡ suc v.clock
+
 -- a turn of the only node keeps that it stands for its trace
-pub keeps : (v : NodeView) → StandsAlone v → length v.entries < entry_limit → (act : Act) → IsInRange v act → (done : Doing) → done_by v act ≡ Some done → StandsAlone (after_turn v act done)
+pub keeps : (v : NodeView) → StandsAlone v → length v.entries < entry_limit → (act : Act) → IsInRange v act → (done : Doing) → done_by v act ≡ Some done → Keeps v act done
 keeps v s few act r done e = by v.me (sym s.me) s r e
   where
     with_me : ℕ → NodeView
     with_me m = view_of v.program m v.state v.clock v.round v.entries v.console v.link
 
-    by : (m : ℕ) → 0 ≡ m → StandsAlone (with_me m) → IsInRange (with_me m) act → done_by (with_me m) act ≡ Some done → StandsAlone (after_turn (with_me m) act done)
-    by m h = subst (λ k. StandsAlone (with_me k) → IsInRange (with_me k) act → done_by (with_me k) act ≡ Some done → StandsAlone (after_turn (with_me k) act done)) h
-        (λ s r e. kept v.program v.state v.clock v.round v.entries v.console v.link s few act r done e)
+    by : (m : ℕ) → 0 ≡ m → StandsAlone (with_me m) → IsInRange (with_me m) act → done_by (with_me m) act ≡ Some done → Keeps (with_me m) act done
+    by m h = subst (λ k. StandsAlone (with_me k) → IsInRange (with_me k) act → done_by (with_me k) act ≡ Some done → Keeps (with_me k) act done) h
+        (λ s r e. record {
+          stands = kept v.program v.state v.clock v.round v.entries v.console v.link s few act r done e;
+          later = stamp_is v.program v.state v.clock v.round v.entries v.console v.link s few act r done e;
+        })

@@ -17,7 +17,12 @@ use Rattle.node_loop.proofs.Keeping.{keeps}
 -- the only node stands for its trace again
 pub alone_kept : (old new : NodeView) (act : Act) → StandsAlone old → length old.entries < entry_limit → IsInRange old act → (t : Turned) → Turns old act new t → StandsAlone new
 alone_kept old new act s few r Idle h = subst (λ v. StandsAlone v) (sym h.1) s
-alone_kept old new act s few r Did h = subst (λ v. StandsAlone v) (sym h.2) (keeps old s few act r h.0 h.1)
+alone_kept old new act s few r Did h = subst (λ v. StandsAlone v) (sym h.2) (keeps old s few act r h.0 h.1).stands
+
+-- its clock goes on by one
+pub one_later : (old new : NodeView) (act : Act) → StandsAlone old → length old.entries < entry_limit → IsInRange old act → (t : Turned) → Turns old act new t → t ≡ Did → new.clock ≡ suc old.clock
+one_later old new act s few r Idle h e = absurd (cc e)
+one_later old new act s few r Did h e = ap (λ (v : NodeView). v.clock) h.2 ∙ (keeps old s few act r h.0 h.1).later
 
 -- it has begun, still
 pub still_booted : (old new : NodeView) (act : Act) → old.state.booted ≡ true → (t : Turned) → Turns old act new t → new.state.booted ≡ true

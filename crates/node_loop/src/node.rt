@@ -107,6 +107,7 @@ impl Node {
         ensures turned { IfOk result (λ turned. Turns self.old act self.new turned) }
         ensures idle { StandsAlone self.old → IfOk result (λ turned. (turned ≡ Turned.Idle) ↔ (can self.old act ≡ false)) }
         ensures alone { StandsAlone self.old → OnOk result (StandsAlone self.new) }
+        ensures later { StandsAlone self.old → IfOk result (λ turned. turned ≡ Turned.Did → self.new.clock ≡ suc self.old.clock) }
         ensures still { OnOk result (self.new.state.booted ≡ true) }
         ensures err { OnErr result (IsLost self.old self.new) }
     {
