@@ -1,6 +1,6 @@
 //! A node.
 
-ghost use Rattle.std.specs.Prelude.{◌≡◌, IfOk};
+ghost use Rattle.std.specs.Prelude.{◌≡◌, IfOk, length};
 ghost use Rattle.run_trace.specs.Machine.{local_event};
 ghost use Rattle.node_state.specs.Events.{program, fresh_in, Answers};
 
@@ -61,5 +61,26 @@ impl NodeState {
         let result = self.doing.event(setup, image, me, &act, took);
         let done = self.doing.take_done();
         if result? { Ok(Some(done)) } else { Ok(None) }
+    }
+
+    /// How many threads are on the run list.
+    pub fn ready(&self) -> usize
+        ensures { result ≡ length self.now.places.rows }
+    {
+        self.doing.node.places.count()
+    }
+
+    /// How many threads are here and live.
+    pub fn threads(&self) -> usize
+        ensures { result ≡ length self.now.threads }
+    {
+        self.doing.node.threads.len()
+    }
+
+    /// Whether a thread has called halt here.
+    pub fn halted(&self) -> bool
+        ensures { result ≡ self.now.halted }
+    {
+        self.doing.node.halted
     }
 }

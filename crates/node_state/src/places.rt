@@ -1,6 +1,6 @@
 //! The run list of a node.
 
-ghost use Rattle.std.specs.Prelude.{◌≡◌, IfOk, Some, []};
+ghost use Rattle.std.specs.Prelude.{◌≡◌, IfOk, Some, [], length};
 ghost use Rattle.std.specs.List.{position};
 ghost use Rattle.run_trace.specs.Names.{is_tid};
 ghost use Rattle.run_trace.specs.Places.{arrived, without_row, taken_off, better, best_of, best};
@@ -105,6 +105,13 @@ impl Places {
         ensures { self.new ≡ taken_off t self.old }
     {
         row_out(&mut self.rows, t);
+    }
+
+    /// How many threads are on the list.
+    pub(crate) fn count(&self) -> usize
+        ensures { result ≡ length self.now.rows }
+    {
+        self.rows.len()
     }
 
     /// The row that is picked.

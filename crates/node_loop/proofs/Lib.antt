@@ -1,0 +1,7 @@
+mod Booted
+mod Keeping
+mod Stepping
+mod Turning
+mod Possible
+mod Beginning
+mod Locally

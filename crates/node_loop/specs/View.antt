@@ -1,0 +1,45 @@
+-- A node as its callers see it.
+use Rattle.std.specs.Prelude.{ℕ, suc, ◌-◌, ◌^◌, List, [], max, min}
+use Rattle.run_trace.specs.declared.entry.Entry.{Entry}
+use Rattle.run_trace.specs.declared.packet.Packet.{Packet}
+use Rattle.run_trace.specs.Program.{Program}
+use Rattle.run_trace.specs.Local.{Local, fresh}
+
+pub record NodeView : Type 0 where
+  pub program : Program
+  pub me : ℕ
+  pub state : Local
+  pub clock : ℕ  -- none of its stamps is above it
+  pub round : ℕ
+  pub entries : List Entry  -- oldest first
+  pub console : List ℕ  -- the lines that it has shown
+  pub link : List Packet  -- what it has sent to itself and not taken, oldest first
+
+-- node n before it begins
+abbrev pub unbooted : Program → ℕ → NodeView
+unbooted p n = record {
+  program = p;
+  me = n;
+  state = fresh p n;
+  clock = 0;
+  round = 0;
+  entries = [];
+  console = [];
+  link = [];
+}
+
+abbrev pub view_of : Program → (me : ℕ) → Local → (clock round : ℕ) → List Entry → List ℕ → List Packet → NodeView
+view_of p me state clock round entries console link = record {
+  program = p;
+  me = me;
+  state = state;
+  clock = clock;
+  round = round;
+  entries = entries;
+  console = console;
+  link = link;
+}
+
+-- the clock is at least this, and the next round begins; rounds stand still at their type's end
+abbrev pub raised : ℕ → NodeView → NodeView
+raised clock v = record v { clock = max v.clock clock; round = min (suc v.round) (2 ^ 64 - 1) }

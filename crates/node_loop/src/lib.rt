@@ -1,0 +1,14 @@
+//! One node: turns, each with its entry and its packets.
+//! A layer above uses that a turn is exactly the machine's step on what the node had, the act and the packet that it took,
+//! and that the only node of a cluster stands for a legal trace.
+#![tactic(auto)]
+
+mod laws;
+mod link;
+mod node;
+
+pub use laws::turns_are_local;
+pub use node::{Node, Turned};
+
+#[cfg(test)]
+mod tests;

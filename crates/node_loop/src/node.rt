@@ -1,0 +1,317 @@
+//! The node.
+
+ghost use Rattle.std.specs.Prelude.{◌≡◌, ◌+◌, ◌^◌, ◌<◌, ◌≤◌, [], ◌++◌, ◌∷◌, ◌↔◌, Some, None, true, false, length, max, min, suc, IfOk, OnOk, OnErr, IsOk};
+ghost use Rattle.run_trace.specs.Histories.{seen};
+ghost use Rattle.run_trace.specs.Machine.{turn_event, is_beyond};
+ghost use Rattle.node_state.specs.Events.{program, Answers};
+ghost use Rattle.node_loop.specs.View.{unbooted, raised};
+ghost use Rattle.node_loop.specs.Turns.{Turns, recorded, IsInRange, IsLost, can, entry_limit};
+ghost use Rattle.node_loop.specs.Alone.{StandsAlone};
+
+use crate::link::{Link, packets_for};
+use basics::{Items, NoMemory};
+use node_state::{Done, NodeState};
+use run_trace::{Act, Entry, Packet, Setup};
+use rv_inst::Image;
+use slot_space::NodeNo;
+use std::alloc::Global;
+use std::marker::Model;
+
+/// Stamps from here on make a packet a stray.
+const STAMP_LIMIT: u64 = 1 << 62;
+
+/// What has come of a turn.
+#[derive(Clone, Copy, Debug, PartialEq, Eq)]
+pub enum Turned {
+    /// The act is done, and its entry is the newest.
+    Did,
+    /// The act isn't possible, and nothing has changed.
+    Idle,
+}
+
+/// One node with its entries, its console and its link to itself. After want of memory it is used no more.
+#[derive(Drop)]
+pub struct Node {
+    alloc: Global,
+    setup: Setup,
+    image: Image,
+    me: NodeNo,
+    state: NodeState,
+    clock: u64,
+    round: u64,
+    entries: Vec<Entry>,
+    console: Vec<u8>,
+    link: Link,
+}
+
+impl Model for Node {
+    ghost use Rattle.std.specs.Prelude.{◌<◌, ◌≤◌, ◌+◌, ◌^◌, length};
+    ghost use Rattle.node_state.specs.Events.{program};
+    ghost use Rattle.node_loop.specs.View.{NodeView, view_of};
+
+    ghost Value = { NodeView };
+
+    ghost view = { λ n. view_of (program n.setup n.image) n.me n.state n.clock n.round n.entries.items n.console.items n.link.packets.items };
+
+    // It is one of the cluster's nodes, and no stamp reaches the end of its type.
+    ghost invariant = { λ n. (n.clock ≤ 2 ^ 62 + length n.entries.items) × (n.me < n.setup.geometry.nodes) × (n.round < 2 ^ 64) };
+}
+
+impl Node {
+    /// A node that has begun: its first entry has stamp 1 and round 0. It keeps a copy of the image.
+    pub fn boot(alloc: Global, setup: &Setup, image: &Image, me: NodeNo) -> Result<Node, NoMemory>
+        requires { me < setup.now.geometry.nodes }
+        ensures booted { IfOk result (λ node. Turns (unbooted (program setup.now image.now) me) Act.Boot node Turned.Did) }
+        ensures begun { IfOk result (λ node. node.state.booted ≡ true) }
+        ensures alone { IfOk result (λ node. setup.now.geometry.nodes ≡ 1 → StandsAlone node) }
+    {
+        let mut state = NodeState::fresh(alloc, setup, me);
+        let Some(done) = state.event(setup, image, me, Act::Boot, None)? else {
+            unreachable!();
+        };
+        let mut node = Node::without_entries(alloc, setup, image, me, state)?;
+        node.record(1, &Act::Boot, done)?;
+        Ok(node)
+    }
+
+    // A node in this state, before its first entry.
+    fn without_entries(
+        alloc: Global,
+        setup: &Setup,
+        image: &Image,
+        me: NodeNo,
+        state: NodeState,
+    ) -> Result<Node, NoMemory>
+        requires { me < setup.now.geometry.nodes }
+        ensures { IfOk result (λ node. node ≡ record (unbooted (program setup.now image.now) me) { state = state }) }
+    {
+        Ok(Node {
+            alloc,
+            setup: *setup,
+            image: image.try_clone(alloc)?,
+            me,
+            state,
+            clock: 0,
+            round: 0,
+            entries: Vec::new(alloc),
+            console: Vec::new(alloc),
+            link: Link::new(alloc),
+        })
+    }
+
+    /// One event: the act is done, and its entry stands last, or it isn't possible and nothing has changed.
+    pub fn turn(&mut self, act: Act) -> Result<Turned, NoMemory>
+        requires entries { length self.old.entries < entry_limit }
+        requires booted { self.old.state.booted ≡ true }
+        requires range { IsInRange self.old act }
+        ensures turned { IfOk result (λ turned. Turns self.old act self.new turned) }
+        ensures idle { StandsAlone self.old → IfOk result (λ turned. (turned ≡ Turned.Idle) ↔ (can self.old act ≡ false)) }
+        ensures alone { StandsAlone self.old → OnOk result (StandsAlone self.new) }
+        ensures later { StandsAlone self.old → IfOk result (λ turned. turned ≡ Turned.Did → self.new.clock ≡ suc self.old.clock) }
+        ensures still { OnOk result (self.new.state.booted ≡ true) }
+        ensures err { OnErr result (IsLost self.old self.new) }
+    {
+        self.step(act)
+    }
+
+    // The event and its entry.
+    fn step(&mut self, act: Act) -> Result<Turned, NoMemory>
+        requires booted { self.old.state.booted ≡ true }
+        requires range { IsInRange self.old act }
+        ensures turned { IfOk result (λ turned. Turns self.old act self.new turned) }
+        ensures err { OnErr result (IsLost self.old self.new) }
+    {
+        let took = self.link.take(self.me, &act);
+        let stamp = next_stamp(self.clock, &took);
+        let done = event(
+            self.alloc,
+            &mut self.state,
+            &self.setup,
+            &self.image,
+            self.me,
+            &act,
+            took,
+        )?;
+        match done {
+            None => Ok(Turned::Idle),
+            Some(done) => {
+                self.record(stamp, &act, done)?;
+                Ok(Turned::Did)
+            }
+        }
+    }
+
+    // Adds the entry and sends its packets. Where there is no memory, neither is there.
+    fn record(&mut self, stamp: u64, act: &Act, done: Done) -> Result<(), NoMemory>
+        requires { stamp ≤ 2 ^ 62 + length self.old.entries + 1 }
+        ensures ok { OnOk result (self.new ≡ recorded self.old stamp act.now done.labels done.sends done.prints) }
+        ensures err { OnErr result (self.new ≡ self.old) }
+    {
+        let Done {
+            labels,
+            sends,
+            prints,
+        } = done;
+        let packets = packets_for(self.alloc, self.me, stamp, sends.into_vec())?;
+        self.link.reserve(packets.len())?;
+        self.entries.reserve(1)?;
+        self.console.extend_from_slice(prints.as_slice())?;
+        self.link.send(packets);
+        let entry = Entry {
+            stamp,
+            node: self.me,
+            round: self.round,
+            act: *act,
+            labels,
+        };
+        match self.entries.push(entry) {
+            Ok(()) => {}
+            Err(_) => unreachable!(),
+        }
+        self.clock = stamp;
+        Ok(())
+    }
+
+    /// The node's clock is at least this from now on, and its next round begins.
+    pub fn raise(&mut self, clock: u64)
+        requires { clock < 2 ^ 62 }
+        ensures raised { self.new ≡ raised clock self.old }
+        ensures alone { StandsAlone self.old → clock ≤ self.old.clock → StandsAlone self.new }
+    {
+        self.clock = self.clock.max(clock);
+        self.round = self.round.saturating_add(1);
+    }
+
+    /// Whether a thread can be picked, or the link holds a packet.
+    pub fn possible(&self, act: &Act) -> bool
+        ensures { result ≡ can self.now act.now }
+    {
+        match act {
+            Act::Run(_, _) => self.state.ready() > 0,
+            Act::Take(from) => self.has_packet(*from),
+            _ => false,
+        }
+    }
+
+    /// Whether the link from this sender holds a packet.
+    pub fn has_packet(&self, sender: NodeNo) -> bool
+        ensures { result ≡ can self.now (Act.Take sender) }
+    {
+        sender == self.me && !self.link.packets.is_empty()
+    }
+
+    /// Its number.
+    pub fn me(&self) -> NodeNo
+        ensures value { result ≡ self.now.me }
+        ensures inside { self.now.me < self.now.program.setup.geometry.nodes }
+    {
+        self.me
+    }
+
+    /// Its entries, oldest first.
+    pub fn entries(&self) -> &[Entry]
+        ensures { result.now ≡ self.now.entries }
+    {
+        &self.entries
+    }
+
+    /// The lines that it has shown.
+    pub fn console(&self) -> &[u8]
+        ensures { result.now ≡ self.now.console }
+    {
+        &self.console
+    }
+
+    /// Whether a thread has called halt here.
+    pub fn halted(&self) -> bool
+        ensures { result ≡ self.now.state.halted }
+    {
+        self.state.halted()
+    }
+
+    /// How many threads are on the run list.
+    pub fn ready(&self) -> usize
+        ensures { result ≡ length self.now.state.places.rows }
+    {
+        self.state.ready()
+    }
+
+    /// How many threads are here and live.
+    pub fn threads(&self) -> usize
+        ensures { result ≡ length self.now.state.threads }
+    {
+        self.state.threads()
+    }
+
+    /// The node's clock.
+    pub fn clock(&self) -> u64
+        ensures { result ≡ self.now.clock }
+    {
+        self.clock
+    }
+
+    /// The number of the node's round.
+    pub fn round_now(&self) -> u64
+        ensures { result ≡ self.now.round }
+    {
+        self.round
+    }
+
+    /// Its entries, when it is done with.
+    pub fn end(self) -> Vec<Entry>
+        ensures { result.items ≡ self.entries }
+    {
+        self.entries
+    }
+}
+
+// The stamp of the next entry, which takes this packet.
+#[tactic(auto, unfolding(run_trace::specs::Machine::stamp_limit))]
+fn next_stamp(clock: u64, took: &Option<Packet>) -> u64
+    requires { clock < 2 ^ 63 }
+    ensures { result ≡ suc (max clock (seen took.now)) }
+{
+    match took {
+        Some(packet) => {
+            if packet.stamp < STAMP_LIMIT {
+                clock.max(packet.stamp) + 1
+            } else {
+                clock + 1
+            }
+        }
+        None => clock + 1,
+    }
+}
+
+// Whether the packet's stamp is too great.
+#[tactic(auto, unfolding(run_trace::specs::Machine::stamp_limit))]
+fn comes_too_late(took: &Option<Packet>) -> bool
+    ensures { result ≡ is_beyond took.now }
+{
+    match took {
+        Some(packet) => packet.stamp >= STAMP_LIMIT,
+        None => false,
+    }
+}
+
+// The machine's event; a packet whose stamp is too great is a stray, and changes nothing.
+fn event(
+    alloc: Global,
+    state: &mut NodeState,
+    setup: &Setup,
+    image: &Image,
+    me: NodeNo,
+    act: &Act,
+    took: Option<Packet>,
+) -> Result<Option<Done>, NoMemory>
+    ensures { IfOk result (λ done. Answers (turn_event (program setup.now image.now) me state.old act.now took) state.old state.new done) }
+{
+    if comes_too_late(&took) {
+        return Ok(Some(Done {
+            labels: Items::new(Vec::new(alloc)),
+            sends: Items::new(Vec::new(alloc)),
+            prints: Items::new(Vec::new(alloc)),
+        }));
+    }
+    state.event(setup, image, me, *act, took)
+}
