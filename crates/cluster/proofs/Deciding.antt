@@ -1,17 +1,17 @@
 -- What is decided on the only node is so of the trace.
-use Rattle.std.proofs.Common.{◌≡◌, ℕ, zero, suc, ◌<◌, ◌≤◌, ◌⊎◌, inl, inr, List, [], ◌∷◌, ◌++◌, length, map, Option, Some, None, Bool, true, false, cond, eqb, refl, sym, ap, ◌∙◌, subst, arith, is_some}
+use Rattle.std.proofs.Common.{◌≡◌, ℕ, zero, suc, ◌<◌, ◌≤◌, ◌⊎◌, inl, inr, List, [], ◌∷◌, ◌++◌, length, map, Some, None, Bool, true, false, cond, eqb, refl, sym, ap, ◌∙◌, subst, arith}
 use Rattle.std.specs.Map.{lookup}
 use Rattle.slot_space.specs.declared.names.Tid.{Tid}
 use Rattle.run_trace.specs.declared.entry.Act.TheVariants.{Run, Take}
 use Rattle.std.proofs.lemmas.Bool.{lt-ltb, ne_eqb}
 use Rattle.run_trace.specs.declared.node.Row.{Row}
 use Rattle.run_trace.specs.declared.packet.Packet.{Packet}
-use Rattle.run_trace.specs.Cluster.{Net, fresh_net, first_of}
+use Rattle.run_trace.specs.Cluster.{Net, fresh_net}
 use Rattle.run_trace.specs.Guests.{Thread}
 use Rattle.run_trace.specs.Holding.{IsOn}
 use Rattle.run_trace.specs.Local.{Local, fresh}
 use Rattle.run_trace.specs.Names.{is_tid, tid}
-use Rattle.run_trace.specs.Outcome.{AllLinksEmpty, IsDone, IsStuck, Lives}
+use Rattle.run_trace.specs.Outcome.{AllLinksEmpty, Lives}
 use Rattle.run_trace.specs.Program.{Program, nodes_of}
 use Rattle.run_trace.specs.Rules.{spots_of}
 use Rattle.run_trace.specs.Spots.{Spots, Ready, On, at_first}
@@ -145,7 +145,7 @@ main_ready p = refl
 listed_somewhere : (w : Spots) (s : Local) → Here 0 w s [] → (w.threads (tid 0 0)).life ≡ On 0 Ready → s.places.rows ≡ [] → ⊥
 listed_somewhere w s h life none =
     let shown : item_of is_tid listed_name (map listed s.places.rows) (tid 0 0) ≡ Some (record { tid = tid 0 0; priority = (w.threads (tid 0 0)).guest.priority }) =
-        h.rows.shows (tid 0 0) ∙ ap (λ z. row_in_life 0 (tid 0 0) z (w.threads (tid 0 0)).guest.priority) life in
+    h.rows.shows (tid 0 0) ∙ ap (λ z. row_in_life 0 (tid 0 0) z (w.threads (tid 0 0)).guest.priority) life in
     let nothing : item_of is_tid listed_name (map listed s.places.rows) (tid 0 0) ≡ None = ap (λ (rs : List Row). item_of is_tid listed_name (map listed rs) (tid 0 0)) none in
     cc (shown, nothing)
 
@@ -167,5 +167,5 @@ begins_possible p v b none = by v.state.places.rows refl
     by (r ∷ rs) e =
         let pick : nat_lt 0 (length v.state.places.rows) ≡ true = lt-ltb 0 (length v.state.places.rows) (subst (λ (xs : List Row). 0 < length xs) (sym e) (omega arith)) in
         let some : possible_acts v.program (net_of v) ≡ acts_of_one v.program.setup.quantum true (can v (Take 0)) =
-            acts_are v b.stands.alone ∙ ap (λ u. acts_of_one v.program.setup.quantum u (can v (Take 0))) pick in
+        acts_are v b.stands.alone ∙ ap (λ u. acts_of_one v.program.setup.quantum u (can v (Take 0))) pick in
         cc (none, some)

@@ -1,8 +1,7 @@
 -- With one node there are at most two acts.
-use Rattle.std.proofs.Common.{◌≡◌, ℕ, suc, ◌<◌, List, [], ◌∷◌, ◌++◌, map, length, Option, Some, None, Bool, true, false, cond, refl, sym, ap, ◌∙◌, subst, arith, is_some}
+use Rattle.std.proofs.Common.{◌≡◌, List, [], ◌∷◌, ◌++◌, map, length, None, Bool, true, false, cond, refl, sym, ap, ◌∙◌, arith, is_some}
 use Rattle.std.specs.Prelude.{nat_lt, filter, flat_map}
 use Rattle.slot_space.specs.Sets.{run}
-use Rattle.run_trace.specs.declared.entry.Act.{Act}
 use Rattle.run_trace.specs.declared.entry.Act.TheVariants.{Run, Take}
 use Rattle.std.proofs.lemmas.Bool.{eq-eqb}
 use Rattle.run_trace.specs.Cluster.{Net, first_of}
@@ -14,7 +13,7 @@ use Rattle.std.proofs.lemmas.List.Elements.{All-nil, All-cons}
 use Rattle.std.specs.Prelude.{All, ⊤}
 use Rattle.cluster.specs.Standing.{StandsForItsTrace, IsPossible}
 use Rattle.run_trace.specs.Program.{Program, nodes_of}
-use Rattle.cluster.specs.Acts.{has_pick, holds, runs_of, takes_of, possible_acts, act_if, acts_of_one}
+use Rattle.cluster.specs.Acts.{has_pick, holds, runs_of, possible_acts, act_if, acts_of_one}
 
 first : run 0 1 ≡ 0 ∷ []
 unfolding run
@@ -43,7 +42,6 @@ acts_are v s = one_nodes_acts v.program (net_of v) s.one
     ∙ ap (λ ps. acts_of_one v.program.setup.quantum (nat_lt 0 (length v.state.places.rows)) (holds ps)) s.link
     ∙ ap (λ b. acts_of_one v.program.setup.quantum (nat_lt 0 (length v.state.places.rows)) b) (sym (packet_is v s))
 
-
 -- ## Each of them can be done
 
 abbrev pub AreAll : {A : Type 0} → (A → Type 0) → List A → Type 0
@@ -69,4 +67,4 @@ by_index P (x ∷ xs) h = All-cons P x xs h.0 (by_index P xs h.1)
 pub each_possible : (v : NodeView) → StandsForItsTrace v → All (IsPossible v) (acts_of_one v.program.setup.quantum (nat_lt 0 (length v.state.places.rows)) (can v (Take 0)))
 each_possible v s = by_index (IsPossible v) (acts_of_one v.program.setup.quantum (nat_lt 0 (length v.state.places.rows)) (can v (Take 0)))
     (both (IsPossible v) (act_if (nat_lt 0 (length v.state.places.rows)) (Run 0 v.program.setup.quantum)) (act_if (can v (Take 0)) (Take 0))
-        (possible_run v s (nat_lt 0 (length v.state.places.rows)) refl) (possible_take v s (can v (Take 0)) refl))
+    (possible_run v s (nat_lt 0 (length v.state.places.rows)) refl) (possible_take v s (can v (Take 0)) refl))

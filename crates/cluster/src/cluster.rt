@@ -15,6 +15,7 @@ use rv_inst::Image;
 use slot_space::NodeNo;
 use std::alloc::Global;
 use std::marker::Model;
+use trace_laws::inside;
 
 /// Whether a program goes on.
 #[derive(Clone, Copy, Debug, PartialEq, Eq)]
@@ -94,6 +95,7 @@ impl Cluster {
     pub fn verdict(&self) -> State
         ensures { StandsForItsTrace self.now → IsAt self.now.program (trace_of self.now) result }
     {
+        inside();
         let packet = self.node.has_packet(NodeNo(0));
         decided(
             self.node.halted(),

@@ -1,11 +1,12 @@
 -- A node that has begun stays so.
-use Rattle.std.proofs.Common.{◌≡◌, ℕ, List, Option, Some, None, Bool, true, false, cond, eqb, refl, ◌∙◌, subst}
+use Rattle.std.proofs.Common.{◌≡◌, ℕ, List, [], ◌∷◌, Option, Some, None, Bool, true, false, cond, eqb, refl, ◌∙◌, subst}
 use Rattle.std.specs.Prelude.{slice_get, ⊤}
 use Rattle.std.specs.Map.{lookup}
 use Rattle.slot_space.specs.declared.names.Tid.{Tid}
 use Rattle.slot_space.specs.declared.names.Reply.{Reply}
 use Rattle.slot_space.specs.declared.names.Reply.TheVariants as replies
 use Rattle.slot_space.specs.Replies.{reply_code, tid_value}
+use Rattle.iso_blocks.specs.Heap.{rounded, place, emptied}
 use Rattle.rv_step.specs.declared.hart.Stop.{Stop}
 use Rattle.rv_step.specs.declared.hart.Stop.TheVariants as stops
 use Rattle.marcel_core.specs.declared.end.End.{End}
@@ -13,6 +14,8 @@ use Rattle.marcel_core.specs.declared.end.End.TheVariants as end_of
 use Rattle.marcel_core.specs.declared.birth.Verdict.{Verdict}
 use Rattle.marcel_core.specs.declared.birth.Verdict.TheVariants.{Now, Later, NoSuch, Taken}
 use Rattle.marcel_core.specs.Homes.{verdict, joiner}
+use Rattle.run_trace.specs.declared.call.Call.{Call}
+use Rattle.run_trace.specs.declared.call.Call.TheVariants.{Exit, Name, Node, Nodes, Yield, Create, Join, Isomalloc, Isofree, Print, Halt, Unknown}
 use Rattle.run_trace.specs.declared.entry.Act.{Act}
 use Rattle.run_trace.specs.declared.entry.Act.TheVariants.{Boot, Run as RunThread, Take, Move}
 use Rattle.run_trace.specs.declared.label.Why.{Why}
@@ -23,12 +26,12 @@ use Rattle.run_trace.specs.declared.packet.Packet.{Packet}
 use Rattle.run_trace.specs.declared.node.Row.{Row}
 use Rattle.run_trace.specs.Names.{is_tid, tid_of}
 use Rattle.run_trace.specs.Program.{Program, nodes_of, code_of, main_priority}
-use Rattle.run_trace.specs.Guests.{Thread, Run, run_of}
-use Rattle.run_trace.specs.Calls.{Call, Exit, Self, Node, Nodes, Yield, Create, Join, Print, Halt, Unknown, call_of, refusal, bytes_of}
+use Rattle.run_trace.specs.Guests.{Guest, Thread, Run, run_of, heap_of, with_placed, without_block, slots_for}
+use Rattle.run_trace.specs.Calls.{call_of, refusal, bytes_of}
 use Rattle.run_trace.specs.Places.{best}
 use Rattle.run_trace.specs.Local.{Local, Doing, nothing, with_booted}
-use Rattle.run_trace.specs.Steps.{say, put, print, arrive, take_off, thread_at, keep, thread_in, thread_out, slot_out, slots_in, name_in, change_name, halt, next_name, birth, ran, runs_out, asks, asks_show, asks_join, halts, judge, tell_found, tell, reply_by_link, gives, ends, shows, acknowledges, hears, knows}
-use Rattle.run_trace.specs.Machine.{answer, end_thread, free_slot, creates_in, creates, does, calls, boots_in, boots, stops_by, run_found, run_picked, judges_join, tells_joiner, accepts, is_stray, takes, is_range, acts, local_event, turn_event, is_beyond}
+use Rattle.run_trace.specs.Steps.{say, put, print, arrive, take_off, thread_at, at_thread, at_found, keep, thread_in, thread_out, slots_out, slots_in, name_in, change_name, halt, next_name, birth, ran, asks, asks_show, asks_join, halts, judge, tell_found, tell, settle, reply_by_link, takes_run, returns, gives, ends, shows, acknowledges, hears, knows}
+use Rattle.run_trace.specs.Machine.{answer, end_thread, free_run, free_slot, creates_in, creates, settles, place_code, places, claimed, allocates_with, allocates, returns_any, frees_block, frees, does, calls, boots_in, boots, stopped, run_thread, run_found, run_picked, judges_join, tells_joiner, accepts, is_stray, takes, is_range, acts, local_event, turn_event, is_beyond}
 
 -- ## Steps
 
@@ -41,17 +44,25 @@ kept e = record { is = e }
 then : {a b c : Doing} → Kept a b → Kept b c → Kept a c
 then h k = record { is = k.is ∙ h.is }
 
+-- a step of a thread that may be here
+at_keeps : (t : Tid) (step : Thread → Doing → Doing) (d : Doing) → ((x : Thread) → Kept d (step x d)) → Kept d (at_thread t step d)
+at_keeps t step d h = by (thread_at t d)
+  where
+    by : (o : Option Thread) → Kept d (at_found o step d)
+    by None = kept refl
+    by (Some x) = h x
+
 birth_keeps : (me : ℕ) (w : Why) (entry a0 priority slot : ℕ) (d : Doing) → Kept d (birth me w entry a0 priority slot d)
-unfolding birth arrive thread_in name_in slot_out say
+unfolding birth arrive thread_in name_in slots_out say
 birth_keeps me w entry a0 priority slot d = kept refl
 
 ran_keeps : (t : Tid) (vp : ℕ) (r : Run) (x : Thread) (d : Doing) → Kept d (ran t vp r x d)
 unfolding ran take_off keep say
 ran_keeps t vp r x d = kept refl
 
-runs_out_keeps : (t : Tid) (vp : ℕ) (r : Run) (x : Thread) (d : Doing) → Kept d (runs_out t vp r x d)
-unfolding runs_out arrive ran take_off keep say
-runs_out_keeps t vp r x d = kept refl
+arrive_keeps : (t : Tid) (priority : ℕ) (d : Doing) → Kept d (arrive t priority d)
+unfolding arrive
+arrive_keeps t priority d = kept refl
 
 asks_keeps : (t : Tid) (c : Call) (d : Doing) → Kept d (asks t c d)
 unfolding asks say
@@ -62,7 +73,7 @@ unfolding asks_show put keep say
 asks_show_keeps t c bytes x d = kept refl
 
 asks_join_keeps : (t : Tid) (c : Call) (u : Tid) (x : Thread) (d : Doing) → Kept d (asks_join t c u x d)
-unfolding asks_join put keep say
+unfolding asks_join asks put keep say
 asks_join_keeps t c u x d = kept refl
 
 halts_keeps : (t : Tid) (x : Thread) (d : Doing) → Kept d (halts t x d)
@@ -81,9 +92,21 @@ answer_keeps : (t : Tid) (code : ℕ) (d : Doing) → Kept d (answer t code d)
 unfolding judge say
 answer_keeps t code d = then {b = judge t code None d} (kept refl) (tell_keeps t code None (judge t code None d))
 
+settles_keeps : (t : Tid) (code : ℕ) (g : Guest) (d : Doing) → Kept d (settles t code g d)
+unfolding settle keep say
+settles_keeps t code g d = then {b = settle t code g d} (kept refl) (tell_keeps t code None (settle t code g d))
+
 reply_keeps : (t : Tid) (at : ℕ) (reply : Reply) (second : Option ℕ) (d : Doing) → Kept d (reply_by_link t at reply second d)
 unfolding reply_by_link put say
 reply_keeps t at reply second d = kept refl
+
+takes_keep : (t : Tid) (first count : ℕ) (g : Guest) (d : Doing) → Kept d (takes_run t first count g d)
+unfolding takes_run slots_out keep say
+takes_keep t first count g d = kept refl
+
+returns_keep : (t : Tid) (slots : List ℕ) (g : Guest) (d : Doing) → Kept d (returns t slots g d)
+unfolding returns slots_in keep say
+returns_keep t slots g d = kept refl
 
 end_keeps : (t : Tid) (x : Thread) (end : End) (d : Doing) → Kept d (end_thread t x end d)
 unfolding ends gives put thread_out slots_in say
@@ -110,27 +133,56 @@ creates_keeps me t entry argument priority d = by (free_slot d.node.slots.own)
     by None = answer_keeps t (reply_code replies.Full) d
     by (Some slot) = then (birth_keeps me (why.Create t) entry argument priority slot d) (answer_keeps t (tid_value (next_name me d)) _)
 
+places_keep : (t : Tid) (size : ℕ) (x : Thread) (d : Doing) → Kept d (places t size x d)
+places_keep t size x d =
+    let address : Option ℕ = place (heap_of x.guest.solo) size in settles_keeps t (place_code address) (with_placed size address x.guest) d
+
+allocates_keeps : (t : Tid) (size : ℕ) (x : Thread) (d : Doing) → Kept d (allocates t size x d)
+allocates_keeps t size x d = by (claimed (place (heap_of x.guest.solo) size) (free_run d.node.slots.own (slots_for size)))
+  where
+    by : (o : Option ℕ) → Kept d (allocates_with t size o x d)
+    by None = places_keep t size x d
+    by (Some first) =
+        let e : Doing = takes_run t first (slots_for size) x.guest d in
+        then (takes_keep t first (slots_for size) x.guest d) (at_keeps t (places t size) e (λ y. places_keep t size y e))
+
+frees_keep : (t : Tid) (address : ℕ) (x : Thread) (d : Doing) → Kept d (frees t address x d)
+frees_keep t address x d =
+    let e : Doing = returns_any t (emptied (heap_of x.guest.solo) address) x.guest d in
+    then {b = e} (by (emptied (heap_of x.guest.solo) address)) (at_keeps t (frees_block t address) e (λ y. settles_keeps t 0 (without_block address y.guest) e))
+  where
+    by : (slots : List ℕ) → Kept d (returns_any t slots x.guest d)
+    by [] = kept refl
+    by (s ∷ slots) = returns_keep t (s ∷ slots) x.guest d
+
 -- one case a call
-does_keeps : (p : Program) (me : ℕ) (t : Tid) (x : Thread) (c : Call) (d : Doing) → Kept d (does p me t x c d)
-does_keeps p me t x (Exit value) d = then (asks_keeps t (Exit value) d) (end_keeps t x (end_of.Exit value) _)
-does_keeps p me t x Self d = then (asks_keeps t Self d) (answer_keeps t (tid_value t) _)
-does_keeps p me t x Node d = then (asks_keeps t Node d) (answer_keeps t me _)
-does_keeps p me t x Nodes d = then (asks_keeps t Nodes d) (answer_keeps t (nodes_of p) _)
-does_keeps p me t x Yield d = then (asks_keeps t Yield d) (answer_keeps t 0 _)
-does_keeps p me t x (Create entry argument priority) d = then (asks_keeps t (Create entry argument priority) d) (creates_keeps me t entry argument priority _)
-does_keeps p me t x (Join name) d = asks_join_keeps t (Join name) (tid_of name) x d
-does_keeps p me t x (Print address len) d = asks_show_keeps t (Print address len) (bytes_of p x.guest.solo.state (Print address len)) x d
-does_keeps p me t x Halt d = then (asks_keeps t Halt d) (halts_keeps t x _)
-does_keeps p me t x (Unknown number) d = then (asks_keeps t (Unknown number) d) (answer_keeps t (reply_code replies.BadArgument) _)
+does_keeps : (p : Program) (me : ℕ) (t : Tid) (c : Call) (bytes : List ℕ) (d : Doing) → Kept d (does p me t c bytes d)
+does_keeps p me t (Exit value) bytes d = then (asks_keeps t (Exit value) d) (at_keeps t (λ x. end_thread t x (end_of.Exit value)) _ (λ x. end_keeps t x (end_of.Exit value) _))
+does_keeps p me t Name bytes d = then (asks_keeps t Name d) (answer_keeps t (tid_value t) _)
+does_keeps p me t Node bytes d = then (asks_keeps t Node d) (answer_keeps t me _)
+does_keeps p me t Nodes bytes d = then (asks_keeps t Nodes d) (answer_keeps t (nodes_of p) _)
+does_keeps p me t Yield bytes d = then (asks_keeps t Yield d) (answer_keeps t 0 _)
+does_keeps p me t (Create entry argument priority) bytes d = then (asks_keeps t (Create entry argument priority) d) (creates_keeps me t entry argument priority _)
+does_keeps p me t (Join name) bytes d = at_keeps t (asks_join t (Join name) (tid_of name)) d (λ x. asks_join_keeps t (Join name) (tid_of name) x d)
+does_keeps p me t (Isomalloc len) bytes d = then (asks_keeps t (Isomalloc len) d) (at_keeps t (allocates t (rounded len)) _ (λ x. allocates_keeps t (rounded len) x _))
+does_keeps p me t (Isofree address) bytes d = then (asks_keeps t (Isofree address) d) (at_keeps t (frees t address) _ (λ x. frees_keep t address x _))
+does_keeps p me t (Print address len) bytes d = at_keeps t (asks_show t (Print address len) bytes) d (λ x. asks_show_keeps t (Print address len) bytes x d)
+does_keeps p me t Halt bytes d = then (asks_keeps t Halt d) (at_keeps t (halts t) _ (λ x. halts_keeps t x _))
+does_keeps p me t (Unknown number) bytes d = then (asks_keeps t (Unknown number) d) (answer_keeps t (reply_code replies.BadArgument) _)
 
-calls_keeps : (p : Program) (me : ℕ) (t : Tid) (x : Thread) (c : Call) (o : Option Reply) (d : Doing) → Kept d (calls p me t x c o d)
-calls_keeps p me t x c None d = does_keeps p me t x c d
-calls_keeps p me t x c (Some reply) d = then (asks_keeps t c d) (answer_keeps t (reply_code reply) _)
+calls_keeps : (p : Program) (me : ℕ) (t : Tid) (c : Call) (o : Option Reply) (bytes : List ℕ) (d : Doing) → Kept d (calls p me t c o bytes d)
+calls_keeps p me t c None bytes d = does_keeps p me t c bytes d
+calls_keeps p me t c (Some reply) bytes d = then (asks_keeps t c d) (answer_keeps t (reply_code reply) _)
 
-stops_keeps : (p : Program) (me vp : ℕ) (t : Tid) (x : Thread) (r : Run) (stop : Stop) (d : Doing) → Kept d (stops_by p me vp t x r stop d)
-stops_keeps p me vp t x r stops.Quantum d = runs_out_keeps t vp r x d
-stops_keeps p me vp t x r stops.Call d = then (ran_keeps t vp r x d) (calls_keeps p me t _ (call_of r.state) (refusal p t r.state (call_of r.state)) _)
-stops_keeps p me vp t x r (stops.Fault kind) d = then (ran_keeps t vp r x d) (end_keeps t _ (end_of.Fault kind r.state.pc) _)
+stops_keeps : (p : Program) (me : ℕ) (t : Tid) (stop : Stop) (x : Thread) (d : Doing) → Kept d (stopped p me t stop x d)
+stops_keeps p me t stops.Quantum x d = arrive_keeps t x.guest.priority d
+stops_keeps p me t stops.Call x d = calls_keeps p me t (call_of x.guest.solo.state) (refusal p t x.guest.solo (call_of x.guest.solo.state)) (bytes_of p x.guest.solo.state (call_of x.guest.solo.state)) d
+stops_keeps p me t (stops.Fault kind) x d = end_keeps t x (end_of.Fault kind x.guest.solo.state.pc) d
+
+run_keeps : (p : Program) (me vp quantum : ℕ) (t : Tid) (x : Thread) (d : Doing) → Kept d (run_thread p me vp quantum t x d)
+run_keeps p me vp quantum t x d =
+    let r : Run = run_of (code_of p) quantum x.guest.solo.state in
+    then (ran_keeps t vp r x d) (at_keeps t (stopped p me t r.stop) _ (λ y. stops_keeps p me t r.stop y _))
 
 -- ## Events
 
@@ -145,9 +197,7 @@ picked_keeps p me vp quantum (Some r) s = by (lookup (is_tid r.tid) s.threads)
   where
     by : (o : Option Thread) → StaysBooted s.booted (run_found p me vp quantum r.tid o s)
     by None = tt
-    by (Some x) =
-        let run : Run = run_of (code_of p) quantum x.guest.solo.state in
-        (stops_keeps p me vp r.tid x run run.stop (nothing s)).is
+    by (Some x) = (run_keeps p me vp quantum r.tid x (nothing s)).is
 
 accepts_keeps : (p : Program) (me from : ℕ) (body : Body) (s : Local) → Kept (nothing s) (accepts me from body s)
 accepts_keeps p me from (Show t bytes) s = shows_keeps t from bytes (nothing s)

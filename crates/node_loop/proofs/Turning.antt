@@ -1,13 +1,12 @@
 -- What follows from a turn.
-use Rattle.std.proofs.Common.{◌≡◌, ℕ, suc, ◌+◌, ◌-◌, ◌^◌, ◌<◌, ◌≤◌, ◌↔◌, List, [], ◌∷◌, length, max, min, Option, Some, None, Bool, true, false, refl, sym, ap, ◌∙◌, subst, arith}
+use Rattle.std.proofs.Common.{◌≡◌, ℕ, suc, ◌+◌, ◌-◌, ◌^◌, ◌<◌, ◌≤◌, List, [], ◌∷◌, length, max, min, true, sym, ap, ◌∙◌, subst, arith}
 use Rattle.std.proofs.Math.Nat.{max-eq_left, le-min}
 use Rattle.run_trace.specs.declared.entry.Act.{Act}
 use Rattle.run_trace.specs.declared.entry.Entry.{Entry}
-use Rattle.run_trace.specs.Local.{Doing}
 use Rattle.run_trace.specs.Legality.{NoneAbove}
 use Rattle.trace_laws.specs.Gathers.{AllWithin}
-use Rattle.node_loop.specs.View.{NodeView, raised}
-use Rattle.node_loop.specs.Turns.{took, done_by, after_turn, IsInRange, Turns, can, entry_limit}
+use Rattle.node_loop.specs.View.{NodeView}
+use Rattle.node_loop.specs.Turns.{took, IsInRange, Turns, entry_limit}
 use Rattle.node_loop.specs.Alone.{StandsAlone, NoneLater, lines_of}
 use Rattle.node_loop.specs.declared.node.Turned.{Turned}
 use Rattle.node_loop.specs.declared.node.Turned.TheVariants.{Did, Idle}
