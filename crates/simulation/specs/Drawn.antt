@@ -1,0 +1,37 @@
+-- The acts of sim: each is chosen from the possible ones by the next word of a generator.
+use Rattle.std.specs.Prelude.{◌≡◌, ℕ, zero, suc, ◌%◌, List, [], ◌∷◌, ◌++◌, length, slice_get, Option, Some, ⊤}
+use Rattle.rand_pcg.specs.Lcg.{Lcg, started, increment_of}
+use Rattle.rand_pcg.specs.Pcg.{pcg32, multiplier_64}
+use Rattle.run_trace.specs.declared.entry.Act.{Act}
+use Rattle.run_trace.specs.declared.entry.Entry.{Entry}
+use Rattle.run_trace.specs.Cluster.{fresh_net}
+use Rattle.run_trace.specs.Program.{Program}
+use Rattle.run_trace.specs.Trace.{net_after_trace}
+use Rattle.cluster.specs.Acts.{possible_acts}
+
+-- the generator of a seed, on stream 54
+unfoldable pub generator : ℕ → Lcg
+generator seed = started 64 multiplier_64 seed (increment_of 64 54)
+
+-- the same after so many words
+abbrev pub generator_after : ℕ → ℕ → Lcg
+generator_after seed zero = generator seed
+generator_after seed (suc k) = (pcg32 (generator_after seed k)).1
+
+abbrev pub word_at : ℕ → ℕ → ℕ
+word_at seed k = (pcg32 (generator_after seed k)).0
+
+-- the item at the word's place, counted round and round
+abbrev pub chosen : ℕ → List (ℕ × Act) → Option (ℕ × Act)
+chosen word acts = slice_get acts (word % length acts)
+
+-- the k-th act after this trace: chosen by the word, with its stamp and its round
+pub record IsDrawn (p : Program) (word k : ℕ) (lines : List Entry) (x : Entry) : Type 0 where
+  pub act : chosen word (possible_acts p (net_after_trace p (fresh_net p) lines)) ≡ Some (x.node, x.act)
+  pub stamp : x.stamp ≡ suc k
+  pub round : x.round ≡ k
+
+-- the entries after the first ones, newest first, are drawn
+abbrev pub AreDrawn : Program → (seed : ℕ) → List Entry → List Entry → Type 0
+AreDrawn p seed first [] = ⊤
+AreDrawn p seed first (x ∷ later) = AreDrawn p seed first later × IsDrawn p (word_at seed (length later)) (suc (length later)) (later ++ first) x

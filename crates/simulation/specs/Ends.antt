@@ -1,0 +1,55 @@
+-- How a run ends, and what it has shown.
+use Rattle.std.specs.Prelude.{◌≡◌, ◌⊎◌, ◌≤◌, ℕ, List, [], ◌∷◌, ◌++◌, length, reverse, Option, ⊤}
+use Rattle.outside.specs.Outside.{Appends, AppendsPrefix}
+use Rattle.run_trace.specs.declared.entry.Entry.{Entry}
+use Rattle.run_trace.specs.Console.{console_of}
+use Rattle.run_trace.specs.Legality.{Legal, boot_entries}
+use Rattle.run_trace.specs.Program.{Program, nodes_of}
+use Rattle.run_trace.specs.Spots.{at_first}
+use Rattle.cluster.specs.Outcomes.{IsDoneAt, IsStuckAt}
+use Rattle.simulation.specs.Drawn.{AreDrawn}
+use Rattle.simulation.specs.declared.simulation.End.{End}
+use Rattle.simulation.specs.declared.simulation.End.TheVariants.{Done, Stalled, OutOfTurns, WriteFault, NoMemory}
+use Rattle.simulation.specs.declared.simulation.Simulated.{Simulated}
+
+-- after none of these acts the program was done or stuck
+abbrev pub WentOn : Program → List Entry → List Entry → Type 0
+WentOn p first [] = ⊤
+WentOn p first (x ∷ later) =
+    WentOn p first later × (IsDoneAt p (x ∷ later ++ first) → ⊥) × (IsStuckAt p (x ∷ later ++ first) → ⊥)
+
+abbrev pub before_last : List Entry → List Entry
+before_last [] = []
+before_last (x ∷ later) = later
+
+-- what the last act has come to; after each act before it the run went on
+abbrev pub EndsAt : Program → (turns : ℕ) → List Entry → List Entry → End → Type 0
+EndsAt p turns first later Done = (later ≡ [] → ⊥) × WentOn p first (before_last later) × IsDoneAt p (later ++ first)
+EndsAt p turns first later Stalled = (later ≡ [] → ⊥) × WentOn p first (before_last later) × IsStuckAt p (later ++ first)
+EndsAt p turns first later OutOfTurns = WentOn p first later × (length later ≡ turns)
+EndsAt p turns first later WriteFault = WentOn p first (before_last later)
+EndsAt p turns first later NoMemory = WentOn p first (before_last later)
+
+-- a run with these turns and this seed: its trace, newest entry first, and its end
+pub record Runs (p : Program) (turns seed : ℕ) (lines : List Entry) (end : End) : Type 0 where
+  pub legal : Legal p lines
+  pub later : List Entry
+  pub begins : lines ≡ later ++ boot_entries p (nodes_of p)
+  pub drawn : AreDrawn p seed (boot_entries p (nodes_of p)) later
+  pub few : length later ≤ turns
+  pub ends : EndsAt p turns (boot_entries p (nodes_of p)) later end
+
+-- what has come of a run: where there was no memory to begin there is no trace
+abbrev pub Simulates : Program → (turns seed : ℕ) → Simulated → Type 0
+Simulates p turns seed s = Runs p turns seed (reverse s.trace) s.end ⊎ ((s.trace ≡ []) × (s.end ≡ NoMemory))
+
+-- the lines of a trace are on the output, or after a refused write or want of memory a first part of them
+abbrev pub ShowsAt : Program → Option (List ℕ) → Option (List ℕ) → List Entry → End → Type 0
+ShowsAt p written now lines Done = Appends written (console_of p (at_first p) lines) now
+ShowsAt p written now lines Stalled = Appends written (console_of p (at_first p) lines) now
+ShowsAt p written now lines OutOfTurns = Appends written (console_of p (at_first p) lines) now
+ShowsAt p written now lines WriteFault = AppendsPrefix written (console_of p (at_first p) lines) now
+ShowsAt p written now lines NoMemory = AppendsPrefix written (console_of p (at_first p) lines) now
+
+abbrev pub Shows : Program → Option (List ℕ) → Option (List ℕ) → Simulated → Type 0
+Shows p written now s = ShowsAt p written now (reverse s.trace) s.end

@@ -1,0 +1,170 @@
+//! Runs by drawn acts.
+
+ghost use Rattle.std.specs.Prelude.{◌≡◌, ◌≢◌, ◌<◌, ◌≤◌, ◌++◌, [], drop, length, OnOk, OnErr, IsErrOf};
+ghost use Rattle.outside.specs.Outside.{Rose, Appends, AppendsPrefix};
+ghost use Rattle.run_trace.specs.Program.{quantum_limit};
+ghost use Rattle.node_state.specs.Events.{program};
+ghost use Rattle.node_loop.specs.Turns.{entry_limit};
+ghost use Rattle.cluster.specs.Acts.{possible_acts};
+ghost use Rattle.cluster.specs.Standing.{StandsForItsTrace, HasBooted, Loses, net_after};
+ghost use Rattle.simulation.specs.Drawn.{chosen, generator};
+ghost use Rattle.simulation.specs.Ends.{Simulates, Shows};
+ghost use Rattle.simulation.specs.Underway.{Draws, HasRun};
+
+use basics::{Items, NoMemory};
+use cluster::{Cluster, State};
+use outside::{Sink, WriteRefusal, write_piece};
+use rand_core::utils::NextWord;
+use rand_pcg::Lcg64Xsh32;
+use run_trace::{Act, Entry, Setup};
+use rv_inst::Image;
+use slot_space::NodeNo;
+use std::alloc::Global;
+
+/// The stream of the generator.
+const STREAM: u64 = 54;
+
+/// What has ended a run.
+#[derive(Clone, Copy, Debug, PartialEq, Eq)]
+pub enum End {
+    /// A thread has called halt, or no thread lives and nothing is under way.
+    Done,
+    /// Threads live, and each waits for what doesn't come.
+    Stalled,
+    /// All turns are done.
+    OutOfTurns,
+    /// The output was refused.
+    WriteFault,
+    /// There was not enough memory.
+    NoMemory,
+}
+
+impl From<WriteRefusal> for End {
+    ghost use Rattle.simulation.specs.Underway.{refusal_end};
+
+    ghost from_gives = { λ refusal end. end ≡ refusal_end refusal };
+
+    fn from(refusal: WriteRefusal) -> End {
+        match refusal {
+            WriteRefusal::Failed => End::WriteFault,
+            WriteRefusal::NoMemory => End::NoMemory,
+        }
+    }
+}
+
+/// A run that has ended.
+#[derive(Debug, Drop)]
+pub struct Simulated {
+    pub end: End,
+    /// Its entries, oldest first.
+    pub trace: Items<Entry>,
+}
+
+/// Runs a program from its beginning: each act is drawn by the seed, and the lines are written after it. It ends where the
+/// program is done or stuck, or after so many acts.
+pub fn simulate<K: Sink>(
+    alloc: Global,
+    setup: &Setup,
+    image: &Image,
+    turns: u64,
+    seed: u64,
+    out: &mut K,
+) -> Simulated
+    requires one { setup.now.geometry.nodes ≡ 1 }
+    requires quantum { (0 < setup.now.quantum) × (setup.now.quantum ≤ quantum_limit) }
+    requires turns { (0 < turns) × (turns ≤ 1000000) }
+    ensures simulated { Simulates (program setup.now image.now) turns seed result }
+    ensures shown { Shows (program setup.now image.now) (K.written out.old) (K.written out.new) result }
+    ensures failed { result.end ≡ End.WriteFault → Rose (K.faults out.old) (K.faults out.new) }
+    ensures later { K.faults out.old ≤ K.faults out.new }
+{
+    match Cluster::boot(alloc, setup, image) {
+        Err(NoMemory) => Simulated {
+            end: End::NoMemory,
+            trace: Items::new(Vec::new(alloc)),
+        },
+        Ok(mut cluster) => {
+            let end = run(&mut cluster, turns, seed, out);
+            Simulated {
+                end,
+                trace: cluster.finish(),
+            }
+        }
+    }
+}
+
+// Draws act after act.
+fn run<K: Sink>(cluster: &mut Cluster, turns: u64, seed: u64, out: &mut K) -> End
+    requires booted { HasBooted cluster.old.program cluster.old }
+    requires some { possible_acts cluster.old.program (net_after cluster.old) ≢ [] }
+    requires turns { (0 < turns) × (turns ≤ 1000000) }
+    ensures ran { HasRun turns seed cluster.old cluster.new (K.written out.old) (K.written out.new) result }
+    ensures failed { result ≡ End.WriteFault → Rose (K.faults out.old) (K.faults out.new) }
+    ensures later { K.faults out.old ≤ K.faults out.new }
+{
+    let mut words = generator(seed);
+    for done in 0..turns {
+        let shown = cluster.console().len();
+        match draw(cluster, words.next_word()) {
+            Ok(()) => {}
+            Err(NoMemory) => return End::NoMemory,
+        }
+        match show(cluster, shown, out) {
+            Ok(()) => {}
+            Err(refusal) => return End::from(refusal),
+        }
+        match cluster.verdict() {
+            State::Done => return End::Done,
+            State::Stalled => return End::Stalled,
+            State::Going => {}
+        }
+    }
+    End::OutOfTurns
+}
+
+// The generator of a seed.
+#[tactic(auto, unfolding(crate::specs::Drawn::generator))]
+fn generator(seed: u64) -> Lcg64Xsh32
+    ensures { result ≡ generator seed }
+{
+    Lcg64Xsh32::new(seed, STREAM)
+}
+
+// Does the possible act that the word chooses.
+fn draw(cluster: &mut Cluster, word: u32) -> Result<(), NoMemory>
+    requires stands { StandsForItsTrace cluster.old }
+    requires some { possible_acts cluster.old.program (net_after cluster.old) ≢ [] }
+    requires entries { length cluster.old.entries < entry_limit }
+    ensures ok { OnOk result (Draws word cluster.old cluster.new) }
+    ensures err { OnErr result (Loses cluster.old cluster.new) }
+{
+    let acts = cluster.acts()?;
+    match chosen(&acts, word) {
+        None => unreachable!(),
+        Some(choice) => {
+            cluster.step(choice.0, choice.1)?;
+            Ok(())
+        }
+    }
+}
+
+// The act at the word's place, counted round and round.
+fn chosen(acts: &[(NodeNo, Act)], word: u32) -> Option<(NodeNo, Act)>
+    ensures { result ≡ chosen word acts.now }
+{
+    if acts.is_empty() {
+        return None;
+    }
+    acts.get(word as usize % acts.len()).copied()
+}
+
+// Writes the lines that came after the first so many bytes.
+fn show<K: Sink>(cluster: &Cluster, shown: usize, out: &mut K) -> Result<(), WriteRefusal>
+    requires { shown ≤ length cluster.now.console }
+    ensures ok { OnOk result (Appends (K.written out.old) (drop shown cluster.now.console) (K.written out.new)) }
+    ensures err { OnErr result (AppendsPrefix (K.written out.old) (drop shown cluster.now.console) (K.written out.new)) }
+    ensures failed { IsErrOf result WriteRefusal.Failed → Rose (K.faults out.old) (K.faults out.new) }
+    ensures later { K.faults out.old ≤ K.faults out.new }
+{
+    write_piece(out, &cluster.console()[shown..])
+}
