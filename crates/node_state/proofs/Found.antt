@@ -1,11 +1,11 @@
 -- A thread that runs, and what its stop leads to, are what the definition says.
-use Rattle.std.proofs.Common.{◌≡◌, ℕ, List, Option, Some, None, refl, sym, ap, ◌∙◌}
+use Rattle.std.proofs.Common.{◌≡◌, ℕ, Option, Some, None, sym, ap, ◌∙◌}
 use Rattle.slot_space.specs.declared.names.Tid.{Tid}
 use Rattle.rv_step.specs.declared.hart.Stop.{Stop}
 use Rattle.run_trace.specs.Program.{Program, code_of}
 use Rattle.run_trace.specs.Guests.{Thread, Run}
 use Rattle.run_trace.specs.Local.{Doing, nothing}
-use Rattle.run_trace.specs.Steps.{ran, thread_at, at_found, at_thread}
+use Rattle.run_trace.specs.Steps.{ran, at_found, at_thread}
 use Rattle.run_trace.specs.Machine.{stopped, run_found}
 use Rattle.node_state.specs.Runs.{run_at, ran_at, stop_found}
 

@@ -2,17 +2,16 @@
 use Rattle.std.proofs.Common.{◌≡◌, ℕ, List, [], ◌∷◌, Bool, true, false, Option, Some, None, refl, sym, ap, ◌∙◌}
 use Rattle.std.specs.Map.{lookup, set_value}
 use Rattle.slot_space.specs.declared.names.Tid.{Tid}
-use Rattle.iso_blocks.specs.Heap.{place, emptied}
-use Rattle.run_trace.specs.declared.label.Label.TheVariants.{Gave, Judged}
+use Rattle.iso_blocks.specs.Heap.{emptied}
+use Rattle.run_trace.specs.declared.label.Label.TheVariants.{Judged}
 use Rattle.run_trace.specs.declared.label.Extra.TheVariants.{Nothing}
 use Rattle.run_trace.specs.declared.node.Wait.TheVariants as wait
 use Rattle.run_trace.specs.Guests.{Thread, Guest, waits, heap_of, slots_for, gives_slots, without_slots, without_block}
 use Rattle.rv_step.specs.Memory.{Memory}
 use Rattle.run_trace.specs.Names.{is_tid}
 use Rattle.run_trace.specs.Local.{Doing, with_threads}
-use Rattle.run_trace.specs.Steps.{at_found, at_thread, thread_at, say, keep, slots_in, judge, tell, settle, returns, takes_run}
-use Rattle.run_trace.specs.Machine.{claimed, free_run, places, allocates, allocates_with, returns_any, frees_block, frees}
-use Rattle.node_state.specs.Asking.{HasBlock}
+use Rattle.run_trace.specs.Steps.{at_found, at_thread, thread_at, say, keep, slots_in, tell, settle, returns, takes_run}
+use Rattle.run_trace.specs.Machine.{places, allocates, allocates_with, returns_any, frees_block, frees}
 use Rattle.node_state.specs.Heaps.{claim_found, takes_at, drops_at, gives_back}
 
 -- ## isomalloc

@@ -1,14 +1,14 @@
 -- Slots one after another: a run that is granted, and a set that is given back.
-use Rattle.std.proofs.Common.{◌≡◌, ℕ, zero, suc, ◌+◌, ◌-◌, ◌<◌, ◌≤◌, List, [], ◌∷◌, ◌++◌, length, Option, Some, None, IfSome, IsSome, ◌≢◌, inl, inr, option_and_then, option_map, Bool, true, false, eqb, cond, not, refl, sym, ap, ◌∙◌, subst, arith, take, drop, filter}
+use Rattle.std.proofs.Common.{◌≡◌, ℕ, zero, suc, ◌+◌, ◌-◌, ◌<◌, ◌≤◌, List, [], ◌∷◌, Option, Some, None, IfSome, IsSome, ◌≢◌, inl, inr, option_and_then, option_map, Bool, true, false, eqb, cond, not, refl, sym, ap, ◌∙◌, subst, arith}
 use Rattle.std.specs.Prelude.{slice_get}
 use Rattle.std.specs.List.{insert, remove}
 use Rattle.std.proofs.lemmas.Bool.{eq-eqb, cases_eq}
 use Rattle.std.proofs.lemmas.Bool.Decides.{nat_tests}
-use Rattle.slot_space.specs.Sets.{has, run, IsSlotSet}
+use Rattle.slot_space.specs.Sets.{has, run}
 use Rattle.slot_space.proofs.Sets.{has-run}
 use Rattle.rv_step.specs.declared.memory.Held.{Held}
 use Rattle.rv_step.specs.Memory.{Memory, slots_of, new_place, block_of, slot_place}
-use Rattle.run_trace.specs.Guests.{zeros_of, zero_slot, with_zero_slot, with_zero_slots, without_slots}
+use Rattle.run_trace.specs.Guests.{zeros_of, with_zero_slot, with_zero_slots, without_slots}
 use Rattle.run_trace.proofs.HeldSlots.{has_takes, none_held, some_held, not_held, missing}
 
 -- ## A run that is granted

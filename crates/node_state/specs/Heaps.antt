@@ -1,5 +1,5 @@
 -- The steps of isomalloc and isofree, looked up where the thread stands.
-use Rattle.std.specs.Prelude.{◌≡◌, ℕ, List, [], ◌∷◌, Option, Some, None}
+use Rattle.std.specs.Prelude.{ℕ, List, [], ◌∷◌, Option, Some, None}
 use Rattle.slot_space.specs.declared.names.Tid.{Tid}
 use Rattle.iso_blocks.specs.Heap.{place, emptied}
 use Rattle.run_trace.specs.declared.label.Label.TheVariants.{Gave}

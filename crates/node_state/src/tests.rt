@@ -99,6 +99,55 @@ const ROUNDS: [u32; 25] = [
     0x0000_8067,
 ];
 
+/// It allocates 100 bytes twice and 65,536 bytes, frees the first, allocates 16 bytes, and frees where no block starts. It
+/// writes the last word of the large block, frees that, allocates as much again, and returns that word. Before that it asks for
+/// 0 bytes, for too many, for one byte more than all slots have, for as many as all slots have, and frees at -16.
+const HEAP: [u32; 43] = [
+    0x0010_0893,
+    0x0000_0073,
+    0x00c0_0893,
+    0x0640_0513,
+    0x0000_0073,
+    0x0005_0413,
+    0x0640_0513,
+    0x0000_0073,
+    0x0001_0537,
+    0x0000_0073,
+    0x0005_0493,
+    0x00d0_0893,
+    0x0004_0513,
+    0x0000_0073,
+    0x00c0_0893,
+    0x0100_0513,
+    0x0000_0073,
+    0x00d0_0893,
+    0x0104_0513,
+    0x0000_0073,
+    0x0001_02b7,
+    0x0054_8933,
+    0xfe89_3c23,
+    0x0004_8513,
+    0x0000_0073,
+    0x00c0_0893,
+    0x0001_0537,
+    0x0000_0073,
+    0xff89_3903,
+    0x0000_0513,
+    0x0000_0073,
+    0xfff0_0513,
+    0x0000_0073,
+    0x0004_0537,
+    0x0015_0513,
+    0x0000_0073,
+    0x0004_0537,
+    0x0000_0073,
+    0x00d0_0893,
+    0xff00_0513,
+    0x0000_0073,
+    0x0009_0513,
+    0x0000_8067,
+];
+
 /// A program and its slots, and what it comes to: the console, replies and ends with the numbers of their threads, and how
 /// often it halts.
 type Row = (
@@ -131,6 +180,9 @@ const ROWS: [Row; 4] = [
     (&HALT, 16, b"", &[], &[], 1),
 ];
 
+/// Past all slots.
+const NO_MORE: u16 = 4096;
+
 /// What a program has come to.
 #[derive(Drop)]
 struct Seen {
@@ -140,6 +192,9 @@ struct Seen {
     halts: u32,
     /// The slots of births.
     slots: Vec<u16>,
+    /// The runs that were taken, and the slots that were given, those of each label followed by `NO_MORE`.
+    took: Vec<(u16, u16)>,
+    gave: Vec<u16>,
     spare: u32,
 }
 
@@ -152,6 +207,13 @@ impl Seen {
                 End::Exit(value) => self.ends.push((t.seq, value.cast_signed()))?,
                 End::Fault { .. } => {}
             },
+            Label::Took { first, count, .. } => self.took.push((first.0, *count))?,
+            Label::Gave { slots, .. } => {
+                for slot in slots.as_slice() {
+                    self.gave.push(slot.0)?;
+                }
+                self.gave.push(NO_MORE)?;
+            }
             Label::Halted(_) => self.halts = self.halts.saturating_add(1),
             _ => {}
         }
@@ -187,6 +249,8 @@ fn run(alloc: Global, words: &[u32], slots: u16) -> Result<Seen, Fail> {
         ends: Vec::new(alloc),
         halts: 0,
         slots: Vec::new(alloc),
+        took: Vec::new(alloc),
+        gave: Vec::new(alloc),
         spare: 0,
     };
     let mut packets = VecDeque::new(alloc);
@@ -239,5 +303,39 @@ fn a_slot_that_was_used_reads_zeros_again(rt: HostRuntime) -> Result<(), Fail> {
     assert_eq!(rt; seen.slots.len(), 1001);
     assert!(rt; seen.slots.iter().skip(1).all(|slot| *slot == 1));
     assert_eq!(rt; seen.spare, 2);
+    Ok(())
+}
+
+/// Blocks stand at the lowest places, in slots that touch; slots come only where a block has no place, and go once no block meets
+/// them; all slots of a thread go at its end.
+#[test]
+fn blocks_come_to_their_places(rt: HostRuntime) -> Result<(), Fail> {
+    let seen = run(rt.alloc(), &HEAP, 4)?;
+    let took = [(1, 1), (2, 1), (2, 1)];
+    let gave = [2, NO_MORE, 0, 1, 2, NO_MORE];
+    let ends = [(0, 0)];
+    let replies = [
+        0x1_0001_0000,
+        0x1_0001_0070,
+        0x1_0001_00e0,
+        0,
+        0x1_0001_0000,
+        -2,
+        0,
+        0x1_0001_00e0,
+        -1,
+        -7,
+        -7,
+        -4,
+        -2,
+    ];
+    assert_eq!(rt; seen.replies.len(), replies.len());
+    for (at, reply) in replies.iter().enumerate() {
+        assert_eq!(rt; seen.replies[at], (0, *reply), "call {at}");
+    }
+    assert!(rt; seen.took.as_slice() == took.as_slice());
+    assert!(rt; seen.gave.as_slice() == gave.as_slice());
+    assert!(rt; seen.ends.as_slice() == ends.as_slice());
+    assert_eq!(rt; seen.spare, 3);
     Ok(())
 }

@@ -1,4 +1,4 @@
-use Rattle.std.proofs.Common.{◌≡◌, ◌<◌, ◌≤◌, ℕ, true, false, arith, sym, ◌∙◌}
+use Rattle.std.proofs.Common.{◌≡◌, true, arith, sym, ◌∙◌}
 use Rattle.slot_space.specs.Sets.{has}
 use Rattle.run_trace.proofs.HeldSlots.{some_held}
 use Rattle.node_state.proofs.RunsTaken.{all_gone, given_same, given_gone, given_held}

@@ -1,6 +1,5 @@
-use Rattle.std.proofs.Common.{◌≡◌, ◌+◌, ◌-◌, ap, sym, ◌∙◌, arith, rules, List, ℕ, subst, false, true}
+use Rattle.std.proofs.Common.{◌≡◌, ◌+◌, ◌-◌, ap, sym, ◌∙◌, arith, List, ℕ, subst}
 use Rattle.slot_space.specs.Sets.{has, run}
-use Rattle.rv_step.specs.Memory.{slots_of}
 use Rattle.run_trace.specs.Guests.{with_zero_slots}
 use Rattle.node_state.proofs.RunsTaken.{granted_none, granted_same, granted_new, granted_all, granted_start}
 use Rattle.node_state.proofs.heap_slots.take_run.Goals as goal

@@ -1,4 +1,4 @@
-use Rattle.std.proofs.Common.{◌≡◌, ◌+◌, ◌-◌, ◌≤◌, ℕ, true, false}
+use Rattle.std.proofs.Common.{◌≡◌, ◌+◌, ◌-◌, ℕ, true, false}
 use Rattle.slot_space.specs.Sets.{has, run}
 use Rattle.rv_step.specs.Memory.{slots_of}
 use Rattle.run_trace.specs.Guests.{with_zero_slots}

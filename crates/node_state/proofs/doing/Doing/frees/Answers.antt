@@ -1,10 +1,8 @@
-use Rattle.std.proofs.Common.{rules, ◌≡◌, Some, None, subst, sym, ap, ◌∙◌, refl, IfOk}
+use Rattle.std.proofs.Common.{rules, ◌≡◌, Some, None, subst, sym, ap, ◌∙◌, IfOk}
 use Rattle.iso_blocks.specs.Heap.{emptied}
-use Rattle.run_trace.specs.declared.label.Label.TheVariants.{Judged}
-use Rattle.run_trace.specs.declared.label.Extra.TheVariants.{Nothing}
 use Rattle.run_trace.specs.Guests.{heap_of}
 use Rattle.run_trace.specs.Local.{Doing}
-use Rattle.run_trace.specs.Steps.{thread_at, judge, say, tell}
+use Rattle.run_trace.specs.Steps.{thread_at, judge, tell}
 use Rattle.node_state.specs.Asking.{HasBlock}
 use Rattle.node_state.specs.Heaps.{gives_back}
 use Rattle.node_state.proofs.Heaps.{gave_there, freed}

@@ -1,4 +1,4 @@
-use Rattle.std.proofs.Common.{refl, sym, ◌∙◌}
+use Rattle.std.proofs.Common.{sym, ◌∙◌}
 use Rattle.run_trace.specs.Steps.{thread_at}
 use Rattle.node_state.specs.Events.{program}
 use Rattle.node_state.proofs.Found.{ran_on}

@@ -1,4 +1,4 @@
-use Rattle.std.proofs.Common.{◌≡◌, List, ℕ, Some, sym, ap, ◌∙◌, subst}
+use Rattle.std.proofs.Common.{◌≡◌, List, ℕ, sym, ap, ◌∙◌, subst}
 use Rattle.slot_space.specs.Sets.{has, minus}
 use Rattle.iso_blocks.specs.Heap.{Heap, emptied}
 use Rattle.rv_step.specs.declared.hart.Hart.{Hart}

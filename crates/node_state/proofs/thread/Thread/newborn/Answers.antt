@@ -1,4 +1,4 @@
-use Rattle.std.proofs.Common.{rules, ◌≡◌, ◌∷◌, []}
+use Rattle.std.proofs.Common.{rules, ◌≡◌}
 use Rattle.rv_step.specs.Memory.{slots_of}
 use Rattle.node_state.proofs.Own.{alone}
 use Rattle.node_state.proofs.thread.Thread.newborn.Goals as goal

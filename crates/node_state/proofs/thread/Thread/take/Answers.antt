@@ -13,7 +13,7 @@ take_run-requires-clause-new c =
     let got : c.insert_run.new.self ≡ run c.args.first c.args.count = got_run c.empty-got.result c.insert_run.new.self c.args.first c.args.count c.empty-got.ensures c.insert_run.ensures in
     let apart : meets c.self.inside.slots (run c.args.first c.args.count) ≡ false = ap (meets c.self.inside.slots) (sym got) ∙ sym c.meets.ensures ∙ c.if-meets.false in
     λ s h. ap (λ m. has s (slots_of m)) c.in_ok-make_room.ensures.slots
-        ∙ new_run c.self.inside.stack c.args.first c.args.count c.self.inside.hart c.self.inside.slots c.self.inside.blocks c.self.invariant apart s (ap (λ k. has s (run k c.args.count)) (sym c.first.view_is) ∙ h)
+    ∙ new_run c.self.inside.stack c.args.first c.args.count c.self.inside.hart c.self.inside.slots c.self.inside.blocks c.self.invariant apart s (ap (λ k. has s (run k c.args.count)) (sym c.first.view_is) ∙ h)
 
 pub invariant_of-self-2 : goal.invariant_of-self-2
 invariant_of-self-2 c =
