@@ -11,9 +11,10 @@ ghost use Rattle.node_state.specs.Runs.{run_at, after_run};
 
 use crate::call::Call;
 use basics::{Items, NoMemory};
+use raw_slots::{Pool, SlotMem};
 use run_trace::Wait;
 use rv_inst::Image;
-use rv_step::{Hart, Ran, SlotMem};
+use rv_step::{Hart, Ran};
 use slot_space::{SlotNo, SlotSet};
 use std::alloc::Global;
 use std::marker::Model;
@@ -46,7 +47,7 @@ impl Model for Thread {
 fn zero_slot(alloc: Global) -> Result<SlotMem, NoMemory>
     ensures { IfOk result (λ block. block ≡ zeros_of 65536) }
 {
-    Ok(SlotMem::new(alloc)?)
+    Ok(Pool::new(alloc).take()?)
 }
 
 /// The set of this slot alone.

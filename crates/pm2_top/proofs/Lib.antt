@@ -1,4 +1,3 @@
-pub mod Zeros
 pub mod Events
 pub mod Run
 pub mod Ran

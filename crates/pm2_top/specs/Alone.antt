@@ -2,6 +2,7 @@
 use Rattle.std.specs.Prelude.{ℕ, zero, suc, ◌++◌, List, [], ◌∷◌, codes, Option, Some, None, ◌==◌, nat_lt, if◌then◌else◌}
 use Rattle.slot_space.specs.declared.names.Reply.TheVariants.{Value, BadArgument, TooLong}
 use Rattle.slot_space.specs.Replies.{reply_code}
+use Rattle.raw_slots.specs.Zeros.{zeros}
 use Rattle.rv_step.specs.Step.{State, Outcome, Next, Call, Fault, step_of, reg_of}
 use Rattle.rv_step.specs.Access.{read}
 use Rattle.rv_step.specs.Birth.{born, told}
@@ -81,11 +82,6 @@ event image a = event_of image a a.thread
 unfoldable pub events : List ℕ → ℕ → Alone → Alone
 events image zero a = a
 events image (suc n) a = events image n (event image a)
-
--- so many bytes of 0
-unfoldable pub zeros : ℕ → List ℕ
-zeros zero = []
-zeros (suc n) = 0 ∷ zeros n
 
 -- the main thread at its birth: its stack is slot 0, whose end is in sp
 abbrev pub main_thread : ℕ → State

@@ -9,8 +9,9 @@ ghost use Rattle.pm2_top.specs.Running.{EndsBy, plainly, thread_if};
 use crate::status::Status;
 use basics::{Items, NoMemory};
 use outside::{Sink, WriteRefusal, write_piece};
+use raw_slots::Pool;
 use rv_inst::Image;
-use rv_step::{FaultKind, Hart, SlotMem, Stop};
+use rv_step::{FaultKind, Hart, Stop};
 use slot_space::{Reply, SlotNo};
 use std::alloc::Global;
 
@@ -55,7 +56,7 @@ pub(crate) fn main_thread(alloc: Global, entry: u64) -> Result<Hart, NoMemory>
     ensures { IfOk result (λ hart. state_of hart ≡ main_thread entry) }
 {
     let mut hart = Hart::birth(alloc, entry, 0, 0, STACK_END);
-    let block = SlotMem::new(alloc)?;
+    let block = Pool::new(alloc).take()?;
     hart.mem.make_room(1)?;
     hart.mem.grant(SlotNo(0), block);
     Ok(hart)

@@ -4,8 +4,9 @@
 
 use anyhow::{Context, Result};
 use basics::Items;
+use raw_slots::Pool;
 use rv_inst::Image;
-use rv_step::{Hart, SlotMem, Stop};
+use rv_step::{Hart, Stop};
 use slot_space::SlotNo;
 use std::alloc::Global;
 use std::env;
@@ -58,7 +59,7 @@ fn main(rt: HostRuntime) -> Result<()> {
     let image = image(rt.alloc())?;
     let mut hart = Hart::birth(rt.alloc(), MAIN, 0, 0, STACK_END);
     hart.mem.make_room(1)?;
-    hart.mem.grant(SlotNo(0), SlotMem::new(rt.alloc())?);
+    hart.mem.grant(SlotNo(0), Pool::new(rt.alloc()).take()?);
     let mut count: u64 = 0;
     for _ in 0..runs {
         let ran = hart.run(&image, quantum);

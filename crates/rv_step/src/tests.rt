@@ -2,11 +2,15 @@
 
 use super::*;
 use basics::Items;
+use raw_slots::Pool;
 use rv_inst::Image;
 use slot_space::SlotNo;
 use std::test::Fail;
 
+mod plain;
 mod rows;
+
+use plain::Plain;
 
 /// The stub's words: `addi a7, zero, 1` and `ecall`.
 const STUB: [u32; 2] = [0x0010_0893, 0x0000_0073];
@@ -59,10 +63,11 @@ const SLOTS: [u16; 3] = [5, 6, 9];
 /// A hart that holds slots 5, 6 and 9.
 fn hart(rt: &HostRuntime) -> Result<Hart, Fail> {
     let mut hart = Hart::birth(rt.alloc(), 0x10008, 0, 0, 0);
+    let mut pool = Pool::new(rt.alloc());
     for slot in SLOTS {
         hart.mem.make_room(1)?;
         if hart.mem.slot_bytes(SlotNo(slot)).is_none() {
-            hart.mem.grant(SlotNo(slot), SlotMem::new(rt.alloc())?);
+            hart.mem.grant(SlotNo(slot), pool.take()?);
         }
     }
     Ok(hart)
@@ -131,7 +136,8 @@ fn a_thread_of_words(rt: HostRuntime) -> Result<(), Fail> {
     let image = image(&rt, &words, &[])?.try_clone(rt.alloc())?;
     let mut hart = Hart::birth(rt.alloc(), 0x10008, 3, 4, 0x1_0001_0000);
     hart.mem.make_room(1)?;
-    hart.mem.grant(SlotNo(0), SlotMem::new(rt.alloc())?);
+    let mut pool = Pool::new(rt.alloc());
+    hart.mem.grant(SlotNo(0), pool.take()?);
     // The quantum ends just before the call, so the next run does nothing.
     assert_eq!(rt;
         hart.run(&image, 4),
@@ -180,5 +186,90 @@ fn a_thread_of_words(rt: HostRuntime) -> Result<(), Fail> {
     let given_back = hart.mem.read_bytes(&image, 0x1_0000_fffe, &mut text);
     assert!(rt; !given_back);
     assert_eq!(rt; FaultKind::Store.number(), 6);
+    Ok(())
+}
+
+/// Each store and each load at the address in a1, again at every address up to the one in a5.
+const WIDTHS: [u32; 18] = [
+    0x00c5_b023, // sd a2, 0(a1)
+    0x0005_b683, // ld a3, 0(a1)
+    0xfff6_4613, // xori a2, a2, -1
+    0x00c5_a023, // sw a2, 0(a1)
+    0x0005_a703, // lw a4, 0(a1)
+    0x0005_e803, // lwu a6, 0(a1)
+    0x0556_4613, // xori a2, a2, 85
+    0x00c5_9023, // sh a2, 0(a1)
+    0x0005_9883, // lh a7, 0(a1)
+    0x0005_d283, // lhu t0, 0(a1)
+    0xfaa6_4613, // xori a2, a2, -86
+    0x00c5_8023, // sb a2, 0(a1)
+    0x0005_8303, // lb t1, 0(a1)
+    0x0005_c383, // lbu t2, 0(a1)
+    0x5556_0613, // addi a2, a2, 1365
+    0x0015_8593, // addi a1, a1, 1
+    0xfcf5_90e3, // bne a1, a5, -64
+    0x0000_0073, // ecall
+];
+
+/// The first of 16 addresses, and how many of the 176 accesses on the way are refused.
+const STARTS: [(u64, u32); 6] = [
+    (0x1_0005_0100, 0),
+    // Over the end of slot 5 into slot 6.
+    (0x1_0005_fff4, 0),
+    // Over the end of slot 6, after which no slot is held: at 11, 7, 5 and 4 addresses the widths are refused.
+    (0x1_0006_fff4, 11 * 2 + 7 * 3 + 5 * 3 + 4 * 3),
+    // Before slot 5 no slot is held: at 12 addresses the first byte isn't there.
+    (0x1_0004_fff4, 12 * 11),
+    // The image is read, and none of the four stores writes it.
+    (0x1_0000, 16 * 4),
+    // Over the end of all addresses.
+    (0xffff_ffff_ffff_fff8, 16 * 11),
+];
+
+/// At the first of 16 addresses.
+fn begin(hart: &mut Hart, start: u64) {
+    hart.regs[11] = start;
+    hart.regs[12] = 0x0123_4567_89ab_cdef;
+    hart.regs[15] = start.wrapping_add(16);
+    hart.pc = 0x10008;
+}
+
+/// On raw blocks and on a plain vector the same programs do the same: counts, stops, registers and bytes.
+#[test]
+fn raw_blocks_are_plain_bytes(rt: HostRuntime) -> Result<(), Fail> {
+    let image = image(&rt, &WIDTHS, &[])?;
+    let mut hart = hart(&rt)?;
+    let mut plain = Plain {
+        hart: Hart::birth(rt.alloc(), 0x10008, 0, 0, 0),
+        start: 0x1_0005_0000,
+        bytes: Vec::new(rt.alloc()),
+    };
+    for at in 0..2 * 65536 {
+        plain.bytes.push(pattern(5, at))?;
+    }
+    assert!(rt; hart.mem.write_bytes(plain.start, &plain.bytes));
+    for (start, refused) in STARTS {
+        begin(&mut hart, start);
+        begin(&mut plain.hart, start);
+        let mut faults = 0u32;
+        for _ in 0..200 {
+            let ran = hart.run(&image, 1000);
+            assert_eq!(rt; ran, plain.run(&image, 1000), "{start}");
+            assert_eq!(rt; hart.regs, plain.hart.regs, "{start}");
+            assert_eq!(rt; hart.pc, plain.hart.pc, "{start}");
+            if ran.stop == Stop::Call {
+                break;
+            }
+            faults = faults.saturating_add(1);
+            hart.pc = hart.pc.wrapping_add(4);
+            plain.hart.pc = hart.pc;
+        }
+        assert_eq!(rt; hart.pc, 0x10008 + 68, "{start}");
+        assert_eq!(rt; faults, refused, "{start}");
+        for (slot, bytes) in [5, 6].iter().zip(plain.bytes.chunks(65536)) {
+            let held = hart.mem.slot_bytes(SlotNo(*slot));
+            assert!(rt; held == Some(bytes), "{start}");
+        }
+    }
     Ok(())
 }

@@ -8,8 +8,8 @@ ghost use Rattle.std.specs.Int.{from_le_bytes, w64};
 ghost use Rattle.rv_step.specs.Memory.{slots_of, place_of, held_byte};
 ghost use Rattle.rv_step.specs.Access.{byte_at, readable, read, with_byte, writable, written};
 
+use super::block::{set_slot_byte, set_slot_bytes, slot_byte};
 use super::{GuestMem, place_in};
-use crate::slot_mem::{set_slot_byte, set_slot_bytes, slot_byte};
 use rv_inst::Image;
 
 /// Where the first slot starts.

@@ -1,12 +1,11 @@
 use Rattle.std.proofs.Common.{◌≡◌, ◌∷◌, [], ap, refl}
 use Rattle.rv_step.specs.Step.{State}
-use Rattle.pm2_top.specs.Alone.{zeros}
-use Rattle.pm2_top.proofs.Zeros.{zeros-all}
+use Rattle.raw_slots.specs.Zeros.{zeros}
 use Rattle.pm2_top.proofs.thread.main_thread.Goals as goal
 
 pub returns : goal.returns
 returns c =
-    let block : c.in_ok-block.block ≡ zeros 65536 = zeros-all 65536 c.in_ok-block.block c.in_ok-block.ensures.0 c.in_ok-block.ensures.1 in
+    let block : c.in_ok-block.block ≡ zeros 65536 = c.in_ok-block.ensures.zeroed in
     let birth = c.birth-hart.ensures.state in
     let none : c.birth-hart.result.mem.0 ≡ [] = ap (λ (s : State). s.memory) c.birth-hart.ensures.state in
     let one : c.grant.new.self.0 ≡ record { slot = 0; block = zeros 65536 } ∷ [] =

@@ -11,4 +11,4 @@ returns-clause-bytes c = λ image.
     let there : c.index.result.now ≡ get_or c.args.self.now.0 c.in_ok-place.place c.index.result.now = rw (← seen) c.index.ensures in
     let held = held_at c.args.self.now.0 c.args.address c.in_ok-place.place c.index.result.now place there in
     rw c.bytes.ensures.value (read_inside image c.args.self.now.0 c.args.address c.in_ok-place.place c.args.len c.index.result.now
-    place held (omega arith) (rw (← c.bytes.ensures.value) c.bytes.ensures.len))
+    place held (omega arith) c.bytes.ensures.len)
