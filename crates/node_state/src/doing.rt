@@ -17,6 +17,7 @@ use crate::places::Places;
 use crate::thread::Thread;
 use basics::{Items, NoMemory};
 use marcel_core::{Birth, End};
+use raw_slots::Pool;
 use run_trace::{Body, Extra, Label, Send, Setup, Wait, Why};
 use rv_inst::Image;
 use rv_step::Stop;
@@ -54,6 +55,8 @@ impl Model for State {
 pub(crate) struct Doing {
     pub(crate) alloc: Global,
     pub(crate) node: State,
+    /// Blocks for the slots of threads to come.
+    pool: Pool,
     labels: Vec<Label>,
     sends: Vec<Send>,
     prints: Vec<u8>,
@@ -114,10 +117,16 @@ impl Doing {
                 names: Vec::new(alloc),
                 halted: false,
             },
+            pool: Pool::new(alloc),
             labels: Vec::new(alloc),
             sends: Vec::new(alloc),
             prints: Vec::new(alloc),
         }
+    }
+
+    /// How many blocks are spare.
+    pub(crate) fn spare(&self) -> u32 {
+        self.pool.spare()
     }
 
     /// What the event has come to, taken out.
@@ -190,13 +199,15 @@ impl Doing {
         Ok(())
     }
 
-    /// The thread is here no more.
+    /// The thread is here no more, and its blocks are spare.
     #[tactic(auto, unfolding(run_trace::specs::Steps::thread_out))]
     fn thread_out(&mut self, t: &Tid)
         ensures { self.new ≡ thread_out t.now self.old }
     {
         let node = &mut self.node;
-        node.threads.remove(t);
+        if let Some(thread) = node.threads.remove(t) {
+            thread.end(&mut self.pool);
+        }
     }
 
     /// A thread gets this slot.
@@ -333,7 +344,8 @@ impl Doing {
         })?;
         self.slot_out(slot);
         self.name_in()?;
-        let thread = Thread::newborn(self.alloc, entry, a0, sp, slot, priority)?;
+        let pool = &mut self.pool;
+        let thread = Thread::newborn(self.alloc, pool, entry, a0, sp, slot, priority)?;
         self.thread_in(&t, thread)?;
         self.arrive(&t, priority)
     }

@@ -3,6 +3,7 @@
 #![tactic(auto)]
 
 mod acts;
+mod blocks;
 mod call;
 mod calls;
 mod checks;
@@ -15,3 +16,6 @@ mod thread;
 
 pub use done::Done;
 pub use node::NodeState;
+
+#[cfg(test)]
+mod tests;

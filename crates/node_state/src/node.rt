@@ -41,6 +41,11 @@ impl NodeState {
         }
     }
 
+    /// How many blocks of memory are spare, for the slots of threads to come. No other clause speaks of it.
+    pub fn spare(&self) -> u32 {
+        self.doing.spare()
+    }
+
     /// One event: what it has come to, or None where the act isn't possible, and then nothing has changed. Want of memory is
     /// also where a home can't count another birth, or the run list another arrival.
     pub fn event(

@@ -1,17 +1,18 @@
 //! A thread that is on a node.
 
-ghost use Rattle.std.specs.Prelude.{◌≡◌, ◌<◌, ◌∷◌, [], length, IfOk, Option, None};
+ghost use Rattle.std.specs.Prelude.{◌≡◌, ◌<◌, ◌≤◌, ◌+◌, ◌-◌, ◌^◌, ◌∷◌, [], length, max, min, IfOk, OnOk, OnErr, Option, None};
 ghost use Rattle.slot_space.specs.Sets.{insert};
 ghost use Rattle.rv_step.specs.Access.{read};
 ghost use Rattle.run_trace.specs.declared.node.Wait.TheVariants as wait_of;
-ghost use Rattle.run_trace.specs.Guests.{zeros_of, waits, newborn, told, guest_slots};
+ghost use Rattle.run_trace.specs.Guests.{waits, newborn, told, guest_slots};
 ghost use Rattle.run_trace.specs.Calls.{call_of};
 ghost use Rattle.node_state.specs.Asking.{seen};
 ghost use Rattle.node_state.specs.Runs.{run_at, after_run};
 
+use crate::blocks::{put_all, spare_block};
 use crate::call::Call;
 use basics::{Items, NoMemory};
-use raw_slots::{Pool, SlotMem};
+use raw_slots::Pool;
 use run_trace::Wait;
 use rv_inst::Image;
 use rv_step::{Hart, Ran};
@@ -42,14 +43,6 @@ impl Model for Thread {
     ghost invariant = { λ t. slots_of t.hart.mem.0 ≡ t.slots };
 }
 
-/// The bytes of a new slot.
-#[tactic(auto, using(crate::proofs::Zeros::zeros_are))]
-fn zero_slot(alloc: Global) -> Result<SlotMem, NoMemory>
-    ensures { IfOk result (λ block. block ≡ zeros_of 65536) }
-{
-    Ok(Pool::new(alloc).take()?)
-}
-
 /// The set of this slot alone.
 #[tactic(auto, unfolding(slot_space::specs::Sets::insert))]
 fn only(slot: SlotNo) -> SlotSet
@@ -62,9 +55,10 @@ fn only(slot: SlotNo) -> SlotSet
 }
 
 impl Thread {
-    /// A new thread, whose only slot is its stack.
+    /// A new thread, whose only slot is its stack: room and a spare block come first, and what follows can't fail.
     pub(crate) fn newborn(
         alloc: Global,
+        pool: &mut Pool,
         entry: u64,
         a0: u64,
         sp: u64,
@@ -72,12 +66,14 @@ impl Thread {
         priority: u8,
     ) -> Result<Thread, NoMemory>
         requires { slot < 4096 }
-        ensures { IfOk result (λ x. x ≡ waits wait_of.No (newborn entry a0 0 sp slot priority)) }
+        ensures thread { IfOk result (λ x. x ≡ waits wait_of.No (newborn entry a0 0 sp slot priority)) }
+        ensures spare { OnOk result (pool.new + 1 ≡ max pool.old 1) }
+        ensures refused { OnErr result (pool.old ≤ pool.new) }
     {
         let mut hart = Hart::birth(alloc, entry, a0, 0, sp);
+        pool.reserve(1)?;
         hart.mem.make_room(1)?;
-        let block = zero_slot(alloc)?;
-        hart.mem.grant(slot, block);
+        hart.mem.grant(slot, spare_block(pool));
         Ok(Thread {
             wait: Wait::No,
             priority,
@@ -85,6 +81,25 @@ impl Thread {
             hart,
             slots: only(slot),
         })
+    }
+
+    /// It has ended, and its blocks are spare.
+    pub(crate) fn end(self, pool: &mut Pool)
+        ensures { pool.new ≡ min (pool.old + length (guest_slots self.guest)) (2 ^ 32 - 1) }
+    {
+        let Thread {
+            wait: _,
+            priority: _,
+            stack: _,
+            hart,
+            slots: _,
+        } = self;
+        let Hart {
+            regs: _,
+            pc: _,
+            mem,
+        } = hart;
+        put_all(pool, mem);
     }
 
     /// Its priority.

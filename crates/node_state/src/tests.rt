@@ -1,0 +1,243 @@
+//! Programs on one node, each packet handed back as it was sent.
+
+use crate::NodeState;
+use basics::Items;
+use marcel_core::End;
+use run_trace::{Act, Label, Packet, Setup};
+use rv_inst::Image;
+use slot_space::{Geometry, NodeNo};
+use std::alloc::Global;
+use std::collections::VecDeque;
+use std::test::Fail;
+
+/// It prints hi and returns.
+const HI: [u32; 9] = [
+    0x0010_0893,
+    0x0000_0073,
+    0x0000_0517,
+    0x0185_0513,
+    0x0020_0593,
+    0x0100_0893,
+    0x0000_0073,
+    0x0000_8067,
+    0x0000_6968,
+];
+
+/// It joins a thread that wasn't born, then itself, creates one, and returns what that is answered.
+const REFUSED: [u32; 14] = [
+    0x0010_0893,
+    0x0000_0073,
+    0x0050_0513,
+    0x0070_0893,
+    0x0000_0073,
+    0x0000_0513,
+    0x0000_0073,
+    0x0000_0517,
+    0x0185_0513,
+    0x0000_0593,
+    0x0030_0613,
+    0x0060_0893,
+    0x0000_0073,
+    0x0000_8067,
+];
+
+/// It creates two threads that join it, and returns.
+const TWICE: [u32; 15] = [
+    0x0010_0893,
+    0x0000_0073,
+    0x0000_0517,
+    0x0285_0513,
+    0x0000_0593,
+    0x0030_0613,
+    0x0060_0893,
+    0x0000_0073,
+    0x0000_0517,
+    0x0105_0513,
+    0x0000_0073,
+    0x0000_8067,
+    0x0070_0893,
+    0x0000_0073,
+    0x0000_8067,
+];
+
+/// It halts.
+const HALT: [u32; 5] = [
+    0x0010_0893,
+    0x0000_0073,
+    0x0190_0893,
+    0x0000_0073,
+    0x0000_8067,
+];
+
+/// A thousand times it creates a thread and joins it. That one reads the first and the last words of its stack's slot, writes
+/// -1 there, reads the first again, and returns that, each bit turned that it has read before.
+const ROUNDS: [u32; 25] = [
+    0x0010_0893,
+    0x0000_0073,
+    0x3e80_0413,
+    0x0000_0517,
+    0x02c5_0513,
+    0x0000_0593,
+    0x0030_0613,
+    0x0060_0893,
+    0x0000_0073,
+    0x0070_0893,
+    0x0000_0073,
+    0xfff4_0413,
+    0xfc04_1ee3,
+    0x0000_8067,
+    0xffff_02b7,
+    0x0022_82b3,
+    0x0002_b303,
+    0xff81_3383,
+    0x0073_6333,
+    0xfff0_0393,
+    0x0072_b023,
+    0xfe71_3c23,
+    0x0002_b503,
+    0x0065_4533,
+    0x0000_8067,
+];
+
+/// A program and its slots, and what it comes to: the console, replies and ends with the numbers of their threads, and how
+/// often it halts.
+type Row = (
+    &'static [u32],
+    u16,
+    &'static [u8],
+    &'static [(u32, i64)],
+    &'static [(u32, i64)],
+    u32,
+);
+
+const ROWS: [Row; 4] = [
+    (&HI, 16, b"0.0| hi\n", &[(0, 0)], &[(0, 0)], 0),
+    (
+        &REFUSED,
+        1,
+        b"",
+        &[(0, -2), (0, -1), (0, -4)],
+        &[(0, -4)],
+        0,
+    ),
+    (
+        &TWICE,
+        16,
+        b"",
+        &[(0, 1), (0, 2), (2, -5), (1, 0)],
+        &[(0, 2), (2, -5), (1, 0)],
+        0,
+    ),
+    (&HALT, 16, b"", &[], &[], 1),
+];
+
+/// What a program has come to.
+#[derive(Drop)]
+struct Seen {
+    prints: Vec<u8>,
+    replies: Vec<(u32, i64)>,
+    ends: Vec<(u32, i64)>,
+    halts: u32,
+    /// The slots of births.
+    slots: Vec<u16>,
+    spare: u32,
+}
+
+impl Seen {
+    fn see(&mut self, label: &Label) -> Result<(), Fail> {
+        match label {
+            Label::Born { slot, .. } => self.slots.push(slot.0)?,
+            Label::Judged { t, reply, .. } => self.replies.push((t.seq, reply.cast_signed()))?,
+            Label::Ended { t, end } => match end {
+                End::Exit(value) => self.ends.push((t.seq, value.cast_signed()))?,
+                End::Fault { .. } => {}
+            },
+            Label::Halted(_) => self.halts = self.halts.saturating_add(1),
+            _ => {}
+        }
+        Ok(())
+    }
+}
+
+fn image(alloc: Global, words: &[u32]) -> Result<Image, Fail> {
+    let mut bytes = Vec::new(alloc);
+    for word in words {
+        bytes.extend_from_slice(&word.to_le_bytes())?;
+    }
+    Ok(Image {
+        bytes: Items::new(bytes),
+        main: 0x10008,
+        services: Items::new(Vec::new(alloc)),
+    })
+}
+
+/// A packet is taken where there is one, else a thread runs, until none can.
+fn run(alloc: Global, words: &[u32], slots: u16) -> Result<Seen, Fail> {
+    let image = image(alloc, words)?;
+    let geometry = Geometry::new(1, slots).ok_or("within the limits")?;
+    let setup = Setup {
+        geometry,
+        quantum: 1000,
+    };
+    let me = NodeNo(0);
+    let mut node = NodeState::fresh(alloc, &setup, me);
+    let mut seen = Seen {
+        prints: Vec::new(alloc),
+        replies: Vec::new(alloc),
+        ends: Vec::new(alloc),
+        halts: 0,
+        slots: Vec::new(alloc),
+        spare: 0,
+    };
+    let mut packets = VecDeque::new(alloc);
+    let mut act = Act::Boot;
+    let mut took = None;
+    for _ in 0..10_000 {
+        let Some(done) = node.event(&setup, &image, me, act, took)? else {
+            break;
+        };
+        for label in done.labels.as_slice() {
+            seen.see(label)?;
+        }
+        seen.prints.extend_from_slice(done.prints.as_slice())?;
+        for send in done.sends.into_vec() {
+            let body = send.body;
+            packets.push_back(Packet { stamp: 1, body })?;
+        }
+        took = packets.pop_front();
+        act = match took {
+            Some(_) => Act::Take(me),
+            None => Act::Run(0, 1000),
+        };
+    }
+    seen.spare = node.spare();
+    Ok(seen)
+}
+
+#[test]
+fn programs_come_to_their_rows(rt: HostRuntime) -> Result<(), Fail> {
+    for (at, (words, slots, prints, replies, ends, halts)) in ROWS.iter().enumerate() {
+        let seen = run(rt.alloc(), words, *slots)?;
+        assert!(rt; seen.prints.as_slice() == *prints, "row {at}");
+        assert!(rt; seen.replies.as_slice() == *replies, "row {at}");
+        assert!(rt; seen.ends.as_slice() == *ends, "row {at}");
+        assert_eq!(rt; seen.halts, *halts, "row {at}");
+    }
+    Ok(())
+}
+
+/// The second thread reads zeros where the first, which had the same slot, wrote; and so on, on two blocks.
+#[test]
+fn a_slot_that_was_used_reads_zeros_again(rt: HostRuntime) -> Result<(), Fail> {
+    let seen = run(rt.alloc(), &ROUNDS, 16)?;
+    assert_eq!(rt; seen.ends.len(), 1001);
+    for (at, end) in seen.ends.iter().enumerate() {
+        let last = (0, 0);
+        let each = (u32::try_from(at)?.saturating_add(1), -1);
+        assert_eq!(rt; *end, if at == 1000 { last } else { each });
+    }
+    assert_eq!(rt; seen.slots.len(), 1001);
+    assert!(rt; seen.slots.iter().skip(1).all(|slot| *slot == 1));
+    assert_eq!(rt; seen.spare, 2);
+    Ok(())
+}
