@@ -6,3 +6,4 @@ pub mod Memories
 pub mod Limits
 pub mod Building
 pub mod Texts
+pub mod RuleLaws

@@ -1,4 +1,4 @@
--- How many slots and blocks there can be, and which slot a stack can have.
+-- How many slots and blocks there can be.
 use Rattle.std.proofs.Common.{◌≡◌, ℕ, zero, suc, ◌+◌, ◌*◌, ◌^◌, ◌<◌, ◌≤◌, Bool, true, false, cond, ltb, eqb, List, [], ◌∷◌, ◌++◌, length, drop, refl, sym, arith}
 use Rattle.std.proofs.lemmas.Bool.{eq-eqb, ne_eqb, eqb-false, ltb-true, true≢false}
 use Rattle.std.proofs.lemmas.List.{length-drop}
@@ -40,31 +40,6 @@ blocks_between low slots (b ∷ live) proper le stand =
 
 pub blocks_few : (slots : List ℕ) (live : List (ℕ × ℕ)) → IsSlotSet slots → StandFrom 0 slots live → length live < 2 ^ 32
 blocks_few slots live proper stand = let h = blocks_between 0 slots live proper (omega arith) stand in omega (arith, h)
-
--- ## The rules of the fields, section by section
-
-duty_obeyed : (d : Duty) (rest : List ℕ) → Obey duty_fields (duty_numbers d ++ rest) → Obey (register_fields 31) rest
-unfolding duty_fields Obey
-duty_obeyed duties.None rest o = o.1.1.1.1.1
-duty_obeyed (duties.Cast call) rest o = o.1.1.1.1.1
-duty_obeyed (duties.Owes call) rest o = o.1.1.1.1.1
-duty_obeyed (duties.Paid call) rest o = o.1.1.1.1.1
-
-registers_obeyed : (n : ℕ) (xs rest : List ℕ) → length xs ≡ n → Obey (register_fields n) (xs ++ rest) → Obey place_fields rest
-unfolding register_fields Obey
-registers_obeyed zero [] rest e o = o
-registers_obeyed zero (x ∷ xs) rest e o = absurd (omega arith)
-registers_obeyed (suc n) [] rest e o = absurd (omega arith)
-registers_obeyed (suc n) (x ∷ xs) rest e o = registers_obeyed n xs rest (omega arith) o.1
-
-pub place_obeyed : (t : Thread) → length t.state.regs ≡ 32 → Obey thread_fields (numbers_of t) → Obey place_fields (t.state.pc ∷ t.stack ∷ length t.heap.slots ∷ heap_numbers t.heap)
-unfolding thread_fields Obey
-place_obeyed t len o = registers_obeyed 31 (drop 1 t.state.regs) _ (omega (arith, length-drop 1 t.state.regs)) (duty_obeyed t.duty _ o.1.1.1.1.1)
-
--- the stack slot is a slot
-pub stack_small : (t : Thread) → length t.state.regs ≡ 32 → Obey thread_fields (numbers_of t) → t.stack < 4096
-unfolding place_fields Obey
-stack_small t len o = let p = place_obeyed t len o in ltb-true _ _ p.1.0
 
 -- the stack slot makes one slot more
 pub length-insert : (x : ℕ) (xs : List ℕ) → has x xs ≡ false → length (insert x xs) ≡ length xs + 1

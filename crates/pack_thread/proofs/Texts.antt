@@ -12,7 +12,8 @@ use Rattle.pack_thread.specs.Fields.{Reading, spelled, Obey, Fit, blocks_behind,
 use Rattle.pack_thread.specs.Grammar.{thread_fields, duty_fields, register_fields, place_fields, slot_fields, live_fields, block_fields, ends, read_text}
 use Rattle.pack_thread.specs.Threads.{Thread, duty_numbers, block_numbers, heap_numbers, numbers_of, bytes_of, head_of, text_of, AreWhole, IsThread, IsTyped}
 use Rattle.pack_thread.proofs.FieldLaws.{IsBytes, takes, again}
-use Rattle.pack_thread.proofs.Limits.{place_obeyed, length-insert}
+use Rattle.pack_thread.proofs.Limits.{length-insert}
+use Rattle.pack_thread.proofs.RuleLaws.{keeps}
 
 -- ## How many blocks stand behind the numbers
 
@@ -52,17 +53,6 @@ blocks_of_thread t regs =
 
 -- ## The length of a text
 
-slots_apart : (slots : List ℕ) (low stack : ℕ) (before rest : List ℕ) → Obey (slot_fields (length slots) low stack before) (slots ++ rest) → has stack slots ≡ false
-unfolding Obey slot_fields
-slots_apart [] low stack before rest o = refl
-slots_apart (s ∷ slots) low stack before rest o =
-    let p = and_parts (ltb s 4096 && leb low s) (not (eqb s stack)) o.0 in
-    rw (not-true _ p.1) (slots_apart slots (s + 1) stack (before ++ s ∷ []) rest o.1)
-
-pub stack_apart : (t : Thread) → length t.state.regs ≡ 32 → Obey thread_fields (numbers_of t) → has t.stack t.heap.slots ≡ false
-unfolding place_fields Obey
-stack_apart t regs o = slots_apart t.heap.slots 0 t.stack [] _ (place_obeyed t regs o).1.1.1
-
 length-bytes_of : (m : Memory) → AreWhole m → length (bytes_of m) ≡ 65536 * length m
 length-bytes_of [] whole = refl
 length-bytes_of (h ∷ m) whole = omega (arith, length-append h.block (bytes_of m), whole.0, length-bytes_of m whole.1)
@@ -70,7 +60,7 @@ length-bytes_of (h ∷ m) whole = omega (arith, length-append h.block (bytes_of 
 pub length-memory : (t : Thread) → IsThread t → IsTyped t → length (bytes_of t.state.memory) ≡ 65536 * (length t.heap.slots + 1)
 length-memory t rules typed =
     let count : length t.state.memory ≡ length t.heap.slots + 1 =
-    sym (length-map t.state.memory (λ (h : Held). h.slot)) ∙ ap length rules.holds ∙ length-insert t.stack t.heap.slots (stack_apart t typed.regs rules.rules) in
+    sym (length-map t.state.memory (λ (h : Held). h.slot)) ∙ ap length rules.holds ∙ length-insert t.stack t.heap.slots (keeps t typed.regs rules.rules).apart in
     length-bytes_of t.state.memory typed.blocks ∙ ap (λ n. 65536 * n) count
 
 -- ## A text is read

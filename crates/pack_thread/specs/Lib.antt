@@ -4,3 +4,4 @@ pub mod Reading
 pub mod Opened
 pub mod Writing
 pub mod Threads
+pub mod Rules

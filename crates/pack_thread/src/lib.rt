@@ -5,11 +5,15 @@
 mod baggage;
 mod error;
 mod held;
+mod laws;
 mod opening;
 mod packing;
+#[cfg(test)]
+mod tests;
 mod unpacking;
 
 pub use baggage::Baggage;
 pub use error::UnpackError;
+pub use laws::{one_text, rules};
 pub use packing::pack;
-pub use unpacking::{one_text, unpack};
+pub use unpacking::unpack;

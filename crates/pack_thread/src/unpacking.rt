@@ -1,6 +1,6 @@
 //! A thread of its text.
 
-ghost use Rattle.std.specs.Prelude.{◌≡◌, ℕ, ◌+◌, ◌*◌, ◌<◌, ◌≤◌, max, OnOk, OnErr, Err, IfOk, ◌↔◌, IsOk, length, drop, slice_index};
+ghost use Rattle.std.specs.Prelude.{◌≡◌, ℕ, ◌+◌, ◌*◌, ◌<◌, ◌≤◌, max, OnOk, OnErr, Err, IfOk, ◌↔◌, length, drop, slice_index};
 ghost use Rattle.slot_space.specs.Sets.{insert, IsAscending};
 ghost use Rattle.rv_step.specs.Memory.{slots_of};
 ghost use Rattle.pack_thread.specs.Grammar.{read_text};
@@ -145,9 +145,3 @@ pub fn unpack(alloc: Global, bytes: &[u8], pool: &mut Pool) -> Result<Baggage, U
     let thread = build(alloc, bytes, opened, pool)?;
     Ok(thread)
 }
-
-/// Each thread has one text.
-pub fn one_text()
-    ensures read { (t : Thread) → IsThread t → IsTyped t → IsOk (read_text (text_of t)) }
-    ensures one { (t u : Thread) → IsThread t → IsTyped t → IsThread u → IsTyped u → text_of t ≡ text_of u → t ≡ u }
-{}

@@ -2,12 +2,12 @@ use Rattle.std.proofs.Common.{◌≡◌, ap, sym, ◌∙◌}
 use Rattle.slot_space.specs.Sets.{insert}
 use Rattle.rv_step.specs.Memory.{slots_of}
 use Rattle.pack_thread.specs.Threads.{thread_of}
-use Rattle.pack_thread.proofs.Limits.{stack_small}
+use Rattle.pack_thread.proofs.RuleLaws.{keeps}
 use Rattle.pack_thread.proofs.Memories.{ascending_memory}
 use Rattle.pack_thread.proofs.packing.pack.Goals as goal
 
 pub held_slots-requires-clause-small : goal.held_slots-requires-clause-small
-held_slots-requires-clause-small c = stack_small (thread_of c.args.b.now) c.in_ok-put_head.ensures.regs c.requires.rules
+held_slots-requires-clause-small c = (keeps (thread_of c.args.b.now) c.in_ok-put_head.ensures.regs c.requires.rules).stack
 
 pub put_memory-requires-clause-ascending : goal.put_memory-requires-clause-ascending
 put_memory-requires-clause-ascending c =

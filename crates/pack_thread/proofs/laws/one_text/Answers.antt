@@ -1,6 +1,6 @@
 use Rattle.std.proofs.Common.{refl}
 use Rattle.pack_thread.proofs.Texts.{text_read, one_thread}
-use Rattle.pack_thread.proofs.unpacking.one_text.Goals as goal
+use Rattle.pack_thread.proofs.laws.one_text.Goals as goal
 
 pub returns-clause-read : goal.returns-clause-read
 returns-clause-read c = λ t rules typed. rw (text_read t rules typed) refl
