@@ -19,31 +19,39 @@ use rv_step::GuestMem;
 use slot_space::{NodeNo, SlotNo, SlotSet, Tid};
 use std::alloc::Global;
 
-/// Adds a number in so many bytes.
-fn put_number(bytes: &mut Vec<u8>, n: u64, width: usize) -> Result<(), NoMemory>
-    requires some { 1 ≤ width }
-    requires few { width ≤ 8 }
-    requires fits { n < 256 ^ width }
-    ensures { OnOk result (bytes.new.items ≡ bytes.old.items ++ little_bytes width n) }
+/// The text of a thread.
+pub fn pack(alloc: Global, b: &Baggage) -> Result<Vec<u8>, NoMemory>
+    requires { IsThread (thread_of b.now) }
+    ensures text { IfOk result (λ bytes. bytes.items ≡ text_of (thread_of b.now)) }
+    ensures typed { OnOk result (IsTyped (thread_of b.now)) }
 {
-    let mut buffer = [0; 8];
-    LittleEndian::write_uint(&mut buffer, n, width);
-    bytes.extend_from_slice(&buffer[..width])?;
+    let heap = b.blocks.heap_slots();
+    let slots = heap.members(alloc)?;
+    let mut bytes = Vec::new(alloc);
+    put_head(&mut bytes, b, &slots)?;
+    let held = held_slots(alloc, &heap, b.stack)?;
+    bytes.reserve(65536 * held.len())?;
+    put_memory(&mut bytes, &b.hart.mem, &held)?;
+    Ok(bytes)
+}
+
+/// Adds all fields up to the slots' bytes.
+fn put_head(bytes: &mut Vec<u8>, b: &Baggage, slots: &[SlotNo]) -> Result<(), NoMemory>
+    requires heap { slots.now ≡ b.now.blocks.slots }
+    requires proper { IsSlotSet slots.now }
+    ensures text { OnOk result (bytes.new.items ≡ bytes.old.items ++ head_of (thread_of b.now)) }
+    ensures fit { OnOk result (Fit thread_fields (numbers_of (thread_of b.now))) }
+    ensures regs { OnOk result (length b.now.hart.regs ≡ 32) }
+{
+    let live = b.blocks.live();
+    let heap = b.blocks.heap_slots();
+    put_who(bytes, &b.tid, b.priority, b.calls)?;
+    put_duty(bytes, &b.duty)?;
+    put_registers(bytes, &b.hart.regs)?;
+    put_place(bytes, b.hart.pc, b.stack, slots.len() as u16)?;
+    put_slots(bytes, slots)?;
+    put_live(bytes, live, &heap)?;
     Ok(())
-}
-
-/// A node's number.
-fn node_number(node: NodeNo) -> u8
-    ensures { result ≡ node }
-{
-    node.0
-}
-
-/// A slot's number.
-fn slot_number(slot: SlotNo) -> u16
-    ensures { result ≡ slot }
-{
-    slot.0
 }
 
 /// Adds which thread it is.
@@ -58,18 +66,6 @@ fn put_who(bytes: &mut Vec<u8>, tid: &Tid, priority: u8, calls: u32) -> Result<(
     Ok(())
 }
 
-/// Adds the call that a thread serves, whose duty has a number.
-fn put_call(bytes: &mut Vec<u8>, duty: u8, call: &CallNo) -> Result<(), NoMemory>
-    ensures { OnOk result (Writes bytes.old.items bytes.new.items duty_fields (duty ∷ call_numbers call.now) (register_fields 31)) }
-{
-    put_number(bytes, duty as u64, 1)?;
-    put_number(bytes, node_number(call.by.home) as u64, 1)?;
-    put_number(bytes, call.by.seq as u64, 4)?;
-    put_number(bytes, call.count as u64, 4)?;
-    put_number(bytes, node_number(call.at) as u64, 1)?;
-    Ok(())
-}
-
 /// Adds what the thread owes to a call.
 fn put_duty(bytes: &mut Vec<u8>, duty: &Duty) -> Result<(), NoMemory>
     ensures { OnOk result (Writes bytes.old.items bytes.new.items duty_fields (duty_numbers duty.now) (register_fields 31)) }
@@ -80,6 +76,18 @@ fn put_duty(bytes: &mut Vec<u8>, duty: &Duty) -> Result<(), NoMemory>
         Duty::Owes(call) => put_call(bytes, 2, call),
         Duty::Paid(call) => put_call(bytes, 3, call),
     }
+}
+
+/// Adds the call that a thread serves, whose duty has a number.
+fn put_call(bytes: &mut Vec<u8>, duty: u8, call: &CallNo) -> Result<(), NoMemory>
+    ensures { OnOk result (Writes bytes.old.items bytes.new.items duty_fields (duty ∷ call_numbers call.now) (register_fields 31)) }
+{
+    put_number(bytes, duty as u64, 1)?;
+    put_number(bytes, node_number(call.by.home) as u64, 1)?;
+    put_number(bytes, call.by.seq as u64, 4)?;
+    put_number(bytes, call.count as u64, 4)?;
+    put_number(bytes, node_number(call.at) as u64, 1)?;
+    Ok(())
 }
 
 /// The numbers of a thread that serves no call: all 0.
@@ -157,37 +165,29 @@ fn put_memory(bytes: &mut Vec<u8>, memory: &GuestMem, held: &[SlotNo]) -> Result
     Ok(())
 }
 
-/// Adds all fields up to the slots' bytes.
-fn put_head(bytes: &mut Vec<u8>, b: &Baggage, slots: &[SlotNo]) -> Result<(), NoMemory>
-    requires heap { slots.now ≡ b.now.blocks.slots }
-    requires proper { IsSlotSet slots.now }
-    ensures text { OnOk result (bytes.new.items ≡ bytes.old.items ++ head_of (thread_of b.now)) }
-    ensures fit { OnOk result (Fit thread_fields (numbers_of (thread_of b.now))) }
-    ensures regs { OnOk result (length b.now.hart.regs ≡ 32) }
+/// Adds a number in so many bytes.
+fn put_number(bytes: &mut Vec<u8>, n: u64, width: usize) -> Result<(), NoMemory>
+    requires some { 1 ≤ width }
+    requires few { width ≤ 8 }
+    requires fits { n < 256 ^ width }
+    ensures { OnOk result (bytes.new.items ≡ bytes.old.items ++ little_bytes width n) }
 {
-    let live = b.blocks.live();
-    let heap = b.blocks.heap_slots();
-    put_who(bytes, &b.tid, b.priority, b.calls)?;
-    put_duty(bytes, &b.duty)?;
-    put_registers(bytes, &b.hart.regs)?;
-    put_place(bytes, b.hart.pc, b.stack, slots.len() as u16)?;
-    put_slots(bytes, slots)?;
-    put_live(bytes, live, &heap)?;
+    let mut buffer = [0; 8];
+    LittleEndian::write_uint(&mut buffer, n, width);
+    bytes.extend_from_slice(&buffer[..width])?;
     Ok(())
 }
 
-/// The text of a thread.
-pub fn pack(alloc: Global, b: &Baggage) -> Result<Vec<u8>, NoMemory>
-    requires { IsThread (thread_of b.now) }
-    ensures text { IfOk result (λ bytes. bytes.items ≡ text_of (thread_of b.now)) }
-    ensures typed { OnOk result (IsTyped (thread_of b.now)) }
+/// A node's number.
+fn node_number(node: NodeNo) -> u8
+    ensures { result ≡ node }
 {
-    let heap = b.blocks.heap_slots();
-    let slots = heap.members(alloc)?;
-    let mut bytes = Vec::new(alloc);
-    put_head(&mut bytes, b, &slots)?;
-    let held = held_slots(alloc, &heap, b.stack)?;
-    bytes.reserve(65536 * held.len())?;
-    put_memory(&mut bytes, &b.hart.mem, &held)?;
-    Ok(bytes)
+    node.0
+}
+
+/// A slot's number.
+fn slot_number(slot: SlotNo) -> u16
+    ensures { result ≡ slot }
+{
+    slot.0
 }

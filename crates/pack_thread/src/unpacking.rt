@@ -20,6 +20,70 @@ use rv_step::{GuestMem, Hart};
 use slot_space::SlotNo;
 use std::alloc::Global;
 
+/// The thread of a text. Its slots' blocks are taken from the pool; where no thread is given, the pool has at least what
+/// it had.
+pub fn unpack(alloc: Global, bytes: &[u8], pool: &mut Pool) -> Result<Baggage, UnpackError>
+    ensures found { IfOk result (λ b. IsThread (thread_of b) × IsTyped (thread_of b)) }
+    ensures text { IfOk result (λ b. bytes.now ≡ text_of (thread_of b)) }
+    // Bytes outside the grammar are refused at the place where their reading is, whatever memory there is.
+    ensures refused { (offset : ℕ) → (result ≡ Err (UnpackError.BadImage offset)) ↔ (read_text bytes.now ≡ Err offset) }
+    // The text of a thread gives that thread, unless memory runs out.
+    ensures again { (t : Thread) → IsThread t → IsTyped t → bytes.now ≡ text_of t → Gives t result }
+    ensures taken { IfOk result (λ b. pool.new + (length b.blocks.slots + 1) ≡ max pool.old (length b.blocks.slots + 1)) }
+    ensures kept { OnErr result (pool.old ≤ pool.new) }
+{
+    let opened = match open_text(bytes) {
+        Ok(opened) => opened,
+        Err(offset) => return Err(UnpackError::BadImage { offset }),
+    };
+    let thread = build(alloc, bytes, opened, pool)?;
+    Ok(thread)
+}
+
+/// The thread whose fields have been read and checked.
+fn build(alloc: Global, bytes: &[u8], opened: Opened, pool: &mut Pool) -> Result<Baggage, NoMemory>
+    requires rules { IsOpen bytes.now opened }
+    requires whole { slots_at opened + 65536 * (length opened.slots + 1) ≡ length bytes.now }
+    ensures numbers { IfOk result (λ b. numbers_of (thread_of b) ≡ opened_numbers bytes.now opened) }
+    ensures regs { IfOk result (λ b. (slice_index b.hart.regs 0 ≡ 0) × (length b.hart.regs ≡ 32)) }
+    ensures holds { IfOk result (λ b. slots_of b.hart.mem.0 ≡ insert b.stack b.blocks.slots) }
+    ensures memory { IfOk result (λ b. (bytes_of b.hart.mem.0 ≡ drop (slots_at opened) bytes.now) × AreWhole b.hart.mem.0) }
+    ensures taken { IfOk result (λ b. pool.new + (length b.blocks.slots + 1) ≡ max pool.old (length b.blocks.slots + 1)) }
+    ensures err { OnErr result (pool.old ≤ pool.new) }
+{
+    let from = opened.slots_at();
+    let live = blocks_of(alloc, bytes, opened.live_at(), opened.live)?;
+    let Opened {
+        who,
+        duty,
+        regs,
+        place,
+        slots,
+        live: _,
+    } = opened;
+    let Who {
+        tid,
+        priority,
+        calls,
+    } = who;
+    let Place { pc, stack, heap: _ } = place;
+    let blocks = match Blocks::rebuild(alloc, &slots, &live)? {
+        Some(made) => made,
+        None => unreachable!(),
+    };
+    let held = held_slots(alloc, &slots, stack)?;
+    let mem = memory_of(alloc, pool, &held, &bytes[from..])?;
+    Ok(Baggage {
+        tid,
+        priority,
+        calls,
+        duty,
+        hart: Hart { regs, pc, mem },
+        stack,
+        blocks,
+    })
+}
+
 /// So many blocks, from a place of the bytes on.
 #[tactic(auto, unfolding(crate::specs::Reading::blocks_at))]
 fn blocks_of(
@@ -40,14 +104,6 @@ fn blocks_of(
         live.push((address, size))?;
     }
     Ok(live)
-}
-
-/// Writes all bytes of a block.
-fn fill(block: &mut SlotMem, from: &[u8])
-    requires { length from.now ≡ 65536 }
-    ensures { block.new ≡ from.now }
-{
-    block.bytes_mut().copy_from_slice(from);
 }
 
 /// The memory of these slots, whose bytes stand one after another. The blocks are taken from the pool, which has at least
@@ -84,64 +140,10 @@ fn memory_of(
     Ok(memory)
 }
 
-/// The thread whose fields have been read and checked.
-fn build(alloc: Global, bytes: &[u8], opened: Opened, pool: &mut Pool) -> Result<Baggage, NoMemory>
-    requires rules { IsOpen bytes.now opened }
-    requires whole { slots_at opened + 65536 * (length opened.slots + 1) ≡ length bytes.now }
-    ensures numbers { IfOk result (λ b. numbers_of (thread_of b) ≡ opened_numbers bytes.now opened) }
-    ensures regs { IfOk result (λ b. (slice_index b.hart.regs 0 ≡ 0) × (length b.hart.regs ≡ 32)) }
-    ensures holds { IfOk result (λ b. slots_of b.hart.mem.0 ≡ insert b.stack b.blocks.slots) }
-    ensures memory { IfOk result (λ b. (bytes_of b.hart.mem.0 ≡ drop (slots_at opened) bytes.now) × AreWhole b.hart.mem.0) }
-    ensures err { OnErr result (pool.old ≤ pool.new) }
+/// Writes all bytes of a block.
+fn fill(block: &mut SlotMem, from: &[u8])
+    requires { length from.now ≡ 65536 }
+    ensures { block.new ≡ from.now }
 {
-    let from = opened.slots_at();
-    let live = blocks_of(alloc, bytes, opened.live_at(), opened.live)?;
-    let Opened {
-        who,
-        duty,
-        regs,
-        place,
-        slots,
-        live: _,
-    } = opened;
-    let Who {
-        tid,
-        priority,
-        calls,
-    } = who;
-    let Place { pc, stack, heap: _ } = place;
-    let blocks = match Blocks::rebuild(alloc, &slots, &live)? {
-        Some(made) => made,
-        None => unreachable!(),
-    };
-    let held = held_slots(alloc, &slots, stack)?;
-    let mem = memory_of(alloc, pool, &held, &bytes[from..])?;
-    Ok(Baggage {
-        tid,
-        priority,
-        calls,
-        duty,
-        hart: Hart { regs, pc, mem },
-        stack,
-        blocks,
-    })
-}
-
-/// The thread of a text. Its slots' blocks are taken from the pool; where no thread is given, the pool has at least what
-/// it had.
-pub fn unpack(alloc: Global, bytes: &[u8], pool: &mut Pool) -> Result<Baggage, UnpackError>
-    ensures found { IfOk result (λ b. IsThread (thread_of b) × IsTyped (thread_of b)) }
-    ensures text { IfOk result (λ b. bytes.now ≡ text_of (thread_of b)) }
-    // Bytes outside the grammar are refused at the place where their reading is, whatever memory there is.
-    ensures refused { (offset : ℕ) → (result ≡ Err (UnpackError.BadImage offset)) ↔ (read_text bytes.now ≡ Err offset) }
-    // The text of a thread gives that thread, unless memory runs out.
-    ensures again { (t : Thread) → IsThread t → IsTyped t → bytes.now ≡ text_of t → Gives t result }
-    ensures pool { OnErr result (pool.old ≤ pool.new) }
-{
-    let opened = match open_text(bytes) {
-        Ok(opened) => opened,
-        Err(offset) => return Err(UnpackError::BadImage { offset }),
-    };
-    let thread = build(alloc, bytes, opened, pool)?;
-    Ok(thread)
+    block.bytes_mut().copy_from_slice(from);
 }
