@@ -1,17 +1,11 @@
 -- How many slots and blocks there can be.
-use Rattle.std.proofs.Common.{◌≡◌, ℕ, zero, suc, ◌+◌, ◌*◌, ◌^◌, ◌<◌, ◌≤◌, Bool, true, false, cond, ltb, eqb, List, [], ◌∷◌, ◌++◌, length, drop, refl, sym, arith}
-use Rattle.std.proofs.lemmas.Bool.{eq-eqb, ne_eqb, eqb-false, ltb-true, true≢false}
-use Rattle.std.proofs.lemmas.List.{length-drop}
+use Rattle.std.proofs.Common.{◌≡◌, ℕ, ◌+◌, ◌*◌, ◌^◌, ◌<◌, ◌≤◌, Bool, true, false, cond, ltb, eqb, List, [], ◌∷◌, length, refl, sym, arith}
+use Rattle.std.proofs.lemmas.Bool.{eq-eqb, ne_eqb, eqb-false, true≢false}
 use Rattle.slot_space.specs.Places.{slot_base}
 use Rattle.slot_space.proofs.Ascending.{ascending-insert, below-insert}
 use Rattle.slot_space.specs.Sets.{has, insert, IsAscending, AreBelow, IsSlotSet}
 use Rattle.iso_blocks.specs.Heap.{StandFrom}
 use Rattle.iso_blocks.proofs.KeptBy.{slots_within}
-use Rattle.lrpc.specs.declared.duty.Duty.{Duty}
-use Rattle.lrpc.specs.declared.duty.Duty.TheVariants as duties
-use Rattle.pack_thread.specs.Fields.{Obey}
-use Rattle.pack_thread.specs.Grammar.{thread_fields, duty_fields, register_fields, place_fields}
-use Rattle.pack_thread.specs.Threads.{Thread, duty_numbers, heap_numbers, numbers_of}
 
 -- numbers that ascend from one on and stay below a limit are no more than there are
 count_between : (low limit : ℕ) (xs : List ℕ) → low ≤ limit → IsAscending xs → ((s : ℕ) → has s xs ≡ true → low ≤ s) → AreBelow limit xs → low + length xs ≤ limit

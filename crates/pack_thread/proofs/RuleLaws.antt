@@ -1,17 +1,17 @@
 -- The rules of the fields, section by section, and what they say of a thread.
-use Rattle.std.proofs.Common.{◌≡◌, ℕ, zero, suc, ◌+◌, ◌%◌, ◌<◌, ◌≤◌, Bool, true, false, cond, ltb, leb, eqb, not, ◌&&◌, List, [], ◌∷◌, ◌++◌, length, drop, refl, sym, ap, ◌∙◌, arith, append_assoc}
+use Rattle.std.proofs.Common.{◌≡◌, ℕ, zero, suc, ◌+◌, ◌%◌, ◌<◌, ◌≤◌, Bool, true, false, cond, ltb, leb, eqb, not, ◌&&◌, List, [], ◌∷◌, ◌++◌, length, drop, refl, sym, arith, append_assoc}
 use Rattle.std.proofs.lemmas.Bool.{and_parts, and_from, eq-eqb, eqb-true, lt-ltb, ltb-true, le-leb, leb-true, not-true, not_from_false, true≢false}
 use Rattle.std.proofs.lemmas.List.{append-nil, length-drop}
-use Rattle.slot_space.specs.Sets.{has, insert, IsAscending, AreBelow, IsSlotSet, has_run}
+use Rattle.slot_space.specs.Sets.{has, insert, IsAscending, AreBelow, has_run}
 use Rattle.iso_blocks.specs.Bytes.{in_slots}
 use Rattle.iso_blocks.specs.Heap.{IsBlock, StandFrom}
 use Rattle.lrpc.specs.declared.duty.Duty.{Duty}
 use Rattle.lrpc.specs.declared.duty.Duty.TheVariants as duties
 use Rattle.pack_thread.specs.Fields.{Obey}
-use Rattle.pack_thread.specs.Grammar.{thread_fields, duty_fields, register_fields, place_fields, slot_fields, live_fields, block_fields, is_start, is_size, is_heap_slot}
+use Rattle.pack_thread.specs.Grammar.{thread_fields, duty_fields, register_fields, place_fields, slot_fields, live_fields, block_fields, is_start, is_size}
 use Rattle.pack_thread.specs.Rules.{ServesNodes, KeepsRules}
 use Rattle.pack_thread.specs.Threads.{Thread, duty_numbers, block_numbers, heap_numbers, numbers_of}
-use Rattle.pack_thread.proofs.BlockRules.{run_all, all_run, start_block}
+use Rattle.pack_thread.proofs.BlockRules.{run_all, all_run}
 use Rattle.pack_thread.proofs.Limits.{slots_few, with_stack, length-insert}
 
 -- ## Blocks

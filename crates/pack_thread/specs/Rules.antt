@@ -1,5 +1,5 @@
 -- What the rules of the fields say of a thread.
-use Rattle.std.specs.Prelude.{◌≡◌, ℕ, ◌%◌, ◌<◌, ◌≤◌, false}
+use Rattle.std.specs.Prelude.{◌≡◌, ◌%◌, ◌<◌, ◌≤◌, false}
 use Rattle.slot_space.specs.Sets.{has, IsSlotSet}
 use Rattle.iso_blocks.specs.Heap.{IsSound}
 use Rattle.lrpc.specs.declared.call.CallNo.{CallNo}

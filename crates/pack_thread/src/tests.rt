@@ -1,3 +1,5 @@
+ghost use Rattle.pack_thread.specs.Threads.{thread_of, IsThread, Gives};
+
 use super::*;
 use lrpc::{CallNo, Duty};
 use raw_slots::Pool;
@@ -147,7 +149,18 @@ fn a_text_gives_its_thread_and_the_thread_its_text(rt: HostRuntime) -> Result<()
     assert!(rt; thread.hart.mem.slot_bytes(SlotNo(9)).is_none());
     let again = pack(alloc, &thread)?;
     assert!(rt; again == text);
+    let other = moved(alloc, &thread, &mut pool)?;
+    assert!(rt; other.calls == thread.calls && has_bytes(&other, 8, 8));
     Ok(())
+}
+
+/// The thread that a thread's text gives: that thread.
+fn moved(alloc: Global, thread: &Baggage, pool: &mut Pool) -> Result<Baggage, UnpackError>
+    requires { IsThread (thread_of thread.now) }
+    ensures { Gives (thread_of thread.now) result }
+{
+    let text = pack(alloc, thread)?;
+    unpack(alloc, &text, pool)
 }
 
 #[test]
