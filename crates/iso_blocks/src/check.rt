@@ -19,8 +19,9 @@ pub fn missing(slots: &SlotSet, first: u16, end: u16) -> Option<u16>
     None
 }
 
-/// Whether a block at the address can stand in the slots.
-fn is_block(slots: &SlotSet, address: u64, size: u64) -> bool
+/// Whether a block can stand in the slots: its address and its size are multiples of 16, it has some bytes, and each of
+/// them lies in one of the slots.
+pub fn is_block(slots: &SlotSet, address: u64, size: u64) -> bool
     requires { IsSlotSet slots.now }
     ensures { IsTrue result ↔ IsBlock slots.now (address, size) }
 {

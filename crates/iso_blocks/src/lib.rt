@@ -13,4 +13,5 @@ mod space;
 mod tests;
 
 pub use blocks::Blocks;
+pub use check::is_block;
 pub use plain::PlainBlocks;

@@ -1,4 +1,4 @@
-use crate::{Blocks, PlainBlocks};
+use crate::{Blocks, PlainBlocks, is_block};
 use slot_space::{SlotNo, SlotSet};
 use std::test::Fail;
 
@@ -112,6 +112,9 @@ fn a_layer_is_rebuilt_of_blocks_that_can_stand(rt: HostRuntime) -> Result<(), Fa
     for live in &bad {
         assert!(rt; Blocks::rebuild(rt.alloc(), &heap, live)?.is_none());
     }
+    assert!(rt; heap.contains(SlotNo(1)));
+    assert!(rt; is_block(&heap, 0x1_0001_0000, 0x2_0000));
+    assert!(rt; !is_block(&heap, 0x1_0001_0010, 0x2_0000));
     Ok(())
 }
 

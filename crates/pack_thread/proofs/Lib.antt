@@ -1,0 +1,9 @@
+pub mod FieldLaws
+pub mod Steps
+pub mod BlockRules
+pub mod WriteSteps
+pub mod Memories
+pub mod Limits
+pub mod Building
+pub mod Texts
+pub mod RuleLaws

@@ -1,0 +1,9 @@
+use Rattle.std.proofs.Common.{refl}
+use Rattle.pack_thread.proofs.Texts.{text_read, one_thread}
+use Rattle.pack_thread.proofs.laws.one_text.Goals as goal
+
+pub returns-clause-read : goal.returns-clause-read
+returns-clause-read c = λ t rules typed. rw (text_read t rules typed) refl
+
+pub returns-clause-one : goal.returns-clause-one
+returns-clause-one c = one_thread

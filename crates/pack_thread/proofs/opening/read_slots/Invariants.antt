@@ -1,0 +1,16 @@
+use Rattle.std.proofs.Common.{◌≡◌, ◌+◌, ◌-◌, ◌*◌, ◌≤◌, [], false, length}
+use Rattle.slot_space.specs.Sets.{has, IsAscending, AreBelow}
+use Rattle.pack_thread.specs.Fields.{read}
+use Rattle.pack_thread.specs.Grammar.{slot_fields}
+use Rattle.pack_thread.specs.Reading.{behind_all}
+use Rattle.pack_thread.proofs.opening.read_slots.Given as goal
+
+abbrev pub invariant-loop-k : goal.invariant-loop-k
+invariant-loop-k l = record {
+  so_far : read (slot_fields l.count 0 l.stack []) l.bytes 285 ≡ behind_all l.slots (read (slot_fields (l.count - l.k) l.low l.stack l.slots) l.bytes (285 + 2 * l.k));
+  ascending : IsAscending l.slots;
+  below : AreBelow l.low l.slots;
+  small : l.low ≤ 4096;
+  apart : has l.stack l.slots ≡ false;
+  counted : length l.slots ≡ l.k;
+}

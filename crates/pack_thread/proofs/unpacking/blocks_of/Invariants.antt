@@ -1,0 +1,6 @@
+use Rattle.std.proofs.Common.{◌≡◌}
+use Rattle.pack_thread.specs.Reading.{blocks_at}
+use Rattle.pack_thread.proofs.unpacking.blocks_of.Given as goal
+
+abbrev pub invariant-loop-k : goal.invariant-loop-k
+invariant-loop-k l = l.live.items ≡ blocks_at l.bytes l.at l.k

@@ -1,0 +1,18 @@
+//! What the definitions say of all threads.
+
+ghost use Rattle.std.specs.Prelude.{◌≡◌, ℕ, List, ◌↔◌, IsOk, length};
+ghost use Rattle.pack_thread.specs.Fields.{Obey};
+ghost use Rattle.pack_thread.specs.Grammar.{thread_fields, read_text};
+ghost use Rattle.pack_thread.specs.Rules.{KeepsRules};
+ghost use Rattle.pack_thread.specs.Threads.{Thread, numbers_of, text_of, IsThread, IsTyped};
+
+/// Each thread has a text that is refused nowhere, and no other thread has that text.
+pub fn one_text()
+    ensures read { (t : Thread) → IsThread t → IsTyped t → IsOk (read_text (text_of t)) }
+    ensures one { (t u : Thread) → IsThread t → IsTyped t → IsThread u → IsTyped u → text_of t ≡ text_of u → t ≡ u }
+{}
+
+/// A thread's numbers obey the rules of their fields where the thread keeps these rules.
+pub fn rules()
+    ensures { (t : Thread) → length t.state.regs ≡ 32 → Obey thread_fields (numbers_of t) ↔ KeepsRules t }
+{}

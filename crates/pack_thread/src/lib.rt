@@ -1,0 +1,19 @@
+//! A thread as bytes, to move to another node.
+//! A layer above uses that each thread has one text, that a text gives its thread again, and where other bytes are refused.
+#![tactic(auto)]
+
+mod baggage;
+mod error;
+mod held;
+mod laws;
+mod opening;
+mod packing;
+#[cfg(test)]
+mod tests;
+mod unpacking;
+
+pub use baggage::Baggage;
+pub use error::UnpackError;
+pub use laws::{one_text, rules};
+pub use packing::pack;
+pub use unpacking::unpack;

@@ -1,0 +1,149 @@
+//! A thread of its text.
+
+ghost use Rattle.std.specs.Prelude.{◌≡◌, ℕ, ◌+◌, ◌*◌, ◌<◌, ◌≤◌, max, OnOk, OnErr, Err, IfOk, ◌↔◌, length, drop, slice_index};
+ghost use Rattle.slot_space.specs.Sets.{insert, IsAscending};
+ghost use Rattle.rv_step.specs.Memory.{slots_of};
+ghost use Rattle.pack_thread.specs.Grammar.{read_text};
+ghost use Rattle.pack_thread.specs.Opened.{slots_at, opened_numbers, IsOpen};
+ghost use Rattle.pack_thread.specs.Reading.{blocks_at};
+ghost use Rattle.pack_thread.specs.Threads.{Thread, thread_of, bytes_of, numbers_of, AreWhole, text_of, IsThread, IsTyped, Gives};
+
+use crate::baggage::Baggage;
+use crate::error::UnpackError;
+use crate::held::held_slots;
+use crate::opening::{Opened, Place, Who, open_text};
+use basics::NoMemory;
+use byteorder::{ByteOrder, LittleEndian};
+use iso_blocks::Blocks;
+use raw_slots::{Pool, SlotMem};
+use rv_step::{GuestMem, Hart};
+use slot_space::SlotNo;
+use std::alloc::Global;
+
+/// The thread of a text. Its slots' blocks are taken from the pool; where no thread is given, the pool has at least what
+/// it had.
+pub fn unpack(alloc: Global, bytes: &[u8], pool: &mut Pool) -> Result<Baggage, UnpackError>
+    ensures found { IfOk result (λ b. IsThread (thread_of b) × IsTyped (thread_of b)) }
+    ensures text { IfOk result (λ b. bytes.now ≡ text_of (thread_of b)) }
+    // Bytes outside the grammar are refused at the place where their reading is, whatever memory there is.
+    ensures refused { (offset : ℕ) → (result ≡ Err (UnpackError.BadImage offset)) ↔ (read_text bytes.now ≡ Err offset) }
+    // The text of a thread gives that thread, unless memory runs out.
+    ensures again { (t : Thread) → IsThread t → IsTyped t → bytes.now ≡ text_of t → Gives t result }
+    ensures taken { IfOk result (λ b. pool.new + (length b.blocks.slots + 1) ≡ max pool.old (length b.blocks.slots + 1)) }
+    ensures kept { OnErr result (pool.old ≤ pool.new) }
+{
+    let opened = match open_text(bytes) {
+        Ok(opened) => opened,
+        Err(offset) => return Err(UnpackError::BadImage { offset }),
+    };
+    let thread = build(alloc, bytes, opened, pool)?;
+    Ok(thread)
+}
+
+/// The thread whose fields have been read and checked.
+fn build(alloc: Global, bytes: &[u8], opened: Opened, pool: &mut Pool) -> Result<Baggage, NoMemory>
+    requires rules { IsOpen bytes.now opened }
+    requires whole { slots_at opened + 65536 * (length opened.slots + 1) ≡ length bytes.now }
+    ensures numbers { IfOk result (λ b. numbers_of (thread_of b) ≡ opened_numbers bytes.now opened) }
+    ensures regs { IfOk result (λ b. (slice_index b.hart.regs 0 ≡ 0) × (length b.hart.regs ≡ 32)) }
+    ensures holds { IfOk result (λ b. slots_of b.hart.mem.0 ≡ insert b.stack b.blocks.slots) }
+    ensures memory { IfOk result (λ b. (bytes_of b.hart.mem.0 ≡ drop (slots_at opened) bytes.now) × AreWhole b.hart.mem.0) }
+    ensures taken { IfOk result (λ b. pool.new + (length b.blocks.slots + 1) ≡ max pool.old (length b.blocks.slots + 1)) }
+    ensures err { OnErr result (pool.old ≤ pool.new) }
+{
+    let from = opened.slots_at();
+    let live = blocks_of(alloc, bytes, opened.live_at(), opened.live)?;
+    let Opened {
+        who,
+        duty,
+        regs,
+        place,
+        slots,
+        live: _,
+    } = opened;
+    let Who {
+        tid,
+        priority,
+        calls,
+    } = who;
+    let Place { pc, stack, heap: _ } = place;
+    let blocks = match Blocks::rebuild(alloc, &slots, &live)? {
+        Some(made) => made,
+        None => unreachable!(),
+    };
+    let held = held_slots(alloc, &slots, stack)?;
+    let mem = memory_of(alloc, pool, &held, &bytes[from..])?;
+    Ok(Baggage {
+        tid,
+        priority,
+        calls,
+        duty,
+        hart: Hart { regs, pc, mem },
+        stack,
+        blocks,
+    })
+}
+
+/// So many blocks, from a place of the bytes on.
+#[tactic(auto, unfolding(crate::specs::Reading::blocks_at))]
+fn blocks_of(
+    alloc: Global,
+    bytes: &[u8],
+    at: usize,
+    count: u32,
+) -> Result<Vec<(u64, u64)>, NoMemory>
+    requires { at + 16 * count ≤ length bytes.now }
+    ensures { IfOk result (λ live. live.items ≡ blocks_at bytes.now at count) }
+{
+    let mut live = Vec::new(alloc);
+    live.reserve(count as usize)?;
+    for k in 0..count {
+        let place = at + 16 * k as usize;
+        let address = LittleEndian::read_u64(&bytes[place..]);
+        let size = LittleEndian::read_u64(&bytes[place + 8..]);
+        live.push((address, size))?;
+    }
+    Ok(live)
+}
+
+/// The memory of these slots, whose bytes stand one after another. The blocks are taken from the pool, which has at least
+/// what it had where there is no memory.
+fn memory_of(
+    alloc: Global,
+    pool: &mut Pool,
+    held: &[SlotNo],
+    bytes: &[u8],
+) -> Result<GuestMem, NoMemory>
+    requires ascending { IsAscending held.now }
+    requires few { length held.now ≤ 4096 }
+    requires whole { length bytes.now ≡ 65536 * length held.now }
+    ensures slots { IfOk result (λ memory. slots_of memory.0 ≡ held.now) }
+    ensures bytes { IfOk result (λ memory. bytes_of memory.0 ≡ bytes.now) }
+    ensures blocks { IfOk result (λ memory. AreWhole memory.0) }
+    ensures taken { OnOk result (pool.new + length held.now ≡ max pool.old (length held.now)) }
+    ensures err { OnErr result (pool.old ≤ pool.new) }
+{
+    let mut memory = GuestMem::new(alloc);
+    memory.make_room(held.len() as u16)?;
+    pool.reserve(held.len() as u32)?;
+    let mut at = 0;
+    for slot in held {
+        match pool.take() {
+            Ok(mut block) => {
+                fill(&mut block, &bytes[at..at + 65536]);
+                memory.grant(*slot, block);
+            }
+            Err(_) => unreachable!(),
+        }
+        at += 65536;
+    }
+    Ok(memory)
+}
+
+/// Writes all bytes of a block.
+fn fill(block: &mut SlotMem, from: &[u8])
+    requires { length from.now ≡ 65536 }
+    ensures { block.new ≡ from.now }
+{
+    block.bytes_mut().copy_from_slice(from);
+}
