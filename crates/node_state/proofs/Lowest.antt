@@ -2,8 +2,8 @@
 use Rattle.std.proofs.Common.{◌≡◌, ℕ, zero, suc, ◌+◌, ◌-◌, ◌<◌, ◌≤◌, List, Bool, true, false, Option, Some, None, IfSome, refl, sym, ◌∙◌, arith}
 use Rattle.run_trace.specs.Machine.{free_run}
 use Rattle.std.proofs.lemmas.Bool.Decides.{nat_tests}
-use Rattle.slot_space.specs.Sets.{has, run, has_run, lowest_from, lowest_run, IsSlotSet}
-use Rattle.slot_space.proofs.Sets.{has-run}
+use Rattle.slot_space.specs.Sets.{has, minus, run, has_run, lowest_from, lowest_run, IsSlotSet}
+use Rattle.slot_space.proofs.Sets.{has-run, has-minus}
 use Rattle.slot_space.proofs.Runs.{found}
 
 below : (set : ℕ → Bool) (count s left k : ℕ) → lowest_from set count s left ≡ Some k → k < s + left
@@ -31,3 +31,10 @@ run_within own count first proper some e =
 pub runs_within : (own : List ℕ) (count : ℕ) (o : Option ℕ) → IsSlotSet own → 1 ≤ count → o ≡ free_run own count → IfSome o (λ first. first + count ≤ 4096)
 runs_within own count None proper some e = tt
 runs_within own count (Some first) proper some e = run_within own count first proper some (sym e)
+
+-- and none of it is one of those that were left out
+pub runs_new : (own held : List ℕ) (count : ℕ) (o : Option ℕ) → o ≡ free_run (minus own held) count → IfSome o (λ first. (s : ℕ) → has s (run first count) ≡ true → has s held ≡ false)
+runs_new own held count None e = tt
+runs_new own held count (Some first) e = λ s h.
+    let member : has s (minus own held) ≡ true = found (λ y. has y (minus own held)) count 4096 first s (sym e) h in
+    grind (arith, has-minus s own held, member)

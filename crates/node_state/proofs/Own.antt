@@ -1,8 +1,8 @@
 -- The slots and blocks beside a hart are those that it holds, as slots come and go.
 use Rattle.std.proofs.Common.{◌≡◌, ℕ, List, [], ◌∷◌, Bool, true, false, eqb, cond, not, refl, sym, ap, ◌∙◌, subst, arith}
 use Rattle.std.proofs.lemmas.Bool.{eq-eqb, eqb-true}
-use Rattle.slot_space.specs.Sets.{has, union, minus, meets, run, IsAscending, IsSlotSet}
-use Rattle.slot_space.proofs.Sets.{has-union, has-minus, has-filter, meets-common}
+use Rattle.slot_space.specs.Sets.{has, union, minus, run, IsAscending, IsSlotSet}
+use Rattle.slot_space.proofs.Sets.{has-union, has-minus, has-filter}
 use Rattle.slot_space.proofs.Ascending.{ascending-union, ascending-minus, ascending-run, same_members}
 use Rattle.iso_blocks.specs.Bytes.{is_met}
 use Rattle.iso_blocks.specs.Heap.{Heap, with_slots, without, emptied, freed}
@@ -23,24 +23,12 @@ alone slot hart slots blocks held one none = record {
 
 -- ## More slots
 
-pub got_run : (empty got : List ℕ) (first count : ℕ) → empty ≡ [] → got ≡ union empty (run first count) → got ≡ run first count
-unfolding union
-got_run empty got first count e g = g ∙ ap (λ (xs : List ℕ). union xs (run first count)) e
-
--- a run that meets none of the thread's slots is new to it
-pub new_run : (stack first count : ℕ) (hart : Hart) (slots : List ℕ) (blocks : Heap) → IsOwn stack hart slots blocks → meets slots (run first count) ≡ false
-    → (s : ℕ) → has s (run first count) ≡ true → has s (slots_of hart.mem.0) ≡ false
-new_run stack first count hart slots blocks own apart s h = by (has s slots) refl
-  where
-    by : (b : Bool) → has s slots ≡ b → has s (slots_of hart.mem.0) ≡ false
-    by true e = absurd (let m = meets-common s slots (run first count) e h in cc (m, apart))
-    by false e = ap (has s) own.held ∙ e
-
-pub takes_own : (stack first count : ℕ) (hart new : Hart) (slots : List ℕ) (blocks : Heap) → IsOwn stack hart slots blocks → IsSlotSet slots → meets slots (run first count) ≡ false
+pub takes_own : (stack first count : ℕ) (hart new : Hart) (slots : List ℕ) (blocks : Heap) → IsOwn stack hart slots blocks → IsSlotSet slots
+    → ((s : ℕ) → has s (run first count) ≡ true → has s (slots_of hart.mem.0) ≡ false)
     → new.mem.0 ≡ with_zero_slots (run first count) hart.mem.0
     → IsOwn stack new (union slots (run first count)) (with_slots blocks first count)
-takes_own stack first count hart new slots blocks own proper apart mem = record {
-  held = ap slots_of mem ∙ slots_takes first count hart.mem.0 (subst (λ xs. IsAscending xs) (sym own.held) proper.ascending) (new_run stack first count hart slots blocks own apart) ∙ ap (λ xs. union xs (run first count)) own.held;
+takes_own stack first count hart new slots blocks own proper fresh mem = record {
+  held = ap slots_of mem ∙ slots_takes first count hart.mem.0 (subst (λ xs. IsAscending xs) (sym own.held) proper.ascending) fresh ∙ ap (λ xs. union xs (run first count)) own.held;
   stack = has-union stack slots (run first count) ∙ (rw own.stack refl);
   heap = ap (λ xs. union xs (run first count)) own.heap ∙ same_members _ _
       (ascending-union (minus slots (stack ∷ [])) (run first count) (ascending-run first count))
@@ -48,11 +36,14 @@ takes_own stack first count hart new slots blocks own proper apart mem = record 
       (λ s. grind (arith, has-union s (minus slots (stack ∷ [])) (run first count), has-minus s slots (stack ∷ []), has-minus s (union slots (run first count)) (stack ∷ []), has-union s slots (run first count), out, eqb-true stack s));
 }
   where
+    there : has stack (slots_of hart.mem.0) ≡ true
+    there = ap (has stack) own.held ∙ own.stack
+
     out : has stack (run first count) ≡ false
     out = by (has stack (run first count)) refl
       where
         by : (b : Bool) → has stack (run first count) ≡ b → b ≡ false
-        by true e = absurd (let m = meets-common stack slots (run first count) own.stack e in cc (m, apart))
+        by true e = absurd (let f = fresh stack e in cc (f, there))
         by false e = refl
 
 -- ## Fewer slots

@@ -1,12 +1,13 @@
 //! isomalloc and isofree: blocks of a thread, and the slots that it takes and gives for them.
 
-ghost use Rattle.std.specs.Prelude.{◌≡◌, ◌<◌, ◌≤◌, ◌+◌, ◌^◌, true, IfOk, IfSome};
+ghost use Rattle.std.specs.Prelude.{◌≡◌, ◌<◌, ◌≤◌, ◌+◌, ◌^◌, ℕ, true, false, IfOk, IfSome};
+ghost use Rattle.slot_space.specs.Sets.{has, minus, run};
 ghost use Rattle.iso_blocks.specs.Heap.{rounded};
 ghost use Rattle.run_trace.specs.Steps.{at_thread, thread_at};
 ghost use Rattle.run_trace.specs.Machine.{free_run, places, allocates, frees, place_code};
 ghost use Rattle.run_trace.specs.Guests.{slots_for};
 ghost use Rattle.node_state.specs.Asking.{HasBlock};
-ghost use Rattle.node_state.specs.Heaps.{claim_found, takes_at, drops_at, gives_back};
+ghost use Rattle.node_state.specs.Heaps.{CanBeTaken, claim_found, takes_at, drops_at, gives_back};
 
 use crate::doing::Doing;
 use basics::{Items, NoMemory};
@@ -35,19 +36,21 @@ fn place_code(address: Option<u64>) -> u64
     }
 }
 
-impl Doing {
-    /// The lowest run of so many slots that no thread holds.
-    fn free_run(&self, count: u16) -> Option<SlotNo>
-        requires { 1 ≤ count }
-        ensures run { result ≡ free_run self.now.node.slots.own count }
-        ensures within { IfSome result (λ first. first + count ≤ 4096) }
-    {
-        let node = &self.node;
-        // The node's slots are below 4096.
-        let _some = node.own.contains(SlotNo(0));
-        node.own.lowest_run(count)
-    }
+/// The lowest run of so many slots of the node, of those that aren't the thread's.
+fn new_run(own: &SlotSet, held: &SlotSet, count: u16) -> Option<SlotNo>
+    requires { 1 ≤ count }
+    ensures run { result ≡ free_run (minus own.now held.now) count }
+    ensures within { IfSome result (λ first. first + count ≤ 4096) }
+    ensures new { IfSome result (λ first. (s : ℕ) → has s (run first count) ≡ true → has s held.now ≡ false) }
+{
+    let mut free = *own;
+    free.remove_all(held);
+    // Its slots are below 4096.
+    let _some = free.contains(SlotNo(0));
+    free.lowest_run(count)
+}
 
+impl Doing {
     /// The run that the thread takes for a block of at least so many bytes: none where the block has a place.
     fn claim(&self, t: &Tid, len: u64, count: u16) -> Option<SlotNo>
         requires some { 1 ≤ len }
@@ -55,7 +58,7 @@ impl Doing {
         requires count { count ≡ slots_for (rounded len) }
         requires one { 1 ≤ count }
         ensures run { result ≡ claim_found (rounded len) self.now (thread_at t.now self.now) }
-        ensures within { IfSome result (λ first. first + count ≤ 4096) }
+        ensures new { IfSome result (CanBeTaken (thread_at t.now self.now) count) }
     {
         let node = &self.node;
         let Some(thread) = node.threads.get(t) else {
@@ -63,14 +66,14 @@ impl Doing {
         };
         match thread.place_of(len) {
             Some(_) => None,
-            None => self.free_run(count),
+            None => new_run(&node.own, &thread.slots(), count),
         }
     }
 
     /// The thread takes a run of the node's slots for its heap.
     #[tactic(auto, unfolding(run_trace::specs::Steps::takes_run, run_trace::specs::Steps::keep, run_trace::specs::Steps::slots_out))]
     fn takes_run(&mut self, t: &Tid, first: SlotNo, count: u16) -> Result<(), NoMemory>
-        requires { first + count ≤ 4096 }
+        requires { CanBeTaken (thread_at t.now self.old) count first }
         ensures { IfOk result (λ _. self.new ≡ at_thread t.now (takes_at t.now first count) self.old) }
     {
         let node = &mut self.node;

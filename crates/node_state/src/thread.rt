@@ -9,6 +9,7 @@ ghost use Rattle.run_trace.specs.declared.node.Wait.TheVariants as wait_of;
 ghost use Rattle.run_trace.specs.Guests.{waits, newborn, told, guest_slots, heap_of, with_placed, without_block, takes_slots, gives_slots};
 ghost use Rattle.run_trace.specs.Calls.{call_of};
 ghost use Rattle.node_state.specs.Runs.{run_at, after_run};
+ghost use Rattle.node_state.specs.Heaps.{IsNew};
 
 use crate::blocks::{put_all, spare_block};
 use crate::heap_slots::{give_slots, take_run};
@@ -216,29 +217,25 @@ impl Thread {
         Ok(address)
     }
 
-    /// It gets a run of slots for its heap. Want of memory is also where one of them is its own already.
+    /// It gets a run of slots for its heap, none of which is its own yet.
     pub(crate) fn take(
         &mut self,
         pool: &mut Pool,
         first: SlotNo,
         count: u16,
     ) -> Result<(), NoMemory>
-        requires { first + count ≤ 4096 }
+        requires within { first + count ≤ 4096 }
+        requires new { IsNew first count self.old.guest }
         ensures thread { IfOk result (λ _. self.new ≡ waits wait_of.No (takes_slots (run first count) self.old.guest)) }
         ensures spare { OnOk result (pool.new + count ≡ max pool.old count) }
     {
-        let mut got = SlotSet::empty();
-        got.insert_run(first, count);
         // Its slots ascend.
         let _stack = self.slots.contains(self.stack);
-        if self.slots.meets(&got) {
-            return Err(NoMemory);
-        }
         pool.reserve(count as u32)?;
         self.hart.mem.make_room(count)?;
         self.blocks.add_slots(first, count)?;
         take_run(pool, &mut self.hart.mem, first.0, count);
-        self.slots.union_with(&got);
+        self.slots.insert_run(first, count);
         self.wait = Wait::No;
         Ok(())
     }

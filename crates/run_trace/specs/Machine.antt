@@ -2,7 +2,7 @@
 use Rattle.std.specs.Prelude.{ℕ, ◌^◌, List, [], ◌∷◌, Option, Some, None, Bool, true, false, ◌==◌, ◌&&◌, not, nat_lt, nat_le, slice_get, if◌then◌else◌}
 use Rattle.std.specs.Map.{lookup}
 use Rattle.slot_space.specs.Replies.{reply_code, tid_value}
-use Rattle.slot_space.specs.Sets.{has, lowest_run}
+use Rattle.slot_space.specs.Sets.{has, minus, lowest_run}
 use Rattle.iso_blocks.specs.Heap.{rounded, place, emptied}
 use Rattle.slot_space.specs.declared.names.Tid.{Tid}
 use Rattle.slot_space.specs.declared.names.Reply.{Reply}
@@ -25,7 +25,7 @@ use Rattle.run_trace.specs.declared.node.Wait.{Wait}
 use Rattle.run_trace.specs.declared.node.Wait.TheVariants as wait
 use Rattle.run_trace.specs.Names.{is_tid, tid_of}
 use Rattle.run_trace.specs.Program.{Program, nodes_of, code_of, processors_of, quantum_limit, main_priority}
-use Rattle.run_trace.specs.Guests.{Solo, Guest, Thread, Run, run_of, heap_of, with_placed, without_block, slots_for}
+use Rattle.run_trace.specs.Guests.{Solo, Guest, Thread, Run, run_of, guest_slots, heap_of, with_placed, without_block, slots_for}
 use Rattle.run_trace.specs.declared.call.Call.{Call}
 use Rattle.run_trace.specs.declared.call.Call.TheVariants.{Exit, Name, Node, Nodes, Yield, Create, Join, Isomalloc, Isofree, Print, Halt, Unknown}
 use Rattle.run_trace.specs.Calls.{call_of, refusal, bytes_of}
@@ -83,10 +83,13 @@ abbrev pub allocates_with : Tid → ℕ → Option ℕ → Thread → Doing → 
 allocates_with t size None x d = places t size x d
 allocates_with t size (Some first) x d = at_thread t (places t size) (takes_run t first (slots_for size) x.guest d)
 
--- where a block has no place, its thread takes the node's lowest run of as many slots as the block needs
+-- where a block has no place, its thread takes the node's lowest run of as many slots as the block needs; none of the node's
+-- slots is the thread's already
+abbrev pub run_for : ℕ → Guest → List ℕ → Option ℕ
+run_for size g own = claimed (place (heap_of g.solo) size) (free_run (minus own (guest_slots g)) (slots_for size))
+
 abbrev pub allocates : Tid → ℕ → Thread → Doing → Doing
-allocates t size x d =
-    allocates_with t size (claimed (place (heap_of x.guest.solo) size) (free_run d.node.slots.own (slots_for size))) x d
+allocates t size x d = allocates_with t size (run_for size x.guest d.node.slots.own) x d
 
 abbrev pub returns_any : Tid → List ℕ → Guest → Doing → Doing
 returns_any t [] g d = d

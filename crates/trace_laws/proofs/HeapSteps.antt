@@ -1,9 +1,10 @@
 -- Slots and blocks of a thread that goes on, on an event in its midst: isomalloc and isofree.
-use Rattle.std.proofs.Common.{◌≡◌, ℕ, ◌<◌, List, [], ◌∷◌, Option, Some, None, true, false, cond, refl, sym, ap, ◌∙◌, subst, arith, map}
+use Rattle.std.proofs.Common.{◌≡◌, ℕ, ◌<◌, List, [], ◌∷◌, Option, Some, None, Bool, true, false, cond, refl, sym, ap, ◌∙◌, subst, arith, map}
 use Rattle.std.proofs.lemmas.Bool.{eq-eqb}
-use Rattle.slot_space.specs.Sets.{has, run}
+use Rattle.slot_space.specs.Sets.{has, minus, run}
 use Rattle.slot_space.specs.declared.names.Tid.{Tid}
-use Rattle.slot_space.proofs.Runs.{lowest_run-found}
+use Rattle.slot_space.proofs.Runs.{lowest_run-found, lowest_run-same}
+use Rattle.slot_space.proofs.Sets.{has-minus}
 use Rattle.iso_blocks.specs.Heap.{rounded, place, emptied}
 use Rattle.run_trace.specs.declared.label.Label.TheVariants.{Took, Gave}
 use Rattle.run_trace.specs.declared.node.Wait.TheVariants as wait
@@ -26,7 +27,7 @@ use Rattle.trace_laws.proofs.Tids.{is-true, is-refl}
 use Rattle.trace_laws.proofs.KeyedLemmas.{kept, map_set}
 use Rattle.trace_laws.proofs.Midst.{Links, Midst, keeps, spots_with, spots_at, spot_then, updated}
 use Rattle.trace_laws.proofs.Steps.{Ties, in_hand, thread_was, row_was, busy_was, at_ok, settles_ok}
-use Rattle.trace_laws.proofs.Lifetimes.{slots_step, given, taken, gives_change, takes_change, thread_holds, lowest_is, lowest_held}
+use Rattle.trace_laws.proofs.Lifetimes.{slots_step, given, taken, gives_change, takes_change, thread_holds, lowest_held}
 use Rattle.run_trace.proofs.HeldSlots.{has_gives, has_takes}
 use Rattle.trace_laws.proofs.Heaps.{empty_held, gave_well, gave_all, placed_well, takes_well, has_place}
 
@@ -120,10 +121,22 @@ module _ (p : Program) (net : Net) (q n : ℕ) (w : Spots) (L : Links) where
       apart : (first : ℕ) → lowest_free n count (spots_at p net q n w d) ≡ Some first → (y : ℕ) → has y (run first count) ≡ true → has y (guest_slots g) ≡ false
       apart first free y h = ap (λ z. has y (slots_held (held z g))) (sym x) ∙ m.agrees.slots t y ∙ ap (is_thread t) (lowest_held n count (spots_at p net q n w d) first y free h)
 
-      by_run : place (heap_of g.solo) size ≡ None → (o : Option ℕ) → free_run d.node.slots.own count ≡ o → Is (allocates_with t size o (waits wait.No g) d) hs
-      by_run none None f = places_ok d t len hs m (λ e. lowest_is n count (spots_at p net q n w d) d.node _ m.here ∙ f)
+      -- none of the node's slots is the thread's, so its lowest run is one of those that aren't
+      lowest : lowest_free n count (spots_at p net q n w d) ≡ free_run (minus d.node.slots.own (guest_slots g)) count
+      lowest = lowest_run-same (λ y. is_free n ((spots_at p net q n w d).slots y)) (λ y. has y (minus d.node.slots.own (guest_slots g))) count 4096
+          (λ y. by_holder y (has y (guest_slots g)) (had y) ∙ sym (has-minus y d.node.slots.own (guest_slots g)))
+        where
+          had : (y : ℕ) → is_thread t ((spots_at p net q n w d).slots y) ≡ has y (guest_slots g)
+          had y = sym (m.agrees.slots t y) ∙ ap (λ z. has y (slots_held (held z g))) x
+
+          by_holder : (y : ℕ) (b : Bool) → is_thread t ((spots_at p net q n w d).slots y) ≡ b → is_free n ((spots_at p net q n w d).slots y) ≡ cond b false (has y d.node.slots.own)
+          by_holder y true e = ap (is_free n) (thread_holds t ((spots_at p net q n w d).slots y) e)
+          by_holder y false e = sym (m.here.own y)
+
+      by_run : place (heap_of g.solo) size ≡ None → (o : Option ℕ) → free_run (minus d.node.slots.own (guest_slots g)) count ≡ o → Is (allocates_with t size o (waits wait.No g) d) hs
+      by_run none None f = places_ok d t len hs m (λ e. lowest ∙ f)
       by_run none (Some first) f =
-          let free : lowest_free n count (spots_at p net q n w d) ≡ Some first = lowest_is n count (spots_at p net q n w d) d.node _ m.here ∙ f in
+          let free : lowest_free n count (spots_at p net q n w d) ≡ Some first = lowest ∙ f in
           let low : first < 4096 = (lowest_run-found (λ y. is_free n ((spots_at p net q n w d).slots y)) count 4096 first free).below in
           let after : Doing = takes_run t first count g d in
           let k : Is after (busy t (On n a) ∷ hs) = takes_run_ok d t len first hs m none free in
@@ -132,8 +145,8 @@ module _ (p : Program) (net : Net) (q n : ℕ) (w : Spots) (L : Links) where
           (λ e. absurd (has_place g size first count well (omega arith) low (apart first free)
           (subst (λ (z : Guest). place (heap_of z.solo) size ≡ None) (taken_guest d t first count) e))))
 
-      by_place : (o : Option ℕ) → place (heap_of g.solo) size ≡ o → Is (allocates_with t size (claimed o (free_run d.node.slots.own count)) (waits wait.No g) d) hs
-      by_place None e = by_run e (free_run d.node.slots.own count) refl
+      by_place : (o : Option ℕ) → place (heap_of g.solo) size ≡ o → Is (allocates_with t size (claimed o (free_run (minus d.node.slots.own (guest_slots g)) count)) (waits wait.No g) d) hs
+      by_place None e = by_run e (free_run (minus d.node.slots.own (guest_slots g)) count) refl
       by_place (Some address) e = places_ok d t len hs m (λ none. absurd (cc (e, none)))
 
   -- ## isofree
