@@ -31,7 +31,7 @@ use Rattle.run_trace.specs.Calls.{call_of, refusal, bytes_of}
 use Rattle.run_trace.specs.Places.{best}
 use Rattle.run_trace.specs.Local.{Local, Doing, nothing, with_booted}
 use Rattle.run_trace.specs.Steps.{say, put, print, arrive, take_off, thread_at, at_thread, at_found, keep, thread_in, thread_out, slots_out, slots_in, name_in, change_name, halt, next_name, birth, ran, asks, asks_show, asks_join, halts, judge, tell_found, tell, settle, reply_by_link, takes_run, returns, gives, ends, shows, acknowledges, hears, knows}
-use Rattle.run_trace.specs.Machine.{answer, end_thread, free_run, free_slot, creates_in, creates, settles, place_code, places, claimed, allocates_with, allocates, returns_any, frees_block, frees, does, calls, boots_in, boots, stopped, run_thread, run_found, run_picked, judges_join, tells_joiner, accepts, is_stray, takes, is_range, acts, local_event, turn_event, is_beyond}
+use Rattle.run_trace.specs.Machine.{answer, end_thread, free_slot, creates_in, creates, settles, place_code, places, run_for, allocates_with, allocates, returns_any, frees_block, frees, does, calls, boots_in, boots, stopped, run_thread, run_found, run_picked, judges_join, tells_joiner, accepts, is_stray, takes, is_range, acts, local_event, turn_event, is_beyond}
 
 -- ## Steps
 
@@ -138,7 +138,7 @@ places_keep t size x d =
     let address : Option ℕ = place (heap_of x.guest.solo) size in settles_keeps t (place_code address) (with_placed size address x.guest) d
 
 allocates_keeps : (t : Tid) (size : ℕ) (x : Thread) (d : Doing) → Kept d (allocates t size x d)
-allocates_keeps t size x d = by (claimed (place (heap_of x.guest.solo) size) (free_run d.node.slots.own (slots_for size)))
+allocates_keeps t size x d = by (run_for size x.guest d.node.slots.own)
   where
     by : (o : Option ℕ) → Kept d (allocates_with t size o x d)
     by None = places_keep t size x d
