@@ -1,3 +1,2 @@
-pub mod Events
-pub mod Run
 pub mod Ran
+pub mod Traced

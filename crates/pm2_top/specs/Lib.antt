@@ -1,6 +1,4 @@
-pub mod Words
-pub mod Alone
-pub mod Outcome
 pub mod Number
-pub mod Running
+pub mod Asked
+pub mod Outcome
 pub mod Texts

@@ -1,6 +1,7 @@
 -- What stands on the error output.
-use Rattle.std.specs.Prelude.{◌≡◌, ◌⊎◌, ℕ, ◌++◌, List, [], ◌∷◌, codes, false, Option, Some, None}
+use Rattle.std.specs.Prelude.{◌≡◌, ◌⊎◌, ℕ, ◌++◌, List, [], ◌∷◌, codes, false, Option}
 use Rattle.std.specs.Fmt.{decimal, digits}
+use Rattle.std.specs.List.{flat_map}
 use Rattle.outside.specs.Outside.{Rose, Appends, AppendsPrefix}
 use Rattle.rv_step.specs.declared.hart.FaultKind.{FaultKind}
 use Rattle.rv_step.specs.declared.hart.FaultKind.TheVariants as kinds
@@ -8,10 +9,14 @@ use Rattle.asm_text.specs.declared.slots.What.{What}
 use Rattle.asm_text.specs.declared.slots.What.TheVariants.{Form, Name, Range, Place}
 use Rattle.rv_asm.specs.declared.error.AsmError.{AsmError}
 use Rattle.rv_asm.specs.declared.error.AsmError.TheVariants as errors
+use Rattle.slot_space.specs.declared.names.Tid.{Tid}
+use Rattle.marcel_core.specs.declared.end.End.TheVariants as ends
+use Rattle.run_trace.specs.declared.entry.Entry.{Entry}
+use Rattle.run_trace.specs.declared.label.Label.{Label}
+use Rattle.run_trace.specs.declared.label.Label.TheVariants.{Ended}
+use Rattle.pm2_top.specs.declared.report.Report.{Report}
 use Rattle.pm2_top.specs.declared.status.Status.{Status}
-use Rattle.pm2_top.specs.declared.status.Status.TheVariants.{Done, Usage, BadSource, OutOfTurns, ReadFault, WriteFault, NoMemory}
-use Rattle.pm2_top.specs.declared.thread.FaultAt.{FaultAt}
-use Rattle.pm2_top.specs.declared.thread.Ended.{Ended}
+use Rattle.pm2_top.specs.declared.status.Status.TheVariants.{Done, Usage, BadSource, Stalled, OutOfTurns, ReadFault, WriteFault, NoMemory}
 
 -- the word of a fault
 abbrev pub kind_word : FaultKind → List ℕ
@@ -22,10 +27,19 @@ kind_word kinds.Fetch = codes "fetch"
 kind_word kinds.Load = codes "load"
 kind_word kinds.Store = codes "store"
 
--- the main thread has ended by a fault
-abbrev pub fault_line : Option FaultAt → List ℕ
-fault_line None = []
-fault_line (Some f) = codes "fault 0.0 " ++ (kind_word f.kind ++ (codes " at 0x" ++ (digits 16 false f.pc ++ 10 ∷ [])))
+-- the thread has ended by this fault of the instruction at the pc
+abbrev pub fault_line : Tid → FaultKind → ℕ → List ℕ
+fault_line t kind pc =
+    codes "fault " ++ (decimal t.home ++ (codes "." ++ (decimal t.seq ++ (codes " " ++ (kind_word kind ++ (codes " at 0x" ++ (digits 16 false pc ++ 10 ∷ [])))))))
+
+-- a line for each end by fault, and nothing else
+abbrev pub label_text : Label → List ℕ
+label_text (Ended t (ends.Fault kind pc)) = fault_line t kind pc
+label_text _ = []
+
+-- the faults of a trace, in its order
+abbrev pub faults_text : List Entry → List ℕ
+faults_text trace = flat_map (λ entry. flat_map label_text entry.labels) trace
 
 -- what is wrong on a line
 abbrev pub what_words : What → List ℕ
@@ -52,20 +66,26 @@ abbrev pub status_line : Status → List ℕ
 status_line Done = []
 status_line Usage = codes "usage: pm2 asm FILE / run FILE / sim FILE / replay FILE SCHEDULE / stress N\n"
 status_line (BadSource error) = error_line error
+status_line Stalled = codes "pm2: stalled\n"
 status_line OutOfTurns = codes "pm2: out of turns\n"
 status_line ReadFault = codes "pm2: cannot read\n"
 status_line WriteFault = codes "pm2: cannot write\n"
 status_line NoMemory = codes "pm2: out of memory\n"
 
--- the fault's line, and then the line of the status
-abbrev pub error_text : Option FaultAt → Status → List ℕ
-error_text fault status = fault_line fault ++ status_line status
+-- the lines of the faults, and then the line of the status
+unfoldable pub err_text : Status → List Entry → List ℕ
+err_text status trace = faults_text trace ++ status_line status
 
 -- the text is on the output, or a first part of it is and the output has counted a fault
 abbrev pub Tells : List ℕ → Option (List ℕ) → Option (List ℕ) → ℕ → ℕ → Type 0
 Tells text written now before after = Appends written text now ⊎ (AppendsPrefix written text now × Rose before after)
 
 -- the status and the text of how a command has ended; want of memory for the text gives a status of its own
-abbrev pub Reports : Ended → Status → Option (List ℕ) → Option (List ℕ) → ℕ → ℕ → Type 0
-Reports ended status written now before after =
-    ((status ≡ ended.status) × Tells (error_text ended.fault ended.status) written now before after) ⊎ (status ≡ NoMemory)
+abbrev pub StatusTold : Report → Status → Option (List ℕ) → Option (List ℕ) → ℕ → ℕ → Type 0
+StatusTold ended status written now before after =
+    ((status ≡ ended.status) × Tells (err_text ended.status ended.trace) written now before after) ⊎ (status ≡ NoMemory)
+
+-- a command is reported as it has ended, with its trace
+pub record Reports (ended report : Report) (written now : Option (List ℕ)) (before after : ℕ) : Type 0 where
+  pub trace : report.trace ≡ ended.trace
+  pub told : StatusTold ended report.status written now before after

@@ -1,14 +1,15 @@
-//! The top call: the words, the source, the run of the program and its status.
+//! The top call: the words, the source, the run of the program, its status, and what is told on the error output.
 #![tactic(auto)]
 
+mod report;
 mod status;
 mod texts;
-mod thread;
 mod top;
-mod words;
 
+pub use report::Report;
 pub use status::Status;
-pub use top::{Report, pm2_main};
+pub use texts::err_text;
+pub use top::pm2_main;
 
 #[cfg(test)]
 mod tests;

@@ -5,6 +5,7 @@ ghost use Rattle.pm2_top.specs.Number.{status_number};
 
 use outside::WriteRefusal;
 use rv_asm::AsmError;
+use simulation::End;
 
 /// How a command ends.
 #[derive(Clone, Copy, Debug, PartialEq, Eq)]
@@ -15,7 +16,9 @@ pub enum Status {
     Usage,
     /// The source has no image.
     BadSource(AsmError),
-    /// The program still lives after all its events.
+    /// Threads live, and each waits for what doesn't come.
+    Stalled,
+    /// The program goes on after all its turns.
     OutOfTurns,
     /// A file wasn't read.
     ReadFault,
@@ -34,6 +37,7 @@ impl Status {
             Status::Done => 0,
             Status::Usage => 1,
             Status::BadSource(_) => 2,
+            Status::Stalled => 3,
             Status::OutOfTurns => 4,
             Status::ReadFault => 5,
             Status::WriteFault => 6,
@@ -51,6 +55,22 @@ impl From<WriteRefusal> for Status {
         match refusal {
             WriteRefusal::Failed => Status::WriteFault,
             WriteRefusal::NoMemory => Status::NoMemory,
+        }
+    }
+}
+
+impl From<End> for Status {
+    ghost use Rattle.pm2_top.specs.Number.{end_status};
+
+    ghost from_gives = { λ end status. status ≡ end_status end };
+
+    fn from(end: End) -> Status {
+        match end {
+            End::Done => Status::Done,
+            End::Stalled => Status::Stalled,
+            End::OutOfTurns => Status::OutOfTurns,
+            End::WriteFault => Status::WriteFault,
+            End::NoMemory => Status::NoMemory,
         }
     }
 }

@@ -1,15 +1,19 @@
 //! What is told on the error output.
 
-ghost use Rattle.std.specs.Prelude.{◌≡◌, ◌≤◌, IfOk};
+ghost use Rattle.std.specs.Prelude.{◌≡◌, ◌++◌, ◌≤◌, IfOk, OnOk};
+ghost use Rattle.std.specs.List.{flat_map};
 ghost use Rattle.std.specs.String.{string_bytes};
-ghost use Rattle.pm2_top.specs.Texts.{kind_word, what_words, at_line, error_line, fault_line, status_line, error_text, Reports};
+ghost use Rattle.pm2_top.specs.Texts.{kind_word, what_words, at_line, error_line, fault_line, label_text, faults_text, status_line, err_text, StatusTold, Reports};
 
+use crate::report::Report;
 use crate::status::Status;
-use crate::thread::{Ended, FaultAt};
 use basics::NoMemory;
+use marcel_core::End;
 use outside::{Sink, WriteRefusal, write_piece};
+use run_trace::{Entry, Label};
 use rv_asm::{AsmError, What};
 use rv_step::FaultKind;
+use slot_space::Tid;
 use std::alloc::Global;
 
 /// The word of a fault.
@@ -61,19 +65,49 @@ fn error_line(alloc: Global, error: AsmError) -> Result<String, NoMemory>
     }
 }
 
-/// The line of a fault that has ended the main thread.
-fn fault_line(alloc: Global, fault: Option<FaultAt>) -> Result<String, NoMemory>
-    ensures { IfOk result (λ text. string_bytes text ≡ fault_line fault) }
+/// The line of a thread that has ended by fault.
+fn fault_line(alloc: Global, t: &Tid, kind: FaultKind, pc: u64) -> Result<String, NoMemory>
+    ensures { IfOk result (λ text. string_bytes text ≡ fault_line t.now kind pc) }
 {
-    match fault {
-        None => Ok(String::new(alloc)),
-        Some(fault) => {
-            let kind = kind_word(fault.kind);
-            let pc = fault.pc;
-            let text = format!(in alloc; "fault 0.0 {kind} at 0x{pc:x}\n")?;
-            Ok(text)
-        }
+    let home = t.home.0;
+    let seq = t.seq;
+    let kind = kind_word(kind);
+    let text = format!(in alloc; "fault {home}.{seq} {kind} at 0x{pc:x}\n")?;
+    Ok(text)
+}
+
+/// The line of an end by fault; of all else there is none.
+fn label_text(alloc: Global, label: &Label) -> Result<String, NoMemory>
+    ensures { IfOk result (λ text. string_bytes text ≡ label_text label.now) }
+{
+    match label {
+        Label::Ended { t, end } => match end {
+            End::Fault { kind, pc } => fault_line(alloc, t, *kind, *pc),
+            End::Exit(_) => Ok(String::new(alloc)),
+        },
+        _ => Ok(String::new(alloc)),
     }
+}
+
+/// Puts the lines of these labels behind the text.
+fn push_labels(alloc: Global, labels: &[Label], text: &mut String) -> Result<(), NoMemory>
+    ensures { OnOk result (string_bytes text.new ≡ string_bytes text.old ++ flat_map label_text labels.now) }
+{
+    for label in labels {
+        text.push_str(label_text(alloc, label)?.as_str())?;
+    }
+    Ok(())
+}
+
+/// The lines of the faults of a trace.
+fn faults_text(alloc: Global, trace: &[Entry]) -> Result<String, NoMemory>
+    ensures { IfOk result (λ text. string_bytes text ≡ faults_text trace.now) }
+{
+    let mut text = String::new(alloc);
+    for entry in trace {
+        push_labels(alloc, entry.labels.as_slice(), &mut text)?;
+    }
+    Ok(text)
 }
 
 /// The line of a status.
@@ -86,6 +120,7 @@ fn status_line(alloc: Global, status: Status) -> Result<String, NoMemory>
             "usage: pm2 asm FILE / run FILE / sim FILE / replay FILE SCHEDULE / stress N\n"
         }
         Status::BadSource(error) => return error_line(alloc, error),
+        Status::Stalled => "pm2: stalled\n",
         Status::OutOfTurns => "pm2: out of turns\n",
         Status::ReadFault => "pm2: cannot read\n",
         Status::WriteFault => "pm2: cannot write\n",
@@ -94,21 +129,23 @@ fn status_line(alloc: Global, status: Status) -> Result<String, NoMemory>
     Ok(text.to_string(alloc)?)
 }
 
-/// The whole text.
-fn error_text(alloc: Global, ended: &Ended) -> Result<String, NoMemory>
-    ensures { IfOk result (λ text. string_bytes text ≡ error_text ended.now.fault ended.now.status) }
+/// What is told of a command that has come to this status with this trace, oldest entry first: a line for each end by fault,
+/// in the order of the trace, and then the line of the status.
+#[tactic(auto, unfolding(crate::specs::Texts::err_text))]
+pub fn err_text(alloc: Global, status: &Status, trace: &[Entry]) -> Result<String, NoMemory>
+    ensures { IfOk result (λ text. string_bytes text ≡ err_text status.now trace.now) }
 {
-    let mut text = fault_line(alloc, ended.fault)?;
-    text.push_str(status_line(alloc, ended.status)?.as_str())?;
+    let mut text = faults_text(alloc, trace)?;
+    text.push_str(status_line(alloc, *status)?.as_str())?;
     Ok(text)
 }
 
-/// Tells how a command has ended. Its status stays, but for want of memory.
-pub(crate) fn tell<E: Sink>(alloc: Global, ended: &Ended, err: &mut E) -> Status
-    ensures told { Reports ended.now result (E.written err.old) (E.written err.new) (E.faults err.old) (E.faults err.new) }
+/// Writes what is told of a command. Its status stays, but for want of memory.
+fn status_told<E: Sink>(alloc: Global, ended: &Report, err: &mut E) -> Status
+    ensures told { StatusTold ended.now result (E.written err.old) (E.written err.new) (E.faults err.old) (E.faults err.new) }
     ensures later { E.faults err.old ≤ E.faults err.new }
 {
-    let text = match error_text(alloc, ended) {
+    let text = match err_text(alloc, &ended.status, ended.trace.as_slice()) {
         Ok(text) => text,
         Err(NoMemory) => return Status::NoMemory,
     };
@@ -116,5 +153,17 @@ pub(crate) fn tell<E: Sink>(alloc: Global, ended: &Ended, err: &mut E) -> Status
         Ok(()) => ended.status,
         Err(WriteRefusal::Failed) => ended.status,
         Err(WriteRefusal::NoMemory) => Status::NoMemory,
+    }
+}
+
+/// Tells what a command has come to.
+pub(crate) fn tell<E: Sink>(alloc: Global, ended: Report, err: &mut E) -> Report
+    ensures told { Reports ended result (E.written err.old) (E.written err.new) (E.faults err.old) (E.faults err.new) }
+    ensures later { E.faults err.old ≤ E.faults err.new }
+{
+    let status = status_told(alloc, &ended, err);
+    Report {
+        status,
+        trace: ended.trace,
     }
 }

@@ -18,7 +18,7 @@ pub struct Settings {
     pub command: Command,
     /// The cluster.
     pub setup: Setup,
-    /// How many rounds there are at most.
+    /// The run ends after so many entries other than the nodes' beginnings.
     pub turns: u64,
     /// What the order of events is drawn from.
     pub seed: u64,

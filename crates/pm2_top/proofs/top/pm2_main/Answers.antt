@@ -1,21 +1,30 @@
-use Rattle.pm2_top.proofs.Ran.{is_told, usage, no_command, source, bad}
+use Rattle.pm2_top.proofs.Ran.{is_told, usage, no_settings, source, bad, usual}
+use Rattle.pm2_top.proofs.Traced.{legal}
 use Rattle.pm2_top.proofs.top.pm2_main.Goals as goal
 
 pub returns-clause-ended : goal.returns-clause-ended
-returns-clause-ended g c = (c.obey-ended.result, c.obey-ended.ensures.ended, c.tell-status.ensures.told)
+returns-clause-ended g c = (c.obey-ended.result, c.obey-ended.ensures.ended, c.tell.ensures.told)
 
 pub returns-clause-usage : goal.returns-clause-usage
 returns-clause-usage g c =
-    usage _ _ _ _ c.obey-ended.result c.tell-status.result c.obey-ended.ensures.ended (is_told _ _ _ _ _ _ c.tell-status.ensures.told)
+    usage _ _ _ _ c.obey-ended.result c.tell.result.status c.obey-ended.ensures.ended (is_told c.obey-ended.result c.tell.result.status _ _ _ _ c.tell.ensures.told.told)
 
-pub returns-clause-no_command : goal.returns-clause-no_command
-returns-clause-no_command g c =
-    no_command _ _ _ _ c.obey-ended.result c.tell-status.result c.obey-ended.ensures.ended (is_told _ _ _ _ _ _ c.tell-status.ensures.told)
+pub returns-clause-no_settings : goal.returns-clause-no_settings
+returns-clause-no_settings g c =
+    no_settings _ _ _ _ c.obey-ended.result c.tell.result.status c.obey-ended.ensures.ended (is_told c.obey-ended.result c.tell.result.status _ _ _ _ c.tell.ensures.told.told)
 
 pub returns-clause-source : goal.returns-clause-source
 returns-clause-source g c error =
-    source _ _ _ _ c.obey-ended.result c.tell-status.result error c.obey-ended.ensures.ended (is_told _ _ _ _ _ _ c.tell-status.ensures.told)
+    source _ _ _ _ c.obey-ended.result c.tell.result.status error c.obey-ended.ensures.ended (is_told c.obey-ended.result c.tell.result.status _ _ _ _ c.tell.ensures.told.told)
 
 pub returns-clause-bad : goal.returns-clause-bad
 returns-clause-bad g c =
-    bad _ _ _ _ c.obey-ended.result c.tell-status.result c.obey-ended.ensures.ended (is_told _ _ _ _ _ _ c.tell-status.ensures.told)
+    bad _ _ _ _ c.obey-ended.result c.tell.result.status c.obey-ended.ensures.ended (is_told c.obey-ended.result c.tell.result.status _ _ _ _ c.tell.ensures.told.told)
+
+pub returns-clause-usual : goal.returns-clause-usual
+returns-clause-usual g c =
+    usual _ _ _ _ c.obey-ended.result c.tell.result.status _ _ c.obey-ended.ensures.ended (is_told c.obey-ended.result c.tell.result.status _ _ _ _ c.tell.ensures.told.told)
+    c.obey-ended.ensures.read c.obey-ended.ensures.failed
+
+pub returns-clause-legal : goal.returns-clause-legal
+returns-clause-legal g c = legal _ _ _ _ c.obey-ended.result c.tell.result.trace c.obey-ended.ensures.ended c.tell.ensures.told.trace
