@@ -13,6 +13,7 @@ use crate::inst::{ImmOp, Inst};
 use crate::rows::{branch_op, imm_op, load_op, reg_op, shift_op, store_op};
 
 /// The instruction of the word, by its opcode, funct3 and funct7.
+#[inline(always)]
 fn decoded(word: u32) -> Option<Inst>
     ensures found { IfSome result (λ i. Fits i × (word_of i ≡ word)) }
     ensures exact { result ≡ inst_of word }
@@ -134,6 +135,7 @@ fn decoded(word: u32) -> Option<Inst>
 }
 
 /// The instruction of the word, None exactly where the table has no row for it.
+#[inline(always)]
 pub fn decode(word: u32) -> Option<Inst>
     // What is decoded has this word.
     ensures found { IfSome result (λ i. Fits i × (word_of i ≡ word)) }
