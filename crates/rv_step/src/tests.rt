@@ -220,8 +220,8 @@ const STARTS: [(u64, u32); 6] = [
     (0x1_0006_fff4, 11 * 2 + 7 * 3 + 5 * 3 + 4 * 3),
     // Before slot 5 no slot is held: at 12 addresses the first byte isn't there.
     (0x1_0004_fff4, 12 * 11),
-    // The image is read, and none of the four stores writes it.
-    (0x1_0000, 16 * 4),
+    // Over the end of the image, which is read, and which no store writes.
+    (0x1_0044, 16 * 4 + 11 + 7 * 2 + 5 * 2 + 4 * 2),
     // Over the end of all addresses.
     (0xffff_ffff_ffff_fff8, 16 * 11),
 ];
