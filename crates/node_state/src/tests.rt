@@ -214,6 +214,7 @@ fn name(label: &Label) -> &'static str {
         Label::Heard(_) => "heard",
         Label::Judged { .. } => "judged",
         Label::Told(_) => "told",
+        Label::Took { .. } => "took",
         Label::Gave { .. } => "gave",
         Label::Ended { .. } => "ended",
         Label::Known(_) => "known",
@@ -342,6 +343,8 @@ fn blocks_come_to_their_places(rt: HostRuntime) -> Result<(), Fail> {
     let took = [(1, 1), (2, 1), (2, 1)];
     let gave = [2, NO_MORE, 0, 1, 2, NO_MORE];
     let ends = [(0, 0)];
+    let labels =
+        "born; ran asked took judged told; ran asked judged told; ran asked took judged told; ran asked judged told; ran asked judged told; ran asked judged told; ran asked gave judged told; ran asked took judged told; ran asked judged told; ran asked judged told; ran asked judged told; ran asked judged told; ran asked judged told; ran asked gave ended; known";
     let replies = [
         0x1_0001_0000,
         0x1_0001_0070,
@@ -361,6 +364,7 @@ fn blocks_come_to_their_places(rt: HostRuntime) -> Result<(), Fail> {
     for (at, reply) in replies.iter().enumerate() {
         assert_eq!(rt; seen.replies[at], (0, *reply), "call {at}");
     }
+    assert!(rt; seen.labels.as_str() == labels);
     assert!(rt; seen.took.as_slice() == took.as_slice());
     assert!(rt; seen.gave.as_slice() == gave.as_slice());
     assert!(rt; seen.ends.as_slice() == ends.as_slice());
