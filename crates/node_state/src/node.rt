@@ -41,7 +41,7 @@ impl NodeState {
         }
     }
 
-    /// How many blocks of memory are spare, for the slots of threads to come. No other clause speaks of it.
+    /// How many blocks of memory are spare, for the slots of threads to come. No clause speaks of it.
     pub fn spare(&self) -> u32 {
         self.doing.spare()
     }

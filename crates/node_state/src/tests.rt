@@ -148,36 +148,43 @@ const HEAP: [u32; 43] = [
     0x0000_8067,
 ];
 
-/// A program and its slots, and what it comes to: the console, replies and ends with the numbers of their threads, and how
-/// often it halts.
+/// A program and its slots, and what it comes to: the console, the labels, and replies and ends with the numbers of their
+/// threads.
 type Row = (
     &'static [u32],
     u16,
     &'static [u8],
+    &'static str,
     &'static [(u32, i64)],
     &'static [(u32, i64)],
-    u32,
 );
 
 const ROWS: [Row; 4] = [
-    (&HI, 16, b"0.0| hi\n", &[(0, 0)], &[(0, 0)], 0),
+    (
+        &HI,
+        16,
+        b"0.0| hi\n",
+        "born; ran asked; shown judged; told; ran asked gave ended; known",
+        &[(0, 0)],
+        &[(0, 0)],
+    ),
     (
         &REFUSED,
         1,
         b"",
+        "born; ran asked; heard judged; told; ran asked judged told; ran asked judged told; ran asked gave ended; known",
         &[(0, -2), (0, -1), (0, -4)],
         &[(0, -4)],
-        0,
     ),
     (
         &TWICE,
         16,
         b"",
+        "born; ran asked born judged told; ran asked; heard; ran asked born judged told; ran asked; heard judged; told; ran asked gave ended; known judged; told; ran asked gave ended; known; ran asked gave ended; known",
         &[(0, 1), (0, 2), (2, -5), (1, 0)],
         &[(0, 2), (2, -5), (1, 0)],
-        0,
     ),
-    (&HALT, 16, b"", &[], &[], 1),
+    (&HALT, 16, b"", "born; ran asked halted", &[], &[]),
 ];
 
 /// Past all slots.
@@ -187,15 +194,34 @@ const NO_MORE: u16 = 4096;
 #[derive(Drop)]
 struct Seen {
     prints: Vec<u8>,
+    /// The names of the labels, with a semicolon between events.
+    labels: String,
     replies: Vec<(u32, i64)>,
     ends: Vec<(u32, i64)>,
-    halts: u32,
     /// The slots of births.
     slots: Vec<u16>,
     /// The runs that were taken, and the slots that were given, those of each label followed by `NO_MORE`.
     took: Vec<(u16, u16)>,
     gave: Vec<u16>,
     spare: u32,
+}
+
+fn name(label: &Label) -> &'static str {
+    match label {
+        Label::Born { .. } => "born",
+        Label::Ran { .. } => "ran",
+        Label::Asked { .. } => "asked",
+        Label::Heard(_) => "heard",
+        Label::Judged { .. } => "judged",
+        Label::Told(_) => "told",
+        Label::Took { .. } => "took",
+        Label::Gave { .. } => "gave",
+        Label::Ended { .. } => "ended",
+        Label::Known(_) => "known",
+        Label::Shown(_) => "shown",
+        Label::Halted(_) => "halted",
+        _ => "other",
+    }
 }
 
 impl Seen {
@@ -214,7 +240,6 @@ impl Seen {
                 }
                 self.gave.push(NO_MORE)?;
             }
-            Label::Halted(_) => self.halts = self.halts.saturating_add(1),
             _ => {}
         }
         Ok(())
@@ -245,9 +270,9 @@ fn run(alloc: Global, words: &[u32], slots: u16) -> Result<Seen, Fail> {
     let mut node = NodeState::fresh(alloc, &setup, me);
     let mut seen = Seen {
         prints: Vec::new(alloc),
+        labels: String::new(alloc),
         replies: Vec::new(alloc),
         ends: Vec::new(alloc),
-        halts: 0,
         slots: Vec::new(alloc),
         took: Vec::new(alloc),
         gave: Vec::new(alloc),
@@ -260,7 +285,11 @@ fn run(alloc: Global, words: &[u32], slots: u16) -> Result<Seen, Fail> {
         let Some(done) = node.event(&setup, &image, me, act, took)? else {
             break;
         };
+        let mut between = if seen.labels.is_empty() { "" } else { "; " };
         for label in done.labels.as_slice() {
+            seen.labels.push_str(between)?;
+            seen.labels.push_str(name(label))?;
+            between = " ";
             seen.see(label)?;
         }
         seen.prints.extend_from_slice(done.prints.as_slice())?;
@@ -280,12 +309,12 @@ fn run(alloc: Global, words: &[u32], slots: u16) -> Result<Seen, Fail> {
 
 #[test]
 fn programs_come_to_their_rows(rt: HostRuntime) -> Result<(), Fail> {
-    for (at, (words, slots, prints, replies, ends, halts)) in ROWS.iter().enumerate() {
+    for (at, (words, slots, prints, labels, replies, ends)) in ROWS.iter().enumerate() {
         let seen = run(rt.alloc(), words, *slots)?;
         assert!(rt; seen.prints.as_slice() == *prints, "row {at}");
+        assert_eq!(rt; seen.labels.as_str(), *labels, "row {at}");
         assert!(rt; seen.replies.as_slice() == *replies, "row {at}");
         assert!(rt; seen.ends.as_slice() == *ends, "row {at}");
-        assert_eq!(rt; seen.halts, *halts, "row {at}");
     }
     Ok(())
 }
@@ -314,6 +343,8 @@ fn blocks_come_to_their_places(rt: HostRuntime) -> Result<(), Fail> {
     let took = [(1, 1), (2, 1), (2, 1)];
     let gave = [2, NO_MORE, 0, 1, 2, NO_MORE];
     let ends = [(0, 0)];
+    let labels =
+        "born; ran asked took judged told; ran asked judged told; ran asked took judged told; ran asked judged told; ran asked judged told; ran asked judged told; ran asked gave judged told; ran asked took judged told; ran asked judged told; ran asked judged told; ran asked judged told; ran asked judged told; ran asked judged told; ran asked gave ended; known";
     let replies = [
         0x1_0001_0000,
         0x1_0001_0070,
@@ -333,6 +364,7 @@ fn blocks_come_to_their_places(rt: HostRuntime) -> Result<(), Fail> {
     for (at, reply) in replies.iter().enumerate() {
         assert_eq!(rt; seen.replies[at], (0, *reply), "call {at}");
     }
+    assert!(rt; seen.labels.as_str() == labels);
     assert!(rt; seen.took.as_slice() == took.as_slice());
     assert!(rt; seen.gave.as_slice() == gave.as_slice());
     assert!(rt; seen.ends.as_slice() == ends.as_slice());
