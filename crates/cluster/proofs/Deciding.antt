@@ -114,7 +114,7 @@ module _ (v : NodeView) (s : StandsAlone v) (inside : IsInside v.program (net_of
       let full : 0 < length (net.nodes 0).places.rows = subst (λ (l : Local). 0 < length l.places.rows) (sym s.state) r in
       record {
         not_done = not_done h (λ none. (e.0, one_lives e es t));
-        not_stuck = λ k. (let nothing : length (net.nodes 0).places.rows ≡ 0 = ap length (k.rows 0) in omega (arith, full, nothing));
+        not_stuck = λ k. (let nothing : length (net.nodes 0).places.rows ≡ 0 = ap length ((k.rows) 0) in omega (arith, full, nothing));
         possible = λ none. cc (sym (acts_so true (holds (net.links 0 0)) (lt-ltb 0 (length (net.nodes 0).places.rows) full) refl) ∙ none);
       }
 
