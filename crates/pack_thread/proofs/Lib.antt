@@ -7,3 +7,5 @@ pub mod Limits
 pub mod Building
 pub mod Texts
 pub mod RuleLaws
+pub mod TextThreads
+pub mod Packable

@@ -10,7 +10,7 @@ use Rattle.rv_step.specs.declared.memory.Held.{Held}
 use Rattle.rv_step.specs.Memory.{Memory, slots_of}
 use Rattle.pack_thread.specs.Fields.{Reading, spelled, Obey, Fit, blocks_behind, read}
 use Rattle.pack_thread.specs.Grammar.{thread_fields, duty_fields, register_fields, place_fields, slot_fields, live_fields, block_fields, ends, read_text}
-use Rattle.pack_thread.specs.Threads.{Thread, duty_numbers, block_numbers, heap_numbers, numbers_of, bytes_of, head_of, text_of, AreWhole, IsThread, IsTyped}
+use Rattle.pack_thread.specs.Threads.{Thread, duty_numbers, block_numbers, heap_numbers, numbers_of, bytes_of, head_of, text_of, AreWhole, IsThread, IsTyped, IsTextOf}
 use Rattle.pack_thread.proofs.FieldLaws.{IsBytes, takes, again}
 use Rattle.pack_thread.proofs.Limits.{length-insert}
 use Rattle.pack_thread.proofs.RuleLaws.{keeps}
@@ -85,7 +85,7 @@ text_read t rules typed =
 -- ## Two threads with one text are one thread
 
 -- lists with fronts of one length
-split_same : {A : Type 0} (xs ys : List A) (vs ws : List A) → length xs ≡ length ys → xs ++ vs ≡ ys ++ ws → (xs ≡ ys) × (vs ≡ ws)
+pub split_same : {A : Type 0} (xs ys : List A) (vs ws : List A) → length xs ≡ length ys → xs ++ vs ≡ ys ++ ws → (xs ≡ ys) × (vs ≡ ws)
 split_same [] [] vs ws len e = (refl, e)
 split_same [] (y ∷ ys) vs ws len e = absurd (omega arith)
 split_same (x ∷ xs) [] vs ws len e = absurd (omega arith)
@@ -96,7 +96,7 @@ split_same (x ∷ xs) (y ∷ ys) vs ws len e =
 call_of : (home seq count at : ℕ) → CallNo
 call_of home seq count at = record { by = record { home = home; seq = seq }; count = count; at = at }
 
-same_call : (a b : CallNo) → a.by.home ≡ b.by.home → a.by.seq ≡ b.by.seq → a.count ≡ b.count → a.at ≡ b.at → a ≡ b
+pub same_call : (a b : CallNo) → a.by.home ≡ b.by.home → a.by.seq ≡ b.by.seq → a.count ≡ b.count → a.at ≡ b.at → a ≡ b
 unfolding call_of
 same_call a b home seq count at =
     let made : call_of a.by.home a.by.seq a.count a.at ≡ call_of b.by.home b.by.seq b.count b.at = rw (home, seq, count, at) refl in
@@ -128,7 +128,7 @@ same_regs (x ∷ a) (y ∷ b) la lb za zb e = cc
 pair_of : ℕ → ℕ → ℕ × ℕ
 pair_of m n = (m, n)
 
-same_pair : (a b : ℕ × ℕ) → a.0 ≡ b.0 → a.1 ≡ b.1 → a ≡ b
+pub same_pair : (a b : ℕ × ℕ) → a.0 ≡ b.0 → a.1 ≡ b.1 → a ≡ b
 unfolding pair_of
 same_pair a b first second =
     let made : pair_of a.0 a.1 ≡ pair_of b.0 b.1 = rw (first, second) refl in
@@ -148,7 +148,7 @@ same_blocks (a ∷ vs) (b ∷ ws) e =
 held_of : ℕ → List ℕ → Held
 held_of slot block = record { slot = slot; block = block }
 
-same_held : (h k : Held) → h.slot ≡ k.slot → h.block ≡ k.block → h ≡ k
+pub same_held : (h k : Held) → h.slot ≡ k.slot → h.block ≡ k.block → h ≡ k
 unfolding held_of
 same_held h k slot block =
     let made : held_of h.slot h.block ≡ held_of k.slot k.block = rw (slot, block) refl in
@@ -175,7 +175,7 @@ thread_of_parts home seq priority calls duty regs pc memory stack live slots = r
   heap = record { live = live; slots = slots };
 }
 
-same_thread : (t u : Thread) → t.tid.home ≡ u.tid.home → t.tid.seq ≡ u.tid.seq → t.priority ≡ u.priority → t.calls ≡ u.calls → t.duty ≡ u.duty → t.state.regs ≡ u.state.regs
+pub same_thread : (t u : Thread) → t.tid.home ≡ u.tid.home → t.tid.seq ≡ u.tid.seq → t.priority ≡ u.priority → t.calls ≡ u.calls → t.duty ≡ u.duty → t.state.regs ≡ u.state.regs
     → t.state.pc ≡ u.state.pc → t.state.memory ≡ u.state.memory → t.stack ≡ u.stack → t.heap.live ≡ u.heap.live → t.heap.slots ≡ u.heap.slots → t ≡ u
 unfolding thread_of_parts
 same_thread t u home seq priority calls duty regs pc memory stack live slots =
@@ -241,11 +241,6 @@ is_read bytes numbers at blocks fits e =
     record { rules = t.obey; fit = t.fit; text = t.text }
 
 -- a thread with the numbers that were read, and with the bytes behind them, is a thread whose text the bytes are
-pub record IsTextOf (bytes : List ℕ) (t : Thread) : Type 0 where
-  pub rules : IsThread t
-  pub typed : IsTyped t
-  pub text : bytes ≡ text_of t
-
 pub found : (bytes numbers : List ℕ) (at blocks : ℕ) (t : Thread) → IsBytes bytes → read_text bytes ≡ Ok (record { numbers = numbers; at = at; blocks = blocks }) → numbers_of t ≡ numbers
     → (get_or t.state.regs 0 0 ≡ 0) × (length t.state.regs ≡ 32) → slots_of t.state.memory ≡ insert t.stack t.heap.slots → (bytes_of t.state.memory ≡ drop at bytes) × AreWhole t.state.memory → IsTextOf bytes t
 found bytes numbers at blocks t fits e same regs holds memory =

@@ -5,3 +5,4 @@ pub mod Opened
 pub mod Writing
 pub mod Threads
 pub mod Rules
+pub mod Packed

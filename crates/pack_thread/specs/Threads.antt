@@ -81,6 +81,12 @@ pub record IsTyped (t : Thread) : Type 0 where
   pub regs : length t.state.regs ≡ 32
   pub blocks : AreWhole t.state.memory
 
+-- the bytes are the text of this thread
+pub record IsTextOf (bytes : List ℕ) (t : Thread) : Type 0 where
+  pub rules : IsThread t
+  pub typed : IsTyped t
+  pub text : bytes ≡ text_of t
+
 -- what was answered is this thread, unless memory ran out
 abbrev pub Gives : Thread → Result Baggage UnpackError → Type 0
 Gives t (Ok b) = thread_of b ≡ t

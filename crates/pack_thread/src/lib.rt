@@ -7,6 +7,7 @@ mod error;
 mod held;
 mod laws;
 mod opening;
+mod packed;
 mod packing;
 #[cfg(test)]
 mod tests;
@@ -15,5 +16,6 @@ mod unpacking;
 pub use baggage::Baggage;
 pub use error::UnpackError;
 pub use laws::{one_text, rules};
+pub use packed::Packed;
 pub use packing::pack;
 pub use unpacking::unpack;

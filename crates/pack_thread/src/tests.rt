@@ -164,6 +164,28 @@ fn moved(alloc: Global, thread: &Baggage, pool: &mut Pool) -> Result<Baggage, Un
 }
 
 #[test]
+fn a_text_travels_as_its_thread(rt: HostRuntime) -> Result<(), Fail> {
+    let alloc = rt.alloc();
+    let text = whole_text(alloc)?;
+    let packed = Packed::from_text(whole_text(alloc)?).ok_or("no thread")?;
+    assert!(rt; packed.text() == text.as_slice());
+    let mut pool = Pool::new(alloc);
+    let thread = packed.open(alloc, &mut pool)?;
+    assert_eq!(rt; thread.calls, 0x0a0b0c0d);
+    assert_eq!(rt; thread.stack, SlotNo(6));
+    assert!(rt; has_bytes(&thread, 5, 5) && has_bytes(&thread, 6, 6));
+    assert!(rt; has_bytes(&thread, 7, 7) && has_bytes(&thread, 8, 8));
+    assert!(rt; Packed::of(alloc, &thread)?.into_text() == text);
+    let mut longer = whole_text(alloc)?;
+    longer.push(0)?;
+    assert!(rt; Packed::from_text(longer).is_none());
+    let mut shorter = whole_text(alloc)?;
+    shorter.pop();
+    assert!(rt; Packed::from_text(shorter).is_none());
+    Ok(())
+}
+
+#[test]
 fn the_stack_slot_stands_among_the_heap_slots(rt: HostRuntime) -> Result<(), Fail> {
     let alloc = rt.alloc();
     let text = patched(alloc, &whole_text(alloc)?, 281, &[9])?;

@@ -1,8 +1,8 @@
 use Rattle.std.proofs.Common.{◌≡◌, length, Ok, Err, ap, sym, ◌∙◌, ◌+◌, arith}
 use Rattle.pack_thread.specs.Grammar.{read_text}
 use Rattle.pack_thread.specs.Opened.{slots_at, opened_numbers}
-use Rattle.pack_thread.specs.Threads.{thread_of}
-use Rattle.pack_thread.proofs.Texts.{reading, text_read, one_thread, IsTextOf, found}
+use Rattle.pack_thread.specs.Threads.{thread_of, IsTextOf}
+use Rattle.pack_thread.proofs.Texts.{reading, text_read, one_thread, found}
 use Rattle.pack_thread.proofs.unpacking.unpack.Goals as goal
 
 whole : (c : goal.In_ok-thread) → IsTextOf c.args.bytes.now (thread_of c.in_ok-thread.thread)

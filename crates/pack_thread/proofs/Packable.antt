@@ -1,0 +1,36 @@
+-- When a thread can be packed.
+use Rattle.std.proofs.Common.{◌≡◌, ℕ, true, false, List, [], ◌∷◌, length, arith}
+use Rattle.std.specs.Prelude.{slice_index}
+use Rattle.std.proofs.lemmas.Bool.{eqb-true}
+use Rattle.slot_space.specs.Sets.{has, insert, minus, IsAscending, IsSlotSet}
+use Rattle.slot_space.proofs.Ascending.{ascending-insert, ascending-minus, below-minus, same_members}
+use Rattle.slot_space.proofs.Sets.{has-insert, has-minus}
+use Rattle.rv_step.specs.Memory.{slots_of}
+use Rattle.pack_thread.specs.Rules.{KeepsRules}
+use Rattle.pack_thread.specs.Threads.{Thread, IsThread, IsTyped}
+use Rattle.pack_thread.proofs.RuleLaws.{obeys, keeps}
+
+-- a thread that keeps the rules, whose memory holds its heap slots and its stack slot
+pub packable : (t : Thread) → length t.state.regs ≡ 32 → slice_index t.state.regs 0 ≡ 0 → KeepsRules t → slots_of t.state.memory ≡ insert t.stack t.heap.slots → IsThread t
+packable t regs first rules holds = record { rules = obeys t regs rules; zero = first; holds = holds }
+
+-- and a thread that can be packed keeps them
+pub rules_of : (t : Thread) → length t.state.regs ≡ 32 → IsThread t → KeepsRules t
+rules_of t regs is = keeps t regs is.rules
+
+pub rules_of_typed : (t : Thread) → IsThread t → IsTyped t → KeepsRules t
+rules_of_typed t is typed = rules_of t typed.regs is
+
+-- ## The heap slots are the slots but the stack slot
+
+-- the stack slot is none of the others
+pub stack_apart : (stack : ℕ) (slots : List ℕ) → has stack (minus slots (stack ∷ [])) ≡ false
+stack_apart stack slots = grind (arith, has-minus stack slots (stack ∷ []))
+
+-- with it they are all again
+pub stack_among : (stack : ℕ) (slots : List ℕ) → IsAscending slots → has stack slots ≡ true → insert stack (minus slots (stack ∷ [])) ≡ slots
+stack_among stack slots asc is = same_members _ _ (ascending-insert stack (minus slots (stack ∷ [])) (ascending-minus slots (stack ∷ []) asc)) asc
+    (λ s. grind (arith, is, has-insert stack s (minus slots (stack ∷ [])), has-minus s slots (stack ∷ []), eqb-true stack s))
+
+pub heap_proper : (stack : ℕ) (slots : List ℕ) → IsSlotSet slots → IsSlotSet (minus slots (stack ∷ []))
+heap_proper stack slots proper = record { ascending = ascending-minus slots (stack ∷ []) proper.ascending; small = below-minus 4096 slots (stack ∷ []) proper.small }

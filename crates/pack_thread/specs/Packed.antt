@@ -1,0 +1,74 @@
+-- The thread of a text.
+use Rattle.std.specs.Prelude.{ℕ, zero, suc, List, [], ◌∷◌, take, drop, slice_index, Result, Ok, Err, Option, Some, None}
+use Rattle.slot_space.specs.Sets.{insert}
+use Rattle.rv_step.specs.Memory.{Memory}
+use Rattle.rv_step.specs.Step.{State}
+use Rattle.iso_blocks.specs.Heap.{Heap}
+use Rattle.lrpc.specs.declared.call.CallNo.{CallNo}
+use Rattle.lrpc.specs.declared.duty.Duty.{Duty}
+use Rattle.lrpc.specs.declared.duty.Duty.TheVariants as duties
+use Rattle.pack_thread.specs.Fields.{Reading}
+use Rattle.pack_thread.specs.Grammar.{read_text}
+use Rattle.pack_thread.specs.Threads.{Thread}
+
+-- a duty by its number
+abbrev pub duty_numbered : ℕ → CallNo → Duty
+duty_numbered zero call = duties.None
+duty_numbered (suc zero) call = duties.Cast call
+duty_numbered (suc (suc zero)) call = duties.Owes call
+duty_numbered (suc (suc (suc n))) call = duties.Paid call
+
+-- the call whose four numbers these are
+abbrev pub call_numbered : List ℕ → CallNo
+call_numbered ns = record { by = record { home = slice_index ns 0; seq = slice_index ns 1 }; count = slice_index ns 2; at = slice_index ns 3 }
+
+-- the blocks of these numbers: an address and a size each
+unfoldable pub blocks_numbered : List ℕ → List (ℕ × ℕ)
+blocks_numbered [] = []
+blocks_numbered (n ∷ []) = []
+blocks_numbered (address ∷ size ∷ ns) = (address, size) ∷ blocks_numbered ns
+
+-- the slots whose bytes stand one after another
+unfoldable pub memory_in : List ℕ → List ℕ → Memory
+memory_in [] bytes = []
+memory_in (s ∷ slots) bytes = (record { slot = s; block = take 65536 bytes }) ∷ memory_in slots (drop 65536 bytes)
+
+-- the number of the heap slots, the slots, the number of the live blocks, the blocks
+abbrev pub heap_numbered : List ℕ → Heap
+heap_numbered ns = record { live = blocks_numbered (drop (suc (slice_index ns 0)) (drop 1 ns)); slots = take (slice_index ns 0) (drop 1 ns) }
+
+abbrev pub state_numbered : List ℕ → List ℕ → State
+state_numbered ns bytes = record {
+  regs = 0 ∷ take 31 (drop 10 ns);
+  pc = slice_index ns 41;
+  memory = memory_in (insert (slice_index ns 42) (heap_numbered (drop 43 ns)).slots) bytes;
+}
+
+-- the thread of these numbers, in the order of the fields, with the bytes of its slots
+abbrev pub thread_numbered : List ℕ → List ℕ → Thread
+thread_numbered ns bytes = record {
+  tid = record { home = slice_index ns 1; seq = slice_index ns 2 };
+  priority = slice_index ns 3;
+  calls = slice_index ns 4;
+  duty = duty_numbered (slice_index ns 5) (call_numbered (drop 6 ns));
+  state = state_numbered ns bytes;
+  stack = slice_index ns 42;
+  heap = heap_numbered (drop 43 ns);
+}
+
+-- the thread of what was read of bytes
+abbrev pub thread_read : List ℕ → Result Reading ℕ → Thread
+thread_read bytes (Ok reading) = thread_numbered reading.numbers (drop reading.at bytes)
+thread_read bytes (Err offset) = thread_numbered [] []
+
+-- the thread whose text the bytes are; what it is of other bytes doesn't matter
+unfoldable pub thread_in : List ℕ → Thread
+thread_in bytes = thread_read bytes (read_text bytes)
+
+-- the thread whose text the bytes are, or none where they are refused
+abbrev pub thread_if : List ℕ → Result Reading ℕ → Option Thread
+thread_if bytes (Ok reading) = Some (thread_in bytes)
+thread_if bytes (Err offset) = None
+
+abbrev pub thread_from : List ℕ → Option Thread
+thread_from bytes = thread_if bytes (read_text bytes)
