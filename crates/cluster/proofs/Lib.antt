@@ -1,3 +1,15 @@
-mod Stepping
-mod Listing
-mod Deciding
+pub mod Lists
+pub mod Runs
+pub mod Settling
+pub mod Starting
+pub mod Linking
+pub mod Keeping
+pub mod Silent
+pub mod Acting
+pub mod OneMore
+pub mod Possible
+pub mod TheStep
+pub mod Decisions
+pub mod Listings
+pub mod Merging
+pub mod Booting

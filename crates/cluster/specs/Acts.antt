@@ -1,11 +1,14 @@
 -- Which acts are possible, in their order: node by node a run of each processor that has a pick, then a take of each link
--- that holds a packet.
-use Rattle.std.specs.Prelude.{ℕ, List, [], ◌∷◌, ◌++◌, map, filter, flat_map, length, Bool, true, false, is_some, nat_lt, if◌then◌else◌}
+-- that holds a packet, then, where moves are asked for, a move of each ready thread to each other node.
+use Rattle.std.specs.Prelude.{ℕ, List, [], ◌++◌, map, filter, flat_map, length, Bool, false, not, is_some, nat_lt, ◌==◌, if◌then◌else◌}
 use Rattle.slot_space.specs.Sets.{run}
+use Rattle.slot_space.specs.declared.names.Tid.{Tid}
 use Rattle.run_trace.specs.declared.entry.Act.{Act}
-use Rattle.run_trace.specs.declared.entry.Act.TheVariants.{Run, Take}
+use Rattle.run_trace.specs.declared.entry.Act.TheVariants.{Boot, Run, Take, Move}
 use Rattle.run_trace.specs.declared.packet.Packet.{Packet}
 use Rattle.run_trace.specs.Program.{Program, nodes_of, processors_of}
+use Rattle.run_trace.specs.Local.{Local}
+use Rattle.run_trace.specs.Places.{is_listed}
 use Rattle.run_trace.specs.Cluster.{Net, first_of}
 
 -- a thread is on the node's run list
@@ -21,14 +24,25 @@ runs_of p net n = if has_pick net n then map (λ vp. (n, Run vp p.setup.quantum)
 abbrev pub takes_of : Program → Net → ℕ → List (ℕ × Act)
 takes_of p net n = map (λ i. (n, Take i)) (filter (λ i. holds (net.links i n)) (run 0 (nodes_of p)))
 
-abbrev pub possible_acts : Program → Net → List (ℕ × Act)
-possible_acts p net = flat_map (λ n. runs_of p net n ++ takes_of p net n) (run 0 (nodes_of p))
+-- the names of the threads of a node that are on its run list, ascending
+abbrev pub ready_on : Local → List Tid
+ready_on s = filter (λ t. is_listed t s.places.rows) (map (λ e. e.0) s.threads)
 
--- ## Those of the only node
+abbrev pub moves_to : Program → ℕ → Tid → List (ℕ × Act)
+moves_to p n t = map (λ to. (n, Move t to)) (filter (λ to. not (to == n)) (run 0 (nodes_of p)))
 
-abbrev pub act_if : Bool → Act → List (ℕ × Act)
-act_if true act = (0, act) ∷ []
-act_if false act = []
+abbrev pub moves_of : Bool → Program → Net → ℕ → List (ℕ × Act)
+moves_of moves p net n = if moves then flat_map (λ t. moves_to p n t) (ready_on (net.nodes n)) else []
 
-abbrev pub acts_of_one : (quantum : ℕ) (pick packet : Bool) → List (ℕ × Act)
-acts_of_one quantum pick packet = act_if pick (Run 0 quantum) ++ act_if packet (Take 0)
+abbrev pub acts_of : Bool → Program → Net → ℕ → List (ℕ × Act)
+acts_of moves p net n = runs_of p net n ++ (takes_of p net n ++ moves_of moves p net n)
+
+abbrev pub possible_acts : Bool → Program → Net → List (ℕ × Act)
+possible_acts moves p net = flat_map (λ n. acts_of moves p net n) (run 0 (nodes_of p))
+
+-- an act of node n, whose numbers are in range, can be done
+abbrev pub is_possible : Net → ℕ → Act → Bool
+is_possible net n Boot = false
+is_possible net n (Run vp quantum) = has_pick net n
+is_possible net n (Take i) = holds (net.links i n)
+is_possible net n (Move t to) = is_listed t (net.nodes n).places.rows

@@ -1,3 +1,5 @@
+pub mod View
 pub mod Acts
 pub mod Standing
 pub mod Outcomes
+pub mod Between

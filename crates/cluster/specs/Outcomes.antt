@@ -1,5 +1,5 @@
 -- Whether a trace is done, is stuck, or goes on.
-use Rattle.std.specs.Prelude.{◌≢◌, ℕ, Bool, List, [], ◌==◌, if◌then◌else◌}
+use Rattle.std.specs.Prelude.{◌≢◌, Bool, List, []}
 use Rattle.run_trace.specs.declared.entry.Entry.{Entry}
 use Rattle.run_trace.specs.Program.{Program}
 use Rattle.run_trace.specs.Cluster.{fresh_net}
@@ -8,8 +8,8 @@ use Rattle.run_trace.specs.Rules.{spots_of}
 use Rattle.run_trace.specs.Spots.{at_first}
 use Rattle.run_trace.specs.Trace.{net_after_trace}
 use Rattle.cluster.specs.Acts.{possible_acts}
-use Rattle.cluster.specs.declared.cluster.State.{State}
-use Rattle.cluster.specs.declared.cluster.State.TheVariants.{Going, Done, Stalled}
+use Rattle.cluster.specs.declared.deciding.State.{State}
+use Rattle.cluster.specs.declared.deciding.State.TheVariants.{Going, Done, Stalled}
 
 -- a thread has called halt, or no thread lives and nothing is under way
 abbrev pub IsDoneAt : Program → List Entry → Type 0
@@ -23,16 +23,9 @@ IsStuckAt p lines = IsStuck (spots_of p (at_first p) lines) (net_after_trace p (
 pub record GoesOn (p : Program) (lines : List Entry) : Type 0 where
   pub not_done : IsDoneAt p lines → ⊥
   pub not_stuck : IsStuckAt p lines → ⊥
-  pub possible : possible_acts p (net_after_trace p (fresh_net p) lines) ≢ []
+  pub possible : (moves : Bool) → possible_acts moves p (net_after_trace p (fresh_net p) lines) ≢ []
 
 abbrev pub IsAt : Program → List Entry → State → Type 0
 IsAt p lines Going = GoesOn p lines
 IsAt p lines Done = IsDoneAt p lines
 IsAt p lines Stalled = IsStuckAt p lines
-
--- ## How it is decided on the only node
-
--- whether a thread has called halt, whether a packet is under way, how many threads live and how many can run
-abbrev pub decided : (halted packet : Bool) → (threads ready : ℕ) → State
-decided halted packet threads ready =
-    if halted then Done else if packet then Going else if threads == 0 then Done else if ready == 0 then Stalled else Going

@@ -1,159 +1,153 @@
 //! The cluster.
 
-ghost use Rattle.std.specs.Prelude.{◌≡◌, ◌≢◌, ◌<◌, ◌≤◌, ◌↔◌, All, [], length, reverse, false, IfOk, OnErr};
-ghost use Rattle.run_trace.specs.Program.{quantum_limit};
-ghost use Rattle.node_state.specs.Events.{program};
-ghost use Rattle.node_loop.specs.Turns.{IsInRange, IsLost, can, entry_limit};
-ghost use Rattle.cluster.specs.Acts.{possible_acts, acts_of_one};
-ghost use Rattle.cluster.specs.Outcomes.{IsAt, decided};
-ghost use Rattle.cluster.specs.Standing.{StandsForItsTrace, Steps, HasBooted, IsPossible, Loses, trace_of, net_after};
+ghost use Rattle.std.specs.Prelude.{◌≡◌, ◌<◌, ◌≤◌, ◌↔◌, [], List, length, reverse, Bool, false, IfOk, OnErr};
+ghost use Rattle.run_trace.specs.declared.entry.Entry.{Entry};
+ghost use Rattle.run_trace.specs.Legality.{boot_entries};
+ghost use Rattle.run_trace.specs.Program.{nodes_of, quantum_limit};
+ghost use Rattle.node_state.specs.Events.{program, StartsAligned};
+ghost use Rattle.node_loop.specs.Turns.{IsActInRange};
+ghost use Rattle.wires.specs.Wires.{AreFreshFor};
+ghost use Rattle.cluster.specs.Acts.{possible_acts, is_possible};
+ghost use Rattle.cluster.specs.Outcomes.{IsAt};
+ghost use Rattle.cluster.specs.Standing.{StandsFor, IsStanding, HasTrace, Steps, Loses, net_after, turn_limit};
+ghost use Rattle.cluster.specs.View.{console_in, wires_of};
 
+use crate::beginning::begun;
+use crate::deciding::{State, any_halted, any_packet, any_ready, any_thread, decided};
+use crate::ending::taken_apart;
+use crate::listing::push_acts;
+use crate::stepping::carry_out;
 use basics::{Items, NoMemory};
 use node_loop::{Node, Turned};
-use run_trace::{Act, Entry, Setup};
+use run_trace::{Act, Entry, Packet, Setup};
 use rv_inst::Image;
 use slot_space::NodeNo;
 use std::alloc::Global;
 use std::marker::Model;
-use trace_laws::inside;
-
-/// Whether a program goes on.
-#[derive(Clone, Copy, Debug, PartialEq, Eq)]
-pub enum State {
-    /// An act is possible.
-    Going,
-    /// A thread has called halt, or no thread lives and nothing is under way.
-    Done,
-    /// Threads live, and each waits for what doesn't come.
-    Stalled,
-}
+use trace_merge::merge;
+use wires::{Ends, Wires};
 
 /// All nodes with what is under way between them. After want of memory it can only be finished.
 #[derive(Drop)]
 pub struct Cluster {
     alloc: Global,
-    quantum: u32,
-    node: Node,
+    setup: Setup,
+    image: Image,
+    turns: u64,
+    nodes: Vec<Node>,
+    // The ends of the wires' further nodes.
+    rest: Vec<Ends<Packet>>,
 }
 
 impl Model for Cluster {
-    ghost use Rattle.std.specs.Prelude.{◌≡◌};
-    ghost use Rattle.node_loop.specs.View.{NodeView};
+    ghost use Rattle.node_state.specs.Events.{program};
+    ghost use Rattle.cluster.specs.View.{ClusterView, view_of};
+    ghost use Rattle.cluster.specs.Between.{AllOf};
 
-    ghost Value = { NodeView };
+    ghost Value = { ClusterView };
 
-    ghost view = { λ c. c.node };
+    ghost view = { λ c. view_of (program c.setup c.image) c.turns c.nodes.items c.rest.items };
 
-    ghost invariant = { λ c. c.quantum ≡ c.node.program.setup.quantum };
+    // Each node has the cluster's setup and image.
+    ghost invariant = { λ c. AllOf (program c.setup c.image) c.nodes.items };
 }
 
 impl Cluster {
-    /// Nodes that have begun.
-    pub fn boot(alloc: Global, setup: &Setup, image: &Image) -> Result<Cluster, NoMemory>
-        requires one { setup.now.geometry.nodes ≡ 1 }
+    /// Nodes that have begun, on wires that have carried nothing.
+    pub fn boot(
+        alloc: Global,
+        setup: &Setup,
+        image: Image,
+        wires: Wires<Packet>,
+    ) -> Result<Cluster, NoMemory>
         requires quantum { (0 < setup.now.quantum) × (setup.now.quantum ≤ quantum_limit) }
-        ensures booted { IfOk result (λ c. HasBooted (program setup.now image.now) c) }
-        ensures some { IfOk result (λ c. possible_acts c.program (net_after c) ≢ []) }
+        requires image { StartsAligned image }
+        requires fresh { AreFreshFor (length wires) wires }
+        requires wide { setup.now.geometry.nodes ≤ length wires }
+        ensures stands { IfOk result (λ c. StandsFor c (boot_entries (program setup.now image) setup.now.geometry.nodes)) }
+        ensures program { IfOk result (λ c. c.program ≡ program setup.now image) }
+        ensures wires { IfOk result (λ c. length (wires_of c) ≡ length wires) }
     {
-        let node = Node::boot(alloc, setup, image, NodeNo(0))?;
+        let (nodes, rest) = begun(alloc, setup, &image, wires.ends()?)?;
         Ok(Cluster {
             alloc,
-            quantum: setup.quantum,
-            node,
+            setup: *setup,
+            image,
+            turns: 0,
+            nodes,
+            rest,
         })
     }
 
     /// An act of a node, in a round of its own: its entry is one stamp above all others. Idle exactly where the act isn't
     /// possible, and then nothing changes, the round included.
     pub fn step(&mut self, node: NodeNo, act: Act) -> Result<Turned, NoMemory>
-        requires stands { StandsForItsTrace self.old }
-        requires entries { length self.old.entries < entry_limit }
-        requires node { node < self.old.program.setup.geometry.nodes }
-        requires range { IsInRange self.old act }
-        ensures steps { IfOk result (λ turned. Steps self.old node act self.new turned) }
-        ensures idle { IfOk result (λ turned. (turned ≡ Turned.Idle) ↔ (can self.old act ≡ false)) }
-        ensures err { OnErr result (Loses self.old self.new) }
+        requires stands { IsStanding self.old }
+        requires turns { self.old.turns < turn_limit }
+        requires node { node < nodes_of self.old.program }
+        requires range { IsActInRange self.old.program node act }
+        ensures steps { (lines : List Entry) → StandsFor self.old lines → IfOk result (λ turned. Steps self.old lines node act self.new turned) }
+        ensures idle { (lines : List Entry) → StandsFor self.old lines → IfOk result (λ turned. (turned ≡ Turned.Idle) ↔ (is_possible (net_after self.old.program lines) node act ≡ false)) }
+        ensures err { (lines : List Entry) → StandsFor self.old lines → OnErr result (Loses self.old self.new lines) }
     {
-        if !self.node.possible(&act) {
+        let at = usize::from(node.0);
+        if !self.nodes[at].possible(&act) {
             return Ok(Turned::Idle);
         }
-        let clock = self.node.clock();
-        self.node.raise(clock);
-        self.node.turn(act)
+        let turned = carry_out(&mut self.nodes, &self.rest, self.turns + 1, at, act)?;
+        self.turns += 1;
+        Ok(turned)
     }
 
-    /// The possible acts, in their order.
-    pub fn acts(&self) -> Result<Vec<(NodeNo, Act)>, NoMemory>
-        ensures all { StandsForItsTrace self.now → IfOk result (λ acts. acts.items ≡ possible_acts self.now.program (net_after self.now)) }
-        ensures each { StandsForItsTrace self.now → IfOk result (λ acts. All (IsPossible self.now) acts.items) }
+    /// The possible acts, in their order; moves only where they are asked for.
+    pub fn acts(&self, moves: bool) -> Result<Vec<(NodeNo, Act)>, NoMemory>
+        ensures { (lines : List Entry) → StandsFor self.now lines → IfOk result (λ acts. acts.items ≡ possible_acts moves self.now.program (net_after self.now.program lines)) }
     {
-        let packet = self.node.has_packet(NodeNo(0));
-        acts_of_one(self.alloc, self.quantum, self.node.ready() > 0, packet)
+        let mut acts = Vec::new(self.alloc);
+        for node in &self.nodes {
+            push_acts(&mut acts, &self.setup, moves, node)?;
+        }
+        Ok(acts)
     }
 
     /// Whether the program goes on.
     pub fn verdict(&self) -> State
-        ensures { StandsForItsTrace self.now → IsAt self.now.program (trace_of self.now) result }
+        ensures { (lines : List Entry) → StandsFor self.now lines → IsAt self.now.program lines result }
     {
-        inside();
-        let packet = self.node.has_packet(NodeNo(0));
+        let count = self.setup.geometry.nodes();
         decided(
-            self.node.halted(),
-            packet,
-            self.node.threads(),
-            self.node.ready(),
+            any_halted(&self.nodes),
+            any_packet(&self.nodes, count),
+            any_thread(&self.nodes),
+            any_ready(&self.nodes),
         )
+    }
+
+    /// How many acts were done.
+    pub fn turns(&self) -> u64
+        ensures { result ≡ self.now.turns }
+    {
+        self.turns
     }
 
     /// The lines that were shown.
     pub fn console(&self) -> &[u8]
-        ensures { result.now ≡ self.now.console }
+        ensures { result.now ≡ console_in self.now }
     {
-        self.node.console()
+        match self.nodes.first() {
+            None => &[],
+            Some(node) => node.console(),
+        }
     }
 
-    /// Its entries, oldest first, when it is done with.
-    pub fn finish(self) -> Items<Entry>
-        ensures { result ≡ self.entries }
+    /// Its trace, oldest entry first, and its wires, when it is done with.
+    pub fn finish(self) -> Result<(Items<Entry>, Wires<Packet>), NoMemory>
+        requires { (lines : List Entry) × HasTrace self lines }
+        ensures trace { (lines : List Entry) → HasTrace self lines → IfOk result (λ done. done.0 ≡ reverse lines) }
+        ensures wires { IfOk result (λ done. done.1 ≡ wires_of self) }
     {
-        Items::new(self.node.end())
+        let (parts, ends) = taken_apart(self.alloc, self.nodes, self.rest)?;
+        let entries = merge(self.alloc, parts)?;
+        Ok((Items::new(entries), Wires::of_ends(ends)))
     }
-}
-
-// The acts of the only node.
-fn acts_of_one(
-    alloc: Global,
-    quantum: u32,
-    pick: bool,
-    packet: bool,
-) -> Result<Vec<(NodeNo, Act)>, NoMemory>
-    ensures { IfOk result (λ acts. acts.items ≡ acts_of_one quantum pick packet) }
-{
-    let mut acts = Vec::new(alloc);
-    if pick {
-        acts.push((NodeNo(0), Act::Run(0, quantum)))?;
-    }
-    if packet {
-        acts.push((NodeNo(0), Act::Take(NodeNo(0))))?;
-    }
-    Ok(acts)
-}
-
-// Whether the program goes on, by the only node.
-fn decided(halted: bool, packet: bool, threads: usize, ready: usize) -> State
-    ensures { result ≡ decided halted packet threads ready }
-{
-    if halted {
-        return State::Done;
-    }
-    if packet {
-        return State::Going;
-    }
-    if threads == 0 {
-        return State::Done;
-    }
-    if ready == 0 {
-        return State::Stalled;
-    }
-    State::Going
 }

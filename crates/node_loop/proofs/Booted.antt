@@ -1,6 +1,6 @@
 -- A node that has begun stays so.
 use Rattle.std.proofs.Common.{◌≡◌, ℕ, List, [], ◌∷◌, Option, Some, None, Bool, true, false, cond, eqb, refl, ◌∙◌, subst}
-use Rattle.std.specs.Prelude.{slice_get, ⊤}
+use Rattle.std.specs.Prelude.{slice_get, nat_lt, ⊤}
 use Rattle.std.specs.Map.{lookup}
 use Rattle.slot_space.specs.declared.names.Tid.{Tid}
 use Rattle.slot_space.specs.declared.names.Reply.{Reply}
@@ -15,23 +15,24 @@ use Rattle.marcel_core.specs.declared.birth.Verdict.{Verdict}
 use Rattle.marcel_core.specs.declared.birth.Verdict.TheVariants.{Now, Later, NoSuch, Taken}
 use Rattle.marcel_core.specs.Homes.{verdict, joiner}
 use Rattle.run_trace.specs.declared.call.Call.{Call}
-use Rattle.run_trace.specs.declared.call.Call.TheVariants.{Exit, Name, Node, Nodes, Yield, Create, Join, Isomalloc, Isofree, Print, Halt, Unknown}
+use Rattle.run_trace.specs.declared.call.Call.TheVariants.{Exit, Name, Node, Nodes, Yield, Create, Join, Isomalloc, Isofree, MigrateSelf, Print, Halt, Unknown}
 use Rattle.run_trace.specs.declared.entry.Act.{Act}
 use Rattle.run_trace.specs.declared.entry.Act.TheVariants.{Boot, Run as RunThread, Take, Move}
 use Rattle.run_trace.specs.declared.label.Why.{Why}
 use Rattle.run_trace.specs.declared.label.Why.TheVariants as why
 use Rattle.run_trace.specs.declared.packet.Body.{Body}
-use Rattle.run_trace.specs.declared.packet.Body.TheVariants.{Show, ShowDone, JoinAsk, Answer, EndNote}
+use Rattle.run_trace.specs.declared.packet.Body.TheVariants.{Mover, Show, ShowDone, JoinAsk, Answer, EndNote}
 use Rattle.run_trace.specs.declared.packet.Packet.{Packet}
 use Rattle.run_trace.specs.declared.node.Row.{Row}
 use Rattle.run_trace.specs.Names.{is_tid, tid_of}
 use Rattle.run_trace.specs.Program.{Program, nodes_of, code_of, main_priority}
 use Rattle.run_trace.specs.Guests.{Guest, Thread, Run, run_of, heap_of, with_placed, without_block, slots_for}
 use Rattle.run_trace.specs.Calls.{call_of, refusal, bytes_of}
-use Rattle.run_trace.specs.Places.{best}
+use Rattle.run_trace.specs.Places.{best, is_listed}
+use Rattle.pack_thread.specs.Threads.{Thread as Packed}
 use Rattle.run_trace.specs.Local.{Local, Doing, nothing, with_booted}
-use Rattle.run_trace.specs.Steps.{say, put, print, arrive, take_off, thread_at, at_thread, at_found, keep, thread_in, thread_out, slots_out, slots_in, name_in, change_name, halt, next_name, birth, ran, asks, asks_show, asks_join, halts, judge, tell_found, tell, settle, reply_by_link, takes_run, returns, gives, ends, shows, acknowledges, hears, knows}
-use Rattle.run_trace.specs.Machine.{answer, end_thread, free_slot, creates_in, creates, settles, place_code, places, run_for, allocates_with, allocates, returns_any, frees_block, frees, does, calls, boots_in, boots, stopped, run_thread, run_found, run_picked, judges_join, tells_joiner, accepts, is_stray, takes, is_range, acts, local_event, turn_event, is_beyond}
+use Rattle.run_trace.specs.Steps.{say, put, print, arrive, take_off, thread_at, at_thread, at_found, keep, thread_in, thread_out, slots_out, slots_in, name_in, change_name, halt, next_name, birth, ran, asks, asks_show, asks_join, halts, judge, tell_found, tell, settle, reply_by_link, takes_run, returns, gives, ends, leaves, comes, shows, acknowledges, hears, knows}
+use Rattle.run_trace.specs.Machine.{answer, end_thread, free_slot, creates_in, creates, settles, place_code, places, run_for, allocates_with, allocates, returns_any, frees_block, frees, goes, migrates, moves_found, does, calls, boots_in, boots, stopped, run_thread, run_found, run_picked, judges_join, tells_joiner, accepts, is_stray, takes, is_range, acts, local_event, turn_event, is_beyond}
 
 -- ## Steps
 
@@ -112,6 +113,14 @@ end_keeps : (t : Tid) (x : Thread) (end : End) (d : Doing) → Kept d (end_threa
 unfolding ends gives put thread_out slots_in say
 end_keeps t x end d = kept refl
 
+leaves_keeps : (t : Tid) (to : ℕ) (x : Thread) (d : Doing) → Kept d (leaves t to x d)
+unfolding leaves put thread_out take_off say
+leaves_keeps t to x d = kept refl
+
+comes_keeps : (x : Packed) (d : Doing) → Kept d (comes x d)
+unfolding comes arrive thread_in say
+comes_keeps x d = kept refl
+
 shows_keeps : (t : Tid) (from : ℕ) (bytes : List ℕ) (d : Doing) → Kept d (acknowledges t from (shows t bytes d))
 unfolding acknowledges shows put print say
 shows_keeps t from bytes d = kept refl
@@ -155,6 +164,20 @@ frees_keep t address x d =
     by [] = kept refl
     by (s ∷ slots) = returns_keep t (s ∷ slots) x.guest d
 
+goes_keeps : (p : Program) (t : Tid) (to : ℕ) (x : Thread) (d : Doing) → Kept d (goes p t to x d)
+goes_keeps p t to x d = by (nat_lt t.home (nodes_of p))
+  where
+    by : (b : Bool) → Kept d (cond b (leaves t to x d) d)
+    by true = leaves_keeps t to x d
+    by false = kept refl
+
+migrates_keeps : (p : Program) (me to : ℕ) (t : Tid) (d : Doing) → Kept d (migrates p me to t d)
+migrates_keeps p me to t d = by (eqb to me)
+  where
+    by : (b : Bool) → Kept d (cond b d (at_thread t (goes p t to) d))
+    by true = kept refl
+    by false = at_keeps t (goes p t to) d (λ x. goes_keeps p t to x d)
+
 -- one case a call
 does_keeps : (p : Program) (me : ℕ) (t : Tid) (c : Call) (bytes : List ℕ) (d : Doing) → Kept d (does p me t c bytes d)
 does_keeps p me t (Exit value) bytes d = then (asks_keeps t (Exit value) d) (at_keeps t (λ x. end_thread t x (end_of.Exit value)) _ (λ x. end_keeps t x (end_of.Exit value) _))
@@ -166,6 +189,7 @@ does_keeps p me t (Create entry argument priority) bytes d = then (asks_keeps t 
 does_keeps p me t (Join name) bytes d = at_keeps t (asks_join t (Join name) (tid_of name)) d (λ x. asks_join_keeps t (Join name) (tid_of name) x d)
 does_keeps p me t (Isomalloc len) bytes d = then (asks_keeps t (Isomalloc len) d) (at_keeps t (allocates t (rounded len)) _ (λ x. allocates_keeps t (rounded len) x _))
 does_keeps p me t (Isofree address) bytes d = then (asks_keeps t (Isofree address) d) (at_keeps t (frees t address) _ (λ x. frees_keep t address x _))
+does_keeps p me t (MigrateSelf to) bytes d = then (then (asks_keeps t (MigrateSelf to) d) (answer_keeps t 0 _)) (migrates_keeps p me to t _)
 does_keeps p me t (Print address len) bytes d = at_keeps t (asks_show t (Print address len) bytes) d (λ x. asks_show_keeps t (Print address len) bytes x d)
 does_keeps p me t Halt bytes d = then (asks_keeps t Halt d) (at_keeps t (halts t) _ (λ x. halts_keeps t x _))
 does_keeps p me t (Unknown number) bytes d = then (asks_keeps t (Unknown number) d) (answer_keeps t (reply_code replies.BadArgument) _)
@@ -200,6 +224,7 @@ picked_keeps p me vp quantum (Some r) s = by (lookup (is_tid r.tid) s.threads)
     by (Some x) = (run_keeps p me vp quantum r.tid x (nothing s)).is
 
 accepts_keeps : (p : Program) (me from : ℕ) (body : Body) (s : Local) → Kept (nothing s) (accepts me from body s)
+accepts_keeps p me from (Mover x) s = comes_keeps x (nothing s)
 accepts_keeps p me from (Show t bytes) s = shows_keeps t from bytes (nothing s)
 accepts_keeps p me from (ShowDone t) s = tell_keeps t 0 None (nothing s)
 accepts_keeps p me from (JoinAsk by seq) s = then (hears_keeps by seq from (nothing s)) (judges (verdict (slice_get s.names seq)) _)
@@ -241,7 +266,15 @@ acts_booted : (p : Program) (me : ℕ) (s : Local) (act : Act) (took : Option Pa
 acts_booted p me s Boot None b = boots_true p me s
 acts_booted p me s (RunThread vp quantum) None b = subst (λ z. StaysBooted z (run_picked p me vp quantum (best s.places.rows) s)) b (picked_keeps p me vp quantum (best s.places.rows) s)
 acts_booted p me s (Take from) (Some packet) b = (takes_keeps p me from packet.body s).is ∙ b
-acts_booted p me s (Move t to) None b = tt
+acts_booted p me s (Move t to) None b = listed (is_listed t s.places.rows)
+  where
+    found : (o : Option Thread) → IsBootedAfter (moves_found p t to o s)
+    found None = tt
+    found (Some x) = (goes_keeps p t to x (nothing s)).is ∙ b
+
+    listed : (c : Bool) → IsBootedAfter (cond c (moves_found p t to (lookup (is_tid t) s.threads) s) None)
+    listed true = found (lookup (is_tid t) s.threads)
+    listed false = tt
 acts_booted p me s Boot (Some packet) b = tt
 acts_booted p me s (RunThread vp quantum) (Some packet) b = tt
 acts_booted p me s (Take from) None b = tt

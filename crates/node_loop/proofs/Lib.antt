@@ -1,7 +1,5 @@
 mod Booted
-mod Keeping
+mod Wiring
 mod Stepping
-mod Turning
-mod Possible
-mod Beginning
 mod Locally
+mod Pairing

@@ -1,3 +1,3 @@
 pub mod View
 pub mod Turns
-pub mod Alone
+pub mod Links

@@ -1,88 +1,122 @@
 -- A turn: one step of the node's machine on what the node had, the act, and the packet that it took.
-use Rattle.std.specs.Prelude.{◌≡◌, ◌≢◌, ◌<◌, ◌≤◌, ℕ, suc, List, [], ◌∷◌, ◌++◌, Option, Some, None, Bool, false, is_some, nat_lt, length, ◌==◌, if◌then◌else◌, max}
+use Rattle.std.specs.Prelude.{◌≡◌, ◌≢◌, ◌<◌, ◌≤◌, ℕ, suc, List, [], ◌∷◌, ◌++◌, Option, Some, None, Bool, false, nat_lt, length, max, ⊤}
 use Rattle.run_trace.specs.declared.entry.Act.{Act}
 use Rattle.run_trace.specs.declared.entry.Act.TheVariants.{Boot, Run, Take, Move}
-use Rattle.run_trace.specs.declared.label.Label.{Label}
 use Rattle.run_trace.specs.declared.packet.Packet.{Packet}
 use Rattle.run_trace.specs.declared.packet.Send.{Send}
-use Rattle.run_trace.specs.Program.{nodes_of, processors_of, quantum_limit}
+use Rattle.run_trace.specs.Program.{Program, nodes_of, processors_of, quantum_limit}
 use Rattle.run_trace.specs.Local.{Doing}
 use Rattle.run_trace.specs.Machine.{turn_event}
-use Rattle.run_trace.specs.Cluster.{first_of, left_after, packets_to}
-use Rattle.run_trace.specs.Histories.{Turn, seen}
+use Rattle.run_trace.specs.Cluster.{packets_to, taken_of}
+use Rattle.run_trace.specs.Histories.{IsShape, Turn, seen}
+use Rattle.run_trace.specs.Places.{is_listed}
+use Rattle.wires.specs.declared.ends.Ends.{Ends}
+use Rattle.wires.specs.Ends.{node_of, width, sent_to, received_from, known_from}
+use Rattle.wires.specs.Wires.{StaysWired}
 use Rattle.node_loop.specs.View.{NodeView}
 use Rattle.node_loop.specs.declared.node.Turned.{Turned}
 use Rattle.node_loop.specs.declared.node.Turned.TheVariants.{Did, Idle}
 
--- what an act takes off the node's link to itself
-abbrev pub taken_by : ℕ → Act → List Packet → Option Packet
-taken_by me Boot packets = None
-taken_by me (Run vp quantum) packets = None
-taken_by me (Move t to) packets = None
-taken_by me (Take from) packets = if from == me then first_of packets else None
+-- ## What goes by the links
 
-abbrev pub took : NodeView → Act → Option Packet
-took v act = taken_by v.me act v.link
+-- where a packet of the sender is known, it is the one that is taken
+abbrev pub TakesKnown : Ends Packet → Act → Option Packet → Type 0
+TakesKnown ends (Take from) took = (p : Packet) (ps : List Packet) → known_from ends from ≡ p ∷ ps → took ≡ Some p
+TakesKnown ends Boot took = ⊤
+TakesKnown ends (Run vp quantum) took = ⊤
+TakesKnown ends (Move t to) took = ⊤
 
--- what the machine does for the act; None where it is not possible
-abbrev pub done_by : NodeView → Act → Option Doing
-done_by v act = turn_event v.program v.me v.state act (took v act)
+-- the links have carried what was taken and what was sent, and nothing else
+pub record Carries (act : Act) (took : Option Packet) (stamp : ℕ) (sends : List Send) (old new : Ends Packet) : Type 0 where
+  pub node : node_of new ≡ node_of old
+  pub wide : width new ≡ width old
+  pub received : (k : ℕ) → received_from new k ≡ received_from old k ++ taken_of k act took
+  pub sent : (k : ℕ) → k < width old → sent_to new k ≡ sent_to old k ++ packets_to k stamp sends
+  pub wired : StaysWired old new
+
+-- the links have carried nothing; a look at a ring may have shown a packet
+pub record CarriesNothing (old new : Ends Packet) : Type 0 where
+  pub node : node_of new ≡ node_of old
+  pub wide : width new ≡ width old
+  pub received : (k : ℕ) → received_from new k ≡ received_from old k
+  pub sent : (k : ℕ) → sent_to new k ≡ sent_to old k
+  pub wired : StaysWired old new
+
+-- ## A turn
 
 -- the turn, with its entry: its stamp is one above the clock and the packet's stamp
-abbrev pub turn_of : NodeView → Act → Doing → Turn
-turn_of v act done = record {
+abbrev pub turn_of : NodeView → Act → Option Packet → Doing → Turn
+turn_of v act took done = record {
   began = v.clock;
   event = record {
-    stamp = suc (max v.clock (seen (took v act)));
+    stamp = suc (max v.clock (seen took));
     node = v.me;
     round = v.round;
     act = act;
-    took = took v act;
+    took = took;
     labels = done.labels;
     sends = done.sends;
     prints = done.prints;
   };
 }
 
--- an entry more, with its packets to the node itself
-abbrev pub recorded : NodeView → (stamp : ℕ) → Act → List Label → List Send → List ℕ → NodeView
-recorded v stamp act labels sends prints = record v {
-  clock = stamp;
-  entries = v.entries ++ (record { stamp = stamp; node = v.me; round = v.round; act = act; labels = labels }) ∷ [];
-  console = v.console ++ prints;
-  link = v.link ++ packets_to v.me stamp sends;
+-- the node after it, with these ends
+abbrev pub after_turn : NodeView → Act → Option Packet → Doing → Ends Packet → NodeView
+after_turn v act took done ends = record v {
+  state = done.node;
+  clock = suc (max v.clock (seen took));
+  entries = v.entries ++ (record { stamp = suc (max v.clock (seen took)); node = v.me; round = v.round; act = act; labels = done.labels }) ∷ [];
+  console = v.console ++ done.prints;
+  ends = ends;
 }
 
--- the node after it
-abbrev pub after_turn : NodeView → Act → Doing → NodeView
-after_turn v act done =
-    recorded (record v { state = done.node; link = left_after v.me act v.link })
-    (suc (max v.clock (seen (took v act)))) act done.labels done.sends done.prints
+-- the act is done: one step of the machine, on the packet that it took
+pub record Does (old : NodeView) (act : Act) (new : NodeView) : Type 0 where
+  pub took : Option Packet
+  pub done : Doing
+  pub shape : IsShape act took
+  pub known : TakesKnown old.ends act took
+  pub is : turn_event old.program old.me old.state act took ≡ Some done
+  pub after : new ≡ after_turn old act took done new.ends
+  pub links : Carries act took (suc (max old.clock (seen took))) done.sends old.ends new.ends
 
--- where the act is not possible nothing has changed, else the node has done it
+-- no packet of the sender is known; of another act, that the machine can't do it
+abbrev pub IsImpossible : NodeView → Act → Type 0
+IsImpossible v (Take from) = known_from v.ends from ≡ []
+IsImpossible v act = turn_event v.program v.me v.state act None ≡ None
+
+-- the act isn't possible, and nothing has changed
+pub record Idles (old : NodeView) (act : Act) (new : NodeView) : Type 0 where
+  pub impossible : IsImpossible old act
+  pub same : new ≡ record old { ends = new.ends }
+  pub links : CarriesNothing old.ends new.ends
+
 abbrev pub Turns : NodeView → Act → NodeView → Turned → Type 0
-Turns old act new Idle = (done_by old act ≡ None) × (new ≡ old)
-Turns old act new Did = (done : Doing) × (done_by old act ≡ Some done) × (new ≡ after_turn old act done)
+Turns old act new Idle = Idles old act new
+Turns old act new Did = Does old act new
 
--- the numbers of an act are in range, and it isn't to begin
+-- the numbers of an act of node n are in range, and it isn't to begin
+abbrev pub IsActInRange : Program → ℕ → Act → Type 0
+IsActInRange p n Boot = ⊥
+IsActInRange p n (Run vp quantum) = (vp < processors_of p) × (0 < quantum) × (quantum ≤ quantum_limit)
+IsActInRange p n (Take from) = from < nodes_of p
+IsActInRange p n (Move t to) = (to < nodes_of p) × (to ≢ n)
+
 abbrev pub IsInRange : NodeView → Act → Type 0
-IsInRange v Boot = ⊥
-IsInRange v (Run vp quantum) = (vp < processors_of v.program) × (0 < quantum) × (quantum ≤ quantum_limit)
-IsInRange v (Take from) = from < nodes_of v.program
-IsInRange v (Move t to) = (to < nodes_of v.program) × (to ≢ v.me)
+IsInRange v act = IsActInRange v.program v.me act
 
--- a thread can be picked, or the link holds a packet
+-- a thread can be picked, a packet of the sender is known, or the thread is on the run list
 abbrev pub can : NodeView → Act → Bool
 can v Boot = false
 can v (Run vp quantum) = nat_lt 0 (length v.state.places.rows)
-can v (Take from) = is_some (took v (Take from))
-can v (Move t to) = false
+can v (Take from) = nat_lt 0 (length (known_from v.ends from))
+can v (Move t to) = is_listed t v.state.places.rows
 
 -- how many entries a node may keep
 abbrev pub entry_limit : ℕ
 entry_limit = 2000000
 
--- what want of memory leaves: the entries, the console, the clock and the round, and no packet is sent
+-- what want of memory leaves: the entries, the console, the clock and the round; no packet is sent
 pub record IsLost (old new : NodeView) : Type 0 where
   pub program : new.program ≡ old.program
   pub me : new.me ≡ old.me
@@ -90,4 +124,8 @@ pub record IsLost (old new : NodeView) : Type 0 where
   pub round : new.round ≡ old.round
   pub entries : new.entries ≡ old.entries
   pub console : new.console ≡ old.console
-  pub link : (gone : List Packet) × (gone ++ new.link ≡ old.link)
+  pub node : node_of new.ends ≡ node_of old.ends
+  pub wide : width new.ends ≡ width old.ends
+  pub sent : (k : ℕ) → sent_to new.ends k ≡ sent_to old.ends k
+  pub received : (k : ℕ) → (gone : List Packet) × (received_from new.ends k ≡ received_from old.ends k ++ gone)
+  pub wired : StaysWired old.ends new.ends

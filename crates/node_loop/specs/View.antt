@@ -4,6 +4,7 @@ use Rattle.run_trace.specs.declared.entry.Entry.{Entry}
 use Rattle.run_trace.specs.declared.packet.Packet.{Packet}
 use Rattle.run_trace.specs.Program.{Program}
 use Rattle.run_trace.specs.Local.{Local, fresh}
+use Rattle.wires.specs.declared.ends.Ends.{Ends}
 
 pub record NodeView : Type 0 where
   pub program : Program
@@ -13,11 +14,11 @@ pub record NodeView : Type 0 where
   pub round : ℕ
   pub entries : List Entry  -- oldest first
   pub console : List ℕ  -- the lines that it has shown
-  pub link : List Packet  -- what it has sent to itself and not taken, oldest first
+  pub ends : Ends Packet  -- its ends of its links with all nodes
 
 -- node n before it begins
-abbrev pub unbooted : Program → ℕ → NodeView
-unbooted p n = record {
+abbrev pub unbooted : Program → ℕ → Ends Packet → NodeView
+unbooted p n ends = record {
   program = p;
   me = n;
   state = fresh p n;
@@ -25,11 +26,11 @@ unbooted p n = record {
   round = 0;
   entries = [];
   console = [];
-  link = [];
+  ends = ends;
 }
 
-abbrev pub view_of : Program → (me : ℕ) → Local → (clock round : ℕ) → List Entry → List ℕ → List Packet → NodeView
-view_of p me state clock round entries console link = record {
+abbrev pub view_of : Program → (me : ℕ) → Local → (clock round : ℕ) → List Entry → List ℕ → Ends Packet → NodeView
+view_of p me state clock round entries console ends = record {
   program = p;
   me = me;
   state = state;
@@ -37,8 +38,11 @@ view_of p me state clock round entries console link = record {
   round = round;
   entries = entries;
   console = console;
-  link = link;
+  ends = ends;
 }
+
+abbrev pub with_ends : Ends Packet → NodeView → NodeView
+with_ends ends v = record v { ends = ends }
 
 -- the clock is at least this, and the next round begins; rounds stand still at their type's end
 abbrev pub raised : ℕ → NodeView → NodeView

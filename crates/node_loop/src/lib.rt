@@ -1,10 +1,10 @@
 //! One node: turns, each with its entry and its packets.
-//! A layer above uses that a turn is exactly the machine's step on what the node had, the act and the packet that it took,
-//! and that the only node of a cluster stands for a legal trace.
+//! A layer above uses that a turn is exactly the machine's step on what the node had, the act and the packet that it took, and
+//! what the node's links have carried by it.
 #![tactic(auto)]
 
 mod laws;
-mod link;
+mod links;
 mod node;
 
 pub use laws::turns_are_local;

@@ -1,21 +1,26 @@
 //! The node.
 
-ghost use Rattle.std.specs.Prelude.{◌≡◌, ◌+◌, ◌^◌, ◌<◌, ◌≤◌, [], ◌++◌, ◌∷◌, ◌↔◌, Some, None, true, false, length, max, min, suc, IfOk, OnOk, OnErr, IsOk};
+ghost use Rattle.std.specs.Prelude.{◌≡◌, ◌+◌, ◌^◌, ◌<◌, ◌≤◌, [], length, max, min, suc, true, IfOk, OnOk, OnErr, IsOk};
+ghost use Rattle.run_trace.specs.Guests.{unwaiting};
 ghost use Rattle.run_trace.specs.Histories.{seen};
 ghost use Rattle.run_trace.specs.Machine.{turn_event, is_beyond};
-ghost use Rattle.node_state.specs.Events.{program, Answers};
-ghost use Rattle.node_loop.specs.View.{unbooted, raised};
-ghost use Rattle.node_loop.specs.Turns.{Turns, recorded, IsInRange, IsLost, can, entry_limit};
-ghost use Rattle.node_loop.specs.Alone.{StandsAlone};
+ghost use Rattle.wires.specs.Ends.{node_of, width, ArePaired, BothChanged, LinkChanged};
+ghost use Rattle.wires.specs.Link.{IsSettled, BothBecome, OwnBecomes};
+ghost use Rattle.wires.specs.Wires.{StaysWired};
+ghost use Rattle.node_state.specs.Events.{program, Answers, StartsAligned};
+ghost use Rattle.node_loop.specs.View.{unbooted, raised, with_ends};
+ghost use Rattle.node_loop.specs.Links.{Records, Rests};
+ghost use Rattle.node_loop.specs.Turns.{Turns, IsInRange, IsLost, can, entry_limit};
 
-use crate::link::{Link, packets_for};
+use crate::links;
 use basics::{Items, NoMemory};
 use node_state::{Done, NodeState};
 use run_trace::{Act, Entry, Packet, Setup};
 use rv_inst::Image;
-use slot_space::NodeNo;
+use slot_space::{NodeNo, Tid};
 use std::alloc::Global;
 use std::marker::Model;
+use wires::Ends;
 
 /// Stamps from here on make a packet a stray.
 const STAMP_LIMIT: u64 = 1 << 62;
@@ -29,7 +34,7 @@ pub enum Turned {
     Idle,
 }
 
-/// One node with its entries, its console and its link to itself. After want of memory it is used no more.
+/// One node with its entries, its console and its ends of its links. After want of memory it is used no more.
 #[derive(Drop)]
 pub struct Node {
     alloc: Global,
@@ -41,35 +46,44 @@ pub struct Node {
     round: u64,
     entries: Vec<Entry>,
     console: Vec<u8>,
-    link: Link,
+    ends: Ends<Packet>,
 }
 
 impl Model for Node {
-    ghost use Rattle.std.specs.Prelude.{◌<◌, ◌≤◌, ◌+◌, ◌^◌, length};
-    ghost use Rattle.node_state.specs.Events.{program};
+    ghost use Rattle.std.specs.Prelude.{◌≡◌, ◌<◌, ◌≤◌, ◌+◌, ◌^◌, length};
+    ghost use Rattle.wires.specs.Ends.{node_of, width};
+    ghost use Rattle.node_state.specs.Events.{program, StartsAligned};
     ghost use Rattle.node_loop.specs.View.{NodeView, view_of};
 
     ghost Value = { NodeView };
 
-    ghost view = { λ n. view_of (program n.setup n.image) n.me n.state n.clock n.round n.entries.items n.console.items n.link.packets.items };
+    ghost view = { λ n. view_of (program n.setup n.image) n.me n.state n.clock n.round n.entries.items n.console.items n.ends };
 
-    // It is one of the cluster's nodes, and no stamp reaches the end of its type.
-    ghost invariant = { λ n. (n.clock ≤ 2 ^ 62 + length n.entries.items) × (n.me < n.setup.geometry.nodes) × (n.round < 2 ^ 64) };
+    // It is one of the cluster's nodes, the ends are its own and lead to all nodes, and no stamp reaches the end of its type.
+    ghost invariant = { λ n. (n.clock ≤ 2 ^ 62 + length n.entries.items) × (n.me < n.setup.geometry.nodes) × (n.round < 2 ^ 64)
+        × (node_of n.ends ≡ n.me) × (n.setup.geometry.nodes ≤ width n.ends) × StartsAligned n.image };
 }
 
 impl Node {
     /// A node that has begun: its first entry has stamp 1 and round 0. It keeps a copy of the image.
-    pub fn boot(alloc: Global, setup: &Setup, image: &Image, me: NodeNo) -> Result<Node, NoMemory>
-        requires { me < setup.now.geometry.nodes }
-        ensures booted { IfOk result (λ node. Turns (unbooted (program setup.now image.now) me) Act.Boot node Turned.Did) }
+    pub fn boot(
+        alloc: Global,
+        setup: &Setup,
+        image: &Image,
+        me: NodeNo,
+        ends: Ends<Packet>,
+    ) -> Result<Node, NoMemory>
+        requires me { me < setup.now.geometry.nodes }
+        requires image { StartsAligned image.now }
+        requires ends { (node_of ends ≡ me) × (setup.now.geometry.nodes ≤ width ends) }
+        ensures booted { IfOk result (λ node. Turns (unbooted (program setup.now image.now) me ends) Act.Boot node Turned.Did) }
         ensures begun { IfOk result (λ node. node.state.booted ≡ true) }
-        ensures alone { IfOk result (λ node. setup.now.geometry.nodes ≡ 1 → StandsAlone node) }
     {
         let mut state = NodeState::fresh(alloc, setup, me);
         let Some(done) = state.event(setup, image, me, Act::Boot, None)? else {
             unreachable!();
         };
-        let mut node = Node::without_entries(alloc, setup, image, me, state)?;
+        let mut node = Node::without_entries(alloc, setup, image, me, state, ends)?;
         node.record(1, &Act::Boot, done)?;
         Ok(node)
     }
@@ -81,9 +95,12 @@ impl Node {
         image: &Image,
         me: NodeNo,
         state: NodeState,
+        ends: Ends<Packet>,
     ) -> Result<Node, NoMemory>
-        requires { me < setup.now.geometry.nodes }
-        ensures { IfOk result (λ node. node ≡ record (unbooted (program setup.now image.now) me) { state = state }) }
+        requires me { me < setup.now.geometry.nodes }
+        requires image { StartsAligned image.now }
+        requires ends { (node_of ends ≡ me) × (setup.now.geometry.nodes ≤ width ends) }
+        ensures { IfOk result (λ node. node ≡ record (unbooted (program setup.now image.now) me ends) { state = state }) }
     {
         Ok(Node {
             alloc,
@@ -95,7 +112,7 @@ impl Node {
             round: 0,
             entries: Vec::new(alloc),
             console: Vec::new(alloc),
-            link: Link::new(alloc),
+            ends,
         })
     }
 
@@ -105,9 +122,6 @@ impl Node {
         requires booted { self.old.state.booted ≡ true }
         requires range { IsInRange self.old act }
         ensures turned { IfOk result (λ turned. Turns self.old act self.new turned) }
-        ensures idle { StandsAlone self.old → IfOk result (λ turned. (turned ≡ Turned.Idle) ↔ (can self.old act ≡ false)) }
-        ensures alone { StandsAlone self.old → OnOk result (StandsAlone self.new) }
-        ensures later { StandsAlone self.old → IfOk result (λ turned. turned ≡ Turned.Did → self.new.clock ≡ suc self.old.clock) }
         ensures still { OnOk result (self.new.state.booted ≡ true) }
         ensures err { OnErr result (IsLost self.old self.new) }
     {
@@ -121,7 +135,7 @@ impl Node {
         ensures turned { IfOk result (λ turned. Turns self.old act self.new turned) }
         ensures err { OnErr result (IsLost self.old self.new) }
     {
-        let took = self.link.take(self.me, &act);
+        let took = links::take(&mut self.ends, &act);
         let stamp = next_stamp(self.clock, &took);
         let done = event(
             self.alloc,
@@ -141,33 +155,28 @@ impl Node {
         }
     }
 
-    // Adds the entry and sends its packets. Where there is no memory, neither is there.
+    // Adds the entry and sends its packets. Where there is no memory, neither is done.
     fn record(&mut self, stamp: u64, act: &Act, done: Done) -> Result<(), NoMemory>
         requires { stamp ≤ 2 ^ 62 + length self.old.entries + 1 }
-        ensures ok { OnOk result (self.new ≡ recorded self.old stamp act.now done.labels done.sends done.prints) }
-        ensures err { OnErr result (self.new ≡ self.old) }
+        ensures ok { OnOk result (Records stamp act.now done self.old self.new) }
+        ensures err { OnErr result (Rests self.old self.new) }
     {
         let Done {
             labels,
             sends,
             prints,
         } = done;
-        let packets = packets_for(self.alloc, self.me, stamp, sends.into_vec())?;
-        self.link.reserve(packets.len())?;
+        links::reserve_all(&mut self.ends, sends.as_slice())?;
         self.entries.reserve(1)?;
         self.console.extend_from_slice(prints.as_slice())?;
-        self.link.send(packets);
-        let entry = Entry {
+        links::send_all(&mut self.ends, stamp, sends.into_vec());
+        self.entries.push_reserved(Entry {
             stamp,
             node: self.me,
             round: self.round,
             act: *act,
             labels,
-        };
-        match self.entries.push(entry) {
-            Ok(()) => {}
-            Err(_) => unreachable!(),
-        }
+        });
         self.clock = stamp;
         Ok(())
     }
@@ -175,29 +184,31 @@ impl Node {
     /// The node's clock is at least this from now on, and its next round begins.
     pub fn raise(&mut self, clock: u64)
         requires { clock < 2 ^ 62 }
-        ensures raised { self.new ≡ raised clock self.old }
-        ensures alone { StandsAlone self.old → clock ≤ self.old.clock → StandsAlone self.new }
+        ensures { self.new ≡ raised clock self.old }
     {
         self.clock = self.clock.max(clock);
         self.round = self.round.saturating_add(1);
     }
 
-    /// Whether a thread can be picked, or the link holds a packet.
+    /// Whether a thread can be picked, the packet of the link is known, or the thread is on the run list.
     pub fn possible(&self, act: &Act) -> bool
+        requires { IsInRange self.now act.now }
         ensures { result ≡ can self.now act.now }
     {
         match act {
             Act::Run(_, _) => self.state.ready() > 0,
             Act::Take(from) => self.has_packet(*from),
-            _ => false,
+            Act::Move(t, _) => self.state.is_ready(t),
+            Act::Boot => false,
         }
     }
 
-    /// Whether the link from this sender holds a packet.
+    /// Whether a packet of this sender is known.
     pub fn has_packet(&self, sender: NodeNo) -> bool
+        requires { sender < self.now.program.setup.geometry.nodes }
         ensures { result ≡ can self.now (Act.Take sender) }
     {
-        sender == self.me && !self.link.packets.is_empty()
+        self.ends.known(sender)
     }
 
     /// Its number.
@@ -236,6 +247,13 @@ impl Node {
         self.state.ready()
     }
 
+    /// The names of the threads that are here and wait for nothing, ascending.
+    pub fn ready_threads(&self) -> Result<Vec<Tid>, NoMemory>
+        ensures { IfOk result (λ names. names.items ≡ unwaiting self.now.state.threads) }
+    {
+        self.state.ready_names(self.alloc)
+    }
+
     /// How many threads are here and live.
     pub fn threads(&self) -> usize
         ensures { result ≡ length self.now.state.threads }
@@ -257,11 +275,35 @@ impl Node {
         self.round
     }
 
-    /// Its entries, when it is done with.
-    pub fn end(self) -> Vec<Entry>
-        ensures { result.items ≡ self.entries }
+    /// Settles both links with another node, as `settle` of the wires does. It takes no memory and always succeeds.
+    pub fn settle_with(&mut self, other: &mut Node) -> Result<(), NoMemory>
+        requires { ArePaired self.old.ends other.old.ends }
+        ensures ok { IsOk result }
+        ensures settled { BothChanged (BothBecome IsSettled) self.old.ends other.old.ends self.new.ends other.new.ends }
+        ensures paired { ArePaired self.new.ends other.new.ends }
+        ensures wired { StaysWired self.old.ends self.new.ends × StaysWired other.old.ends other.new.ends }
+        ensures same { (self.new ≡ with_ends self.new.ends self.old) × (other.new ≡ with_ends other.new.ends other.old) }
     {
-        self.entries
+        wires::settle(&mut self.ends, &mut other.ends)
+    }
+
+    /// Settles the link with itself. It takes no memory and always succeeds.
+    pub fn settle_own(&mut self) -> Result<(), NoMemory>
+        requires { ArePaired self.old.ends self.old.ends }
+        ensures ok { IsOk result }
+        ensures settled { LinkChanged self.old.me (OwnBecomes IsSettled) self.old.ends self.new.ends }
+        ensures paired { ArePaired self.new.ends self.new.ends }
+        ensures wired { StaysWired self.old.ends self.new.ends }
+        ensures same { self.new ≡ with_ends self.new.ends self.old }
+    {
+        self.ends.settle_own()
+    }
+
+    /// Its entries and its ends, when it is done with.
+    pub fn end(self) -> (Vec<Entry>, Ends<Packet>)
+        ensures { (result.0.items ≡ self.entries) × (result.1 ≡ self.ends) }
+    {
+        (self.entries, self.ends)
     }
 }
 
@@ -304,6 +346,7 @@ fn event(
     act: &Act,
     took: Option<Packet>,
 ) -> Result<Option<Done>, NoMemory>
+    requires { StartsAligned image.now }
     ensures { IfOk result (λ done. Answers (turn_event (program setup.now image.now) me state.old act.now took) state.old state.new done) }
 {
     if comes_too_late(&took) {

@@ -1,16 +1,20 @@
 //! Rows that are known from outside: whole traces, in the words of a trace text.
 
-ghost use Rattle.std.specs.Prelude.{◌≡◌, true, OnOk};
+ghost use Rattle.std.specs.Prelude.{◌≡◌, ◌∷◌, [], true, IfOk, OnOk};
+ghost use Rattle.wires.specs.Wires.{AreWired, StaysWired};
+ghost use Rattle.node_state.specs.Events.{StartsAligned};
+ghost use Rattle.node_loop.specs.Turns.{IsInRange};
 
 use crate::{Node, Turned};
 use basics::Items;
 use marcel_core::End;
-use run_trace::{Act, Entry, Extra, Label, Setup, Why};
+use run_trace::{Act, Entry, Extra, Label, Packet, Setup, Why};
 use rv_inst::Image;
 use rv_step::Stop;
 use slot_space::{Geometry, NodeNo, Tid};
 use std::alloc::Global;
 use std::test::Fail;
+use wires::{Ends, Wires};
 
 /// The words of an image behind the stub, how many slots there are, what is done (`r` runs a thread, `t` takes a packet),
 /// whether nothing is possible then, and the trace.
@@ -200,7 +204,9 @@ ran 0.0 0 1000 quantum
 ];
 
 /// The stub and the words.
-fn image(alloc: Global, words: &[u32]) -> Result<Image, Fail> {
+fn image(alloc: Global, words: &[u32]) -> Result<Image, Fail>
+    ensures { IfOk result (λ image. StartsAligned image) }
+{
     let mut bytes = Vec::new(alloc);
     bytes.extend_from_slice(&0x0010_0893u32.to_le_bytes())?;
     bytes.extend_from_slice(&0x0000_0073u32.to_le_bytes())?;
@@ -343,19 +349,40 @@ fn trace_text(alloc: Global, entries: &[Entry]) -> Result<String, Fail> {
     Ok(text)
 }
 
-/// Does the act that the letter stands for.
-fn act(node: &mut Node, letter: char) -> Result<Turned, Fail>
-    requires { node.old.state.booted ≡ true }
-    ensures { OnOk result (node.new.state.booted ≡ true) }
+/// Does the act, which is possible.
+fn turn(node: &mut Node, act: Act) -> Result<(), Fail>
+    requires booted { node.old.state.booted ≡ true }
+    requires range { IsInRange node.old act }
+    ensures booted { OnOk result (node.new.state.booted ≡ true) }
+    ensures program { OnOk result (node.new.program ≡ node.old.program) }
+    ensures wired { OnOk result (StaysWired node.old.ends node.new.ends) }
 {
+    node.raise(1);
     if node.entries().len() >= 2_000_000 {
         return Err("so many entries don't come".into());
     }
-    if letter == 'r' {
-        return Ok(node.turn(Act::Run(0, 1000))?);
+    match node.turn(act)? {
+        Turned::Did => Ok(()),
+        Turned::Idle => Err("each act is possible".into()),
     }
+}
+
+/// Does the act that the letter stands for, in a round of its own, and settles.
+fn act(node: &mut Node, letter: char) -> Result<(), Fail>
+    requires booted { node.old.state.booted ≡ true }
+    requires wired { AreWired (node.old.ends ∷ []) }
+    ensures booted { OnOk result (node.new.state.booted ≡ true) }
+    ensures wired { OnOk result (AreWired (node.new.ends ∷ [])) }
+{
     let me = node.me();
-    Ok(node.turn(Act::Take(me))?)
+    let act = if letter == 'r' {
+        Act::Run(0, 1000)
+    } else {
+        Act::Take(me)
+    };
+    turn(node, act)?;
+    node.settle_own()?;
+    Ok(())
 }
 
 /// Does these acts, each in a round of its own, and looks whether nothing is possible then.
@@ -366,12 +393,10 @@ fn node_after(alloc: Global, row: &Row) -> Result<(Node, bool), Fail> {
         quantum: 1000,
     };
     let image = image(alloc, row.0)?;
-    let mut node = Node::boot(alloc, &setup, &image, NodeNo(0))?;
+    let own = one_end(alloc)?;
+    let mut node = Node::boot(alloc, &setup, &image, NodeNo(0), own)?;
     for letter in row.2.chars() {
-        node.raise(1);
-        if act(&mut node, letter)? == Turned::Idle {
-            return Err("each act is possible".into());
-        }
+        act(&mut node, letter)?;
     }
     let is_still = !node.possible(&Act::Run(0, 1000)) && !node.has_packet(NodeNo(0));
     Ok((node, is_still))
@@ -387,4 +412,13 @@ fn each_row_has_its_trace(rt: HostRuntime) -> Result<(), Fail> {
         assert_eq!(rt; text.as_str(), row.4);
     }
     Ok(())
+}
+
+/// The only node's ends.
+fn one_end(alloc: Global) -> Result<Ends<Packet>, Fail>
+    ensures wired { IfOk result (λ ends. AreWired (ends ∷ [])) }
+{
+    let mut ends = Wires::new(alloc, 1)?.ends()?;
+    let own = ends.pop().ok_or("a node")?;
+    Ok(own)
 }

@@ -7,4 +7,7 @@ pub mod InPlace
 pub mod Heaps
 pub mod Found
 pub mod Own
+pub mod Aligned
+pub mod Travel
+pub mod Coming
 pub mod RunsTaken

@@ -1,21 +1,22 @@
 -- What the checks of a call come to in code.
-use Rattle.std.specs.Prelude.{◌≡◌, ℕ, ◌<◌, ◌≤◌, ◌/◌, ◌^◌, List, [], Option, Some, None, true, ⊤}
+use Rattle.std.specs.Prelude.{◌≡◌, ℕ, ◌<◌, ◌≤◌, ◌/◌, ◌%◌, ◌^◌, List, [], Option, Some, None, true, ⊤}
 use Rattle.slot_space.specs.declared.names.Tid.{Tid}
 use Rattle.slot_space.specs.declared.names.Reply.{Reply}
 use Rattle.iso_blocks.specs.Heap.{starts_at}
 use Rattle.run_trace.specs.declared.call.Call.{Call}
-use Rattle.run_trace.specs.declared.call.Call.TheVariants.{Create, Join, Isomalloc, Isofree}
+use Rattle.run_trace.specs.declared.call.Call.TheVariants.{Create, Join, Isomalloc, Isofree, MigrateSelf}
 use Rattle.run_trace.specs.Program.{Program}
 use Rattle.run_trace.specs.Guests.{Solo, Thread}
 use Rattle.run_trace.specs.Calls.{refusal, bytes_of}
 use Rattle.node_state.specs.declared.call.Checked.{Checked}
 use Rattle.node_state.specs.declared.call.Checked.TheVariants.{Refused, Passed}
 
--- a call whose checks have passed names a priority, a home and a size that fit
+-- a call whose checks have passed names an entry, a priority, a home, a size and a node that fit
 abbrev pub IsSmall : Call → Type 0
-IsSmall (Create entry argument priority) = priority < 256
+IsSmall (Create entry argument priority) = (priority ≤ 7) × (entry % 4 ≡ 0)
 IsSmall (Join name) = name / 2 ^ 32 < 256
 IsSmall (Isomalloc len) = (0 < len) × (len ≤ 2 ^ 28)
+IsSmall (MigrateSelf to) = to < 256
 IsSmall _ = ⊤
 
 -- and a block that is there

@@ -1,5 +1,5 @@
 -- What an event of a node in code is.
-use Rattle.std.specs.Prelude.{◌≡◌, ℕ, [], Option, Some, None, Bool, true, false}
+use Rattle.std.specs.Prelude.{◌≡◌, ℕ, ◌%◌, [], Option, Some, None, Bool, true, false}
 use Rattle.rv_inst.specs.declared.image.Image.{Image}
 use Rattle.slot_space.specs.Places.{starting_slots}
 use Rattle.run_trace.specs.declared.entry.Setup.{Setup}
@@ -9,6 +9,10 @@ use Rattle.node_state.specs.declared.done.Done.{Done}
 
 abbrev pub program : Setup → Image → Program
 program setup image = record { setup = setup; image = image }
+
+-- the main thread can start: at a multiple of 4
+abbrev pub StartsAligned : Image → Type 0
+StartsAligned image = image.main % 4 ≡ 0
 
 -- a node before its first event, whatever the image is
 abbrev pub fresh_in : Setup → ℕ → Local

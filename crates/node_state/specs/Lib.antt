@@ -2,4 +2,5 @@ pub mod Views
 pub mod Runs
 pub mod Asking
 pub mod Heaps
+pub mod Moves
 pub mod Events

@@ -1,5 +1,5 @@
 -- How the parts in code mean the parts of the definition.
-use Rattle.std.specs.Prelude.{◌≡◌, ℕ, List, [], ◌∷◌, Bool, true}
+use Rattle.std.specs.Prelude.{◌≡◌, ℕ, ◌%◌, ◌≤◌, List, [], ◌∷◌, Bool, true, slice_index}
 use Rattle.slot_space.specs.Sets.{has, minus}
 use Rattle.iso_blocks.specs.Heap.{Heap}
 use Rattle.rv_step.specs.Memory.{slots_of}
@@ -26,6 +26,13 @@ pub record IsOwn (at : ℕ) (hart : Hart) (slots : List ℕ) (blocks : Heap) : T
   pub held : slots_of hart.mem.0 ≡ slots
   pub stack : has at slots ≡ true
   pub heap : blocks.slots ≡ minus slots (at ∷ [])
+
+-- what a thread keeps beside its slots and blocks so that it can be packed: register 0 is 0, it stands at a multiple of 4, and its
+-- priority is one of the eight
+pub record CanTravel (priority : ℕ) (hart : Hart) : Type 0 where
+  pub zero : slice_index hart.regs 0 ≡ 0
+  pub pc : hart.pc % 4 ≡ 0
+  pub low : priority ≤ 7
 
 abbrev pub places_of : List Row → ℕ → Places
 places_of rows next = record { rows = rows; next = next }

@@ -1,20 +1,17 @@
-//! The acts of a node: to begin, to run the thread that is picked, and to take a packet.
+//! The acts of a node: to begin, to run the thread that is picked, to take a packet, and to send a thread away.
 
-ghost use Rattle.std.specs.Prelude.{◌≡◌, IfOk, slice_get};
-ghost use Rattle.run_trace.specs.Machine.{boots, run_found, run_picked, is_waiting, is_stray, judges_join, tells_joiner, accepts, takes, is_range, acts, local_event};
+ghost use Rattle.std.specs.Prelude.{◌≡◌, IfOk};
+ghost use Rattle.run_trace.specs.Machine.{boots, run_found, run_picked, is_range, acts, local_event};
 ghost use Rattle.run_trace.specs.Local.{nothing};
 ghost use Rattle.run_trace.specs.Steps.{thread_at};
-ghost use Rattle.run_trace.specs.declared.node.Wait.TheVariants as wait_of;
-ghost use Rattle.node_state.specs.Events.{program, Becomes};
+ghost use Rattle.node_state.specs.Events.{program, StartsAligned, Becomes};
 ghost use Rattle.run_trace.specs.Places.{best};
 
 use crate::doing::Doing;
-use crate::homes::{end_reply, end_value, is_open, joiner, verdict};
 use basics::NoMemory;
-use marcel_core::{Birth, End, Verdict};
-use run_trace::{Act, Body, Packet, Row, Setup, Wait, Why};
+use run_trace::{Act, Packet, Row, Setup, Why};
 use rv_inst::Image;
-use slot_space::{NodeNo, Reply, Tid};
+use slot_space::{NodeNo, Tid};
 
 /// How many processors a node has.
 const PROCESSORS: u8 = 1;
@@ -28,6 +25,7 @@ const MAIN_PRIORITY: u8 = 3;
 impl Doing {
     /// Node 0 begins with the main thread.
     fn boots(&mut self, setup: &Setup, image: &Image, me: NodeNo) -> Result<(), NoMemory>
+        requires { StartsAligned image.now }
         ensures { IfOk result (λ _. self.new ≡ boots (program setup.now image.now) me self.old) }
     {
         let slot = self.free_slot();
@@ -80,128 +78,6 @@ impl Doing {
         }
     }
 
-    /// The thread is here, and waits that its line is shown.
-    fn waits_for_show(&self, t: &Tid) -> bool
-        ensures { result ≡ is_waiting (thread_at t.now self.now) wait_of.ForShow }
-    {
-        let node = &self.node;
-        let Some(thread) = node.threads.get(t) else {
-            return false;
-        };
-        match thread.wait() {
-            Wait::ForShow => true,
-            _ => false,
-        }
-    }
-
-    /// The thread is here, and waits for the answer of a home.
-    fn waits_for_answer(&self, t: &Tid) -> bool
-        ensures { result ≡ is_waiting (thread_at t.now self.now) wait_of.ForAnswer }
-    {
-        let node = &self.node;
-        let Some(thread) = node.threads.get(t) else {
-            return false;
-        };
-        match thread.wait() {
-            Wait::ForAnswer => true,
-            _ => false,
-        }
-    }
-
-    /// The birth of this number.
-    fn birth_of(&self, seq: u32) -> Option<Birth>
-        ensures { result ≡ slice_get self.now.node.names seq }
-    {
-        let node = &self.node;
-        match node.names.get(seq as usize) {
-            None => None,
-            Some(birth) => Some(*birth),
-        }
-    }
-
-    /// A packet that this node doesn't expect.
-    fn is_stray(&self, setup: &Setup, image: &Image, me: NodeNo, body: &Body) -> bool
-        ensures { result ≡ is_stray (program setup.now image.now) me self.now.node body.now }
-    {
-        let nodes = setup.geometry.nodes();
-        match body {
-            Body::Show { t, bytes: _ } => !(me.0 == 0 && t.home.0 < nodes),
-            Body::ShowDone { t } => !(t.home.0 < nodes && self.waits_for_show(t)),
-            Body::JoinAsk { by, seq: _ } => !(by.home.0 < nodes),
-            Body::Answer {
-                t,
-                reply: _,
-                second: _,
-            } => !(t.home.0 < nodes && self.waits_for_answer(t)),
-            Body::EndNote { seq, end: _ } => !is_open(self.birth_of(*seq)),
-        }
-    }
-
-    /// What the home says of a join.
-    fn judges_join(&mut self, by: &Tid, at: NodeNo, verdict: Verdict) -> Result<(), NoMemory>
-        ensures { IfOk result (λ _. self.new ≡ judges_join by.now at verdict self.old) }
-    {
-        match verdict {
-            Verdict::Now(end) => self.reply_by_link(by, at, end_reply(end), Some(end_value(end))),
-            Verdict::Later => Ok(()),
-            Verdict::NoSuch => self.reply_by_link(by, at, Reply::NoSuch, None),
-            Verdict::Taken => self.reply_by_link(by, at, Reply::Taken, None),
-        }
-    }
-
-    /// The thread that waits for an end is told of it.
-    fn tells_joiner(&mut self, end: End, joiner: Option<(Tid, NodeNo)>) -> Result<(), NoMemory>
-        ensures { IfOk result (λ _. self.new ≡ tells_joiner end joiner self.old) }
-    {
-        match joiner {
-            None => Ok(()),
-            Some((by, at)) => self.reply_by_link(&by, at, end_reply(end), Some(end_value(end))),
-        }
-    }
-
-    /// A packet that this node expects.
-    fn accepts(&mut self, me: NodeNo, from: NodeNo, body: &Body) -> Result<(), NoMemory>
-        requires { self.old ≡ nothing self.old.node }
-        ensures { IfOk result (λ _. self.new ≡ accepts me from body.now self.old.node) }
-    {
-        match body {
-            Body::Show { t, bytes } => {
-                self.shows(t, bytes.as_slice())?;
-                self.acknowledges(t, from)
-            }
-            Body::ShowDone { t } => self.tell(t, 0, None),
-            Body::JoinAsk { by, seq } => {
-                let birth = self.birth_of(*seq);
-                self.hears(by, *seq, from)?;
-                self.judges_join(by, from, verdict(birth))
-            }
-            Body::Answer { t, reply, second } => self.tell(t, reply.code(), *second),
-            Body::EndNote { seq, end } => {
-                let birth = self.birth_of(*seq);
-                self.knows(me, *seq, *end)?;
-                self.tells_joiner(*end, joiner(birth))
-            }
-        }
-    }
-
-    /// A packet is taken; one that this node doesn't expect comes to nothing.
-    fn takes(
-        &mut self,
-        setup: &Setup,
-        image: &Image,
-        me: NodeNo,
-        from: NodeNo,
-        body: &Body,
-    ) -> Result<(), NoMemory>
-        requires { self.old ≡ nothing self.old.node }
-        ensures { IfOk result (λ _. self.new ≡ takes (program setup.now image.now) me from body.now self.old.node) }
-    {
-        if self.is_stray(setup, image, me, body) {
-            return Ok(());
-        }
-        self.accepts(me, from, body)
-    }
-
     /// The act's numbers are such as the node can do.
     #[tactic(auto, unfolding(run_trace::specs::Machine::is_range))]
     fn is_range(&self, setup: &Setup, image: &Image, me: NodeNo, act: &Act) -> bool
@@ -217,7 +93,7 @@ impl Doing {
                         && (*vp < PROCESSORS && (0 < *quantum && *quantum <= QUANTUM_LIMIT)))
             }
             Act::Take(from) => me.0 < nodes && (node.booted && from.0 < nodes),
-            Act::Move(_, _) => false,
+            Act::Move(_, to) => { me.0 < nodes && (node.booted && (to.0 < nodes && to.0 != me.0)) }
         }
     }
 
@@ -230,7 +106,8 @@ impl Doing {
         act: &Act,
         took: Option<Packet>,
     ) -> Result<bool, NoMemory>
-        requires { self.old ≡ nothing self.old.node }
+        requires node { self.old ≡ nothing self.old.node }
+        requires image { StartsAligned image.now }
         ensures { IfOk result (λ did. Becomes (acts (program setup.now image.now) me self.old.node act.now took) self.old self.new did) }
     {
         match (act, took) {
@@ -243,9 +120,10 @@ impl Doing {
                 self.run_picked(setup, image, me, *vp, *quantum, row)
             }
             (Act::Take(from), Some(packet)) => {
-                self.takes(setup, image, me, *from, &packet.body)?;
+                self.takes(setup, image, me, *from, packet.body)?;
                 Ok(true)
             }
+            (Act::Move(t, to), None) => self.moves_listed(setup, image, t, *to),
             _ => Ok(false),
         }
     }
@@ -268,7 +146,8 @@ impl Doing {
         act: &Act,
         took: Option<Packet>,
     ) -> Result<bool, NoMemory>
-        requires { self.old ≡ nothing self.old.node }
+        requires node { self.old ≡ nothing self.old.node }
+        requires image { StartsAligned image.now }
         ensures { IfOk result (λ did. Becomes (local_event (program setup.now image.now) me self.old.node act.now took) self.old self.new did) }
     {
         if !self.is_range(setup, image, me, act) {

@@ -1,6 +1,6 @@
 //! The calls, the acts and the packets, composed of the small steps.
 
-ghost use Rattle.std.specs.Prelude.{◌≡◌, ◌<◌, ◌/◌, ◌^◌, IfOk};
+ghost use Rattle.std.specs.Prelude.{◌≡◌, ◌<◌, ◌≤◌, ◌/◌, ◌%◌, ◌^◌, IfOk};
 ghost use Rattle.run_trace.specs.Names.{tid_of};
 ghost use Rattle.run_trace.specs.Steps.{at_thread, thread_at};
 ghost use Rattle.run_trace.specs.Machine.{answer, creates, does, calls, stopped};
@@ -36,6 +36,8 @@ impl Doing {
         argument: u64,
         priority: u8,
     ) -> Result<(), NoMemory>
+        requires aligned { entry % 4 ≡ 0 }
+        requires low { priority ≤ 7 }
         ensures { IfOk result (λ _. self.new ≡ creates me t.now entry argument priority self.old) }
     {
         match self.free_slot() {
@@ -100,6 +102,11 @@ impl Doing {
             Call::Isofree(address) => {
                 self.asks(t, call)?;
                 self.frees(t, address)
+            }
+            Call::MigrateSelf(to) => {
+                self.asks(t, call)?;
+                self.answer(t, 0)?;
+                self.migrates(setup, image, me, NodeNo(to as u8), t)
             }
             Call::Print { .. } => self.asks_show(t, call, bytes),
             Call::Halt => {

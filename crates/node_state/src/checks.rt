@@ -85,6 +85,12 @@ pub(crate) fn check(
                 Ok(Checked::Refused(Reply::NoSuch))
             }
         }
+        Call::MigrateSelf(to) => {
+            if to >= setup.geometry.nodes() as u64 {
+                return Ok(Checked::Refused(Reply::BadArgument));
+            }
+            Ok(passed(alloc))
+        }
         Call::Unknown(_) => Ok(Checked::Refused(Reply::BadArgument)),
         _ => Ok(passed(alloc)),
     }

@@ -1,8 +1,8 @@
 //! An event in its midst: the small steps, each with the word that the definition has for it.
 
-ghost use Rattle.std.specs.Prelude.{◌≡◌, ◌<◌, ◌∷◌, [], IfOk, IfSome, None};
+ghost use Rattle.std.specs.Prelude.{◌≡◌, ◌<◌, ◌≤◌, ◌%◌, ◌∷◌, [], IfOk, IfSome, None};
 ghost use Rattle.run_trace.specs.Local.{nothing, with_booted};
-ghost use Rattle.run_trace.specs.Guests.{stack_end};
+ghost use Rattle.run_trace.specs.Guests.{stack_end, unwaiting};
 ghost use Rattle.run_trace.specs.Steps.{say, put, print, arrive, take_off, thread_at, at_thread, thread_in, thread_out, slots_out, slots_in, name_in, change_name, halt, next_name, birth, asks, asks_show, asks_join, halts, judge, extra_of, tell, reply_by_link, line_of, shows, acknowledges, hears, knows};
 ghost use Rattle.run_trace.specs.Machine.{free_slot, end_thread};
 ghost use Rattle.marcel_core.specs.Homes.{joined as joined_by, ended as ended_by};
@@ -46,6 +46,22 @@ impl Model for State {
     ghost Value = { Local };
 
     ghost view = { λ s. local_of s.booted s.own s.threads.entries s.places s.names.items s.halted };
+}
+
+impl State {
+    /// The names of the threads that wait for nothing, ascending.
+    pub(crate) fn ready_names(&self, alloc: Global) -> Result<Vec<Tid>, NoMemory>
+        ensures { IfOk result (λ names. names.items ≡ unwaiting self.now.threads) }
+    {
+        let mut names = Vec::new(alloc);
+        for (t, thread) in &self.threads {
+            if !thread.is_unwaiting() {
+                continue;
+            }
+            names.push(*t)?;
+        }
+        Ok(names)
+    }
 }
 
 /// The state of a node, and what the event has come to so far.
@@ -153,7 +169,7 @@ impl Doing {
 
     /// A packet more.
     #[tactic(auto, unfolding(run_trace::specs::Steps::put))]
-    fn put(&mut self, to: NodeNo, body: Body) -> Result<(), NoMemory>
+    pub(crate) fn put(&mut self, to: NodeNo, body: Body) -> Result<(), NoMemory>
         ensures { IfOk result (λ _. self.new ≡ put to body self.old) }
     {
         self.sends.push(Send { to, body })?;
@@ -180,7 +196,7 @@ impl Doing {
 
     /// The thread leaves the run list.
     #[tactic(auto, unfolding(run_trace::specs::Steps::take_off))]
-    fn take_off(&mut self, t: &Tid)
+    pub(crate) fn take_off(&mut self, t: &Tid)
         ensures { self.new ≡ take_off t.now self.old }
     {
         let node = &mut self.node;
@@ -189,7 +205,7 @@ impl Doing {
 
     /// A thread more.
     #[tactic(auto, unfolding(run_trace::specs::Steps::thread_in))]
-    fn thread_in(&mut self, t: &Tid, thread: Thread) -> Result<(), NoMemory>
+    pub(crate) fn thread_in(&mut self, t: &Tid, thread: Thread) -> Result<(), NoMemory>
         ensures { IfOk result (λ _. self.new ≡ thread_in t.now thread self.old) }
     {
         let node = &mut self.node;
@@ -314,7 +330,9 @@ impl Doing {
         priority: u8,
         slot: SlotNo,
     ) -> Result<(), NoMemory>
-        requires { slot < 4096 }
+        requires slot { slot < 4096 }
+        requires aligned { entry % 4 ≡ 0 }
+        requires low { priority ≤ 7 }
         ensures { IfOk result (λ _. self.new ≡ birth me why entry a0 priority slot self.old) }
     {
         let t = self.next_name(me)?;

@@ -4,7 +4,7 @@ use basics::Items;
 use run_trace::{Label, Send};
 
 /// What an event has come to, beside the node.
-#[derive(Debug, PartialEq, Eq, Drop)]
+#[derive(Drop)]
 pub struct Done {
     /// What has happened, in order.
     pub labels: Items<Label>,

@@ -12,7 +12,10 @@ mod done;
 mod heap;
 mod heap_slots;
 mod homes;
+mod moves;
+mod newcomer;
 mod node;
+mod packets;
 mod places;
 mod thread;
 

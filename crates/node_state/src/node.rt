@@ -2,14 +2,16 @@
 
 ghost use Rattle.std.specs.Prelude.{◌≡◌, IfOk, length};
 ghost use Rattle.run_trace.specs.Machine.{local_event};
-ghost use Rattle.node_state.specs.Events.{program, fresh_in, Answers};
+ghost use Rattle.run_trace.specs.Places.{is_listed};
+ghost use Rattle.run_trace.specs.Guests.{unwaiting};
+ghost use Rattle.node_state.specs.Events.{program, StartsAligned, fresh_in, Answers};
 
 use crate::doing::Doing;
 use crate::done::Done;
 use basics::NoMemory;
 use run_trace::{Act, Packet, Setup};
 use rv_inst::Image;
-use slot_space::NodeNo;
+use slot_space::{NodeNo, Tid};
 use std::alloc::Global;
 use std::marker::Model;
 
@@ -56,6 +58,7 @@ impl NodeState {
         act: Act,
         took: Option<Packet>,
     ) -> Result<Option<Done>, NoMemory>
+        requires image { StartsAligned image.now }
         ensures { IfOk result (λ done. Answers (local_event (program setup.now image.now) me self.old act took) self.old self.new done) }
     {
         let result = self.doing.event(setup, image, me, &act, took);
@@ -68,6 +71,20 @@ impl NodeState {
         ensures { result ≡ length self.now.places.rows }
     {
         self.doing.node.places.count()
+    }
+
+    /// Whether the thread is on the run list.
+    pub fn is_ready(&self, t: &Tid) -> bool
+        ensures { result ≡ is_listed t.now self.now.places.rows }
+    {
+        self.doing.node.places.is_listed(t)
+    }
+
+    /// The names of the threads that are here and wait for nothing, ascending.
+    pub fn ready_names(&self, alloc: Global) -> Result<Vec<Tid>, NoMemory>
+        ensures { IfOk result (λ names. names.items ≡ unwaiting self.now.threads) }
+    {
+        self.doing.node.ready_names(alloc)
     }
 
     /// How many threads are here and live.

@@ -3,7 +3,7 @@
 ghost use Rattle.std.specs.Prelude.{◌≡◌, IfOk, Some, [], length};
 ghost use Rattle.std.specs.List.{position};
 ghost use Rattle.run_trace.specs.Names.{is_tid};
-ghost use Rattle.run_trace.specs.Places.{arrived, without_row, taken_off, better, best_of, best};
+ghost use Rattle.run_trace.specs.Places.{arrived, without_row, taken_off, is_listed, better, best_of, best};
 ghost use Rattle.node_state.specs.Views.{places_of};
 
 use basics::NoMemory;
@@ -33,6 +33,14 @@ fn place_of(rows: &[Row], t: Tid) -> Option<usize>
     ensures { result ≡ position (λ r. is_tid t r.tid) rows.now }
 {
     rows.iter().position(|r| t.cmp(&r.tid).is_eq())
+}
+
+/// The thread has a row.
+#[tactic(auto, using(crate::proofs::Rows::listed))]
+fn is_among(rows: &[Row], t: Tid) -> bool
+    ensures { result ≡ is_listed t rows.now }
+{
+    place_of(rows, t).is_some()
 }
 
 /// The first row of the thread goes.
@@ -105,6 +113,13 @@ impl Places {
         ensures { self.new ≡ taken_off t self.old }
     {
         row_out(&mut self.rows, t);
+    }
+
+    /// The thread is on the list.
+    pub(crate) fn is_listed(&self, t: &Tid) -> bool
+        ensures { result ≡ is_listed t.now self.now.rows }
+    {
+        is_among(&self.rows, *t)
     }
 
     /// How many threads are on the list.

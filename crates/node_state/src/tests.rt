@@ -1,11 +1,14 @@
-//! Programs on one node, each packet handed back as it was sent.
+//! Programs on one node, each packet handed back as it was sent, and threads that move between two.
 
-use crate::NodeState;
+ghost use Rattle.std.specs.Prelude.{IfOk};
+ghost use Rattle.node_state.specs.Events.{StartsAligned};
+
+use crate::{Done, NodeState};
 use basics::Items;
 use marcel_core::End;
-use run_trace::{Act, Label, Packet, Setup};
+use run_trace::{Act, Label, Packet, Send, Setup};
 use rv_inst::Image;
-use slot_space::{Geometry, NodeNo};
+use slot_space::{Geometry, NodeNo, Tid};
 use std::alloc::Global;
 use std::collections::VecDeque;
 use std::test::Fail;
@@ -148,6 +151,30 @@ const HEAP: [u32; 43] = [
     0x0000_8067,
 ];
 
+/// It allocates a block, writes a word there and one to its stack, moves to node 1, and returns the sum of the number of its node
+/// and of both words.
+const MOVED: [u32; 19] = [
+    0x0010_0893,
+    0x0000_0073,
+    0x0640_0513,
+    0x00c0_0893,
+    0x0000_0073,
+    0x0005_0413,
+    0x04d0_0293,
+    0x0054_3023,
+    0xfe51_3c23,
+    0x0010_0513,
+    0x00e0_0893,
+    0x0000_0073,
+    0x0030_0893,
+    0x0000_0073,
+    0x0004_3303,
+    0xff81_3383,
+    0x0065_0533,
+    0x0075_0533,
+    0x0000_8067,
+];
+
 /// A program and its slots, and what it comes to: the console, the labels, and replies and ends with the numbers of their
 /// threads.
 type Row = (
@@ -220,11 +247,39 @@ fn name(label: &Label) -> &'static str {
         Label::Known(_) => "known",
         Label::Shown(_) => "shown",
         Label::Halted(_) => "halted",
+        Label::Left { .. } => "left",
+        Label::Came(_) => "came",
         _ => "other",
     }
 }
 
 impl Seen {
+    fn new(alloc: Global) -> Seen {
+        Seen {
+            prints: Vec::new(alloc),
+            labels: String::new(alloc),
+            replies: Vec::new(alloc),
+            ends: Vec::new(alloc),
+            slots: Vec::new(alloc),
+            took: Vec::new(alloc),
+            gave: Vec::new(alloc),
+            spare: 0,
+        }
+    }
+
+    /// What an event has come to, beside what it sends.
+    fn add(&mut self, done: &Done) -> Result<(), Fail> {
+        let mut between = if self.labels.is_empty() { "" } else { "; " };
+        for label in done.labels.as_slice() {
+            self.labels.push_str(between)?;
+            self.labels.push_str(name(label))?;
+            between = " ";
+            self.see(label)?;
+        }
+        self.prints.extend_from_slice(done.prints.as_slice())?;
+        Ok(())
+    }
+
     fn see(&mut self, label: &Label) -> Result<(), Fail> {
         match label {
             Label::Born { slot, .. } => self.slots.push(slot.0)?,
@@ -246,7 +301,9 @@ impl Seen {
     }
 }
 
-fn image(alloc: Global, words: &[u32]) -> Result<Image, Fail> {
+fn image(alloc: Global, words: &[u32]) -> Result<Image, Fail>
+    ensures { IfOk result (λ image. StartsAligned image) }
+{
     let mut bytes = Vec::new(alloc);
     for word in words {
         bytes.extend_from_slice(&word.to_le_bytes())?;
@@ -268,16 +325,7 @@ fn run(alloc: Global, words: &[u32], slots: u16) -> Result<Seen, Fail> {
     };
     let me = NodeNo(0);
     let mut node = NodeState::fresh(alloc, &setup, me);
-    let mut seen = Seen {
-        prints: Vec::new(alloc),
-        labels: String::new(alloc),
-        replies: Vec::new(alloc),
-        ends: Vec::new(alloc),
-        slots: Vec::new(alloc),
-        took: Vec::new(alloc),
-        gave: Vec::new(alloc),
-        spare: 0,
-    };
+    let mut seen = Seen::new(alloc);
     let mut packets = VecDeque::new(alloc);
     let mut act = Act::Boot;
     let mut took = None;
@@ -285,14 +333,7 @@ fn run(alloc: Global, words: &[u32], slots: u16) -> Result<Seen, Fail> {
         let Some(done) = node.event(&setup, &image, me, act, took)? else {
             break;
         };
-        let mut between = if seen.labels.is_empty() { "" } else { "; " };
-        for label in done.labels.as_slice() {
-            seen.labels.push_str(between)?;
-            seen.labels.push_str(name(label))?;
-            between = " ";
-            seen.see(label)?;
-        }
-        seen.prints.extend_from_slice(done.prints.as_slice())?;
+        seen.add(&done)?;
         for send in done.sends.into_vec() {
             let body = send.body;
             packets.push_back(Packet { stamp: 1, body })?;
@@ -369,5 +410,126 @@ fn blocks_come_to_their_places(rt: HostRuntime) -> Result<(), Fail> {
     assert!(rt; seen.gave.as_slice() == gave.as_slice());
     assert!(rt; seen.ends.as_slice() == ends.as_slice());
     assert_eq!(rt; seen.spare, 3);
+    Ok(())
+}
+
+/// One event on a node of two, and the packet that it sends, if it sends one.
+fn step(
+    node: &mut NodeState,
+    image: &Image,
+    me: u8,
+    act: Act,
+    took: Option<Packet>,
+    seen: &mut Seen,
+) -> Result<Option<Packet>, Fail>
+    requires { StartsAligned image.now }
+{
+    let geometry = Geometry::new(2, 8).ok_or("within the limits")?;
+    let setup = Setup {
+        geometry,
+        quantum: 1000,
+    };
+    let done = node
+        .event(&setup, image, NodeNo(me), act, took)?
+        .ok_or("the act is possible")?;
+    seen.add(&done)?;
+    let mut sends = done.sends.into_vec();
+    match sends.pop() {
+        None => Ok(None),
+        Some(Send { to: _, body }) => Ok(Some(Packet { stamp: 1, body })),
+    }
+}
+
+/// Node 0 of two, and a second node of this number, each before its first event.
+fn two(alloc: Global, second: u8) -> Result<(NodeState, NodeState), Fail> {
+    let geometry = Geometry::new(2, 8).ok_or("within the limits")?;
+    let setup = Setup {
+        geometry,
+        quantum: 1000,
+    };
+    Ok((
+        NodeState::fresh(alloc, &setup, NodeNo(0)),
+        NodeState::fresh(alloc, &setup, NodeNo(second)),
+    ))
+}
+
+/// These acts, each on the first node or on the second, whose number is given; what takes a packet takes the one that was sent last.
+fn walk(
+    alloc: Global,
+    words: &[u32],
+    second: u8,
+    acts: &[(bool, Act)],
+) -> Result<(NodeState, NodeState, Seen), Fail> {
+    let image = image(alloc, words)?;
+    let (mut here, mut there) = two(alloc, second)?;
+    let mut seen = Seen::new(alloc);
+    let mut packet = None;
+    for (on_second, act) in acts {
+        let took = match act {
+            Act::Take(_) => packet,
+            _ => None,
+        };
+        packet = if *on_second {
+            step(&mut there, &image, second, *act, took, &mut seen)?
+        } else {
+            step(&mut here, &image, 0, *act, took, &mut seen)?
+        };
+    }
+    Ok((here, there, seen))
+}
+
+/// The thread that is born first.
+const MAIN: Tid = Tid {
+    home: NodeNo(0),
+    seq: 0,
+};
+
+/// A thread that calls migrate_self goes on where it was, with its stack and its block. Its blocks of memory are spare on the node
+/// that it leaves, and in the end on the node where it came.
+const MOVES: [(bool, Act); 8] = [
+    (false, Act::Boot),
+    (true, Act::Boot),
+    (false, Act::Run(0, 1000)),
+    (false, Act::Run(0, 1000)),
+    (true, Act::Take(NodeNo(0))),
+    (true, Act::Run(0, 1000)),
+    (true, Act::Run(0, 1000)),
+    (false, Act::Take(NodeNo(1))),
+];
+
+#[test]
+fn a_thread_moves_with_its_bytes(rt: HostRuntime) -> Result<(), Fail> {
+    let (here, there, seen) = walk(rt.alloc(), &MOVED, 1, &MOVES)?;
+    let labels =
+        "born; ran asked took judged told; ran asked judged told left; came; ran asked judged told; ran asked gave ended; known";
+    let replies = [(0, 0x1_0002_0000), (0, 0), (0, 1)];
+    let gave = [0, 2, NO_MORE];
+    let ends = [(0, 155)];
+    assert!(rt; seen.labels.as_str() == labels);
+    assert!(rt; seen.replies.as_slice() == replies.as_slice());
+    assert!(rt; seen.gave.as_slice() == gave.as_slice());
+    assert!(rt; seen.ends.as_slice() == ends.as_slice());
+    assert_eq!(rt; here.spare(), 2);
+    assert_eq!(rt; there.spare(), 2);
+    Ok(())
+}
+
+/// A ready thread is sent away. Where its name is that of a thread that is here it isn't taken in, and its block is spare.
+const SENT: [(bool, Act); 4] = [
+    (false, Act::Boot),
+    (true, Act::Boot),
+    (false, Act::Move(MAIN, NodeNo(1))),
+    (true, Act::Take(NodeNo(1))),
+];
+
+#[test]
+fn a_thread_that_is_here_does_not_come(rt: HostRuntime) -> Result<(), Fail> {
+    let (here, there, seen) = walk(rt.alloc(), &MOVED, 0, &SENT)?;
+    assert!(rt; seen.labels.as_str() == "born; born; left");
+    assert!(rt; !here.is_ready(&MAIN));
+    assert!(rt; there.is_ready(&MAIN));
+    assert_eq!(rt; there.ready_names(rt.alloc())?.len(), 1);
+    assert_eq!(rt; here.spare(), 1);
+    assert_eq!(rt; there.spare(), 1);
     Ok(())
 }

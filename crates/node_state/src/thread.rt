@@ -1,25 +1,28 @@
 //! A thread that is on a node.
 
-ghost use Rattle.std.specs.Prelude.{◌≡◌, ◌<◌, ◌≤◌, ◌+◌, ◌-◌, ◌^◌, ◌∷◌, [], length, max, min, true, IfOk, OnOk, OnErr, IsTrue, Option, None};
+ghost use Rattle.std.specs.Prelude.{◌≡◌, ◌<◌, ◌≤◌, ◌+◌, ◌-◌, ◌^◌, ◌%◌, ◌∷◌, [], length, max, min, true, IfOk, OnOk, OnErr, IsTrue, Option, None};
 ghost use Rattle.std.specs.Option.{SomeIff};
 ghost use Rattle.slot_space.specs.Sets.{insert, run};
 ghost use Rattle.iso_blocks.specs.Heap.{rounded, place, starts_at, emptied};
 ghost use Rattle.rv_step.specs.Access.{read};
 ghost use Rattle.run_trace.specs.declared.node.Wait.TheVariants as wait_of;
-ghost use Rattle.run_trace.specs.Guests.{waits, newborn, told, guest_slots, heap_of, with_placed, without_block, takes_slots, gives_slots};
+ghost use Rattle.run_trace.specs.Guests.{waits, is_unwaiting, newborn, told, packed, unpacked, guest_slots, heap_of, with_placed, without_block, takes_slots, gives_slots};
 ghost use Rattle.run_trace.specs.Calls.{call_of};
 ghost use Rattle.node_state.specs.Runs.{run_at, after_run};
 ghost use Rattle.node_state.specs.Heaps.{IsNew};
+ghost use Rattle.pack_thread.specs.Threads.{thread_of as traveller, IsThread, IsTyped};
 
 use crate::blocks::{put_all, spare_block};
 use crate::heap_slots::{give_slots, take_run};
 use basics::{Items, NoMemory};
 use iso_blocks::Blocks;
+use lrpc::Duty;
+use pack_thread::{Baggage, Packed};
 use raw_slots::Pool;
 use run_trace::{Call, Wait};
 use rv_inst::Image;
 use rv_step::{Hart, Ran};
-use slot_space::{SlotNo, SlotSet};
+use slot_space::{SlotNo, SlotSet, Tid};
 use std::alloc::Global;
 use std::marker::Model;
 
@@ -36,14 +39,14 @@ pub struct Thread {
 
 impl Model for Thread {
     ghost use Rattle.run_trace.specs.Guests.{Thread as TheThread};
-    ghost use Rattle.node_state.specs.Views.{thread_of, IsOwn};
+    ghost use Rattle.node_state.specs.Views.{thread_of, IsOwn, CanTravel};
 
     ghost Value = { TheThread };
 
     ghost view = { λ t. thread_of t.wait t.priority t.stack t.hart t.blocks.live };
 
-    // The slots and blocks beside the hart are those that it holds.
-    ghost invariant = { λ t. IsOwn t.stack t.hart t.slots t.blocks };
+    // The slots and blocks beside the hart are those that it holds, and it can be packed at any time.
+    ghost invariant = { λ t. IsOwn t.stack t.hart t.slots t.blocks × CanTravel t.priority t.hart };
 }
 
 /// The set of this slot alone.
@@ -57,6 +60,11 @@ fn only(slot: SlotNo) -> SlotSet
     slots
 }
 
+/// There are 32 registers.
+fn are_all(regs: &[u64; 32])
+    ensures { length regs.now ≡ 32 }
+{}
+
 impl Thread {
     /// A new thread, whose only slot is its stack: room and a spare block come first, and what follows can't fail.
     pub(crate) fn newborn(
@@ -68,7 +76,9 @@ impl Thread {
         slot: SlotNo,
         priority: u8,
     ) -> Result<Thread, NoMemory>
-        requires { slot < 4096 }
+        requires slot { slot < 4096 }
+        requires aligned { entry % 4 ≡ 0 }
+        requires low { priority ≤ 7 }
         ensures thread { IfOk result (λ x. x ≡ waits wait_of.No (newborn entry a0 0 sp slot priority)) }
         ensures spare { OnOk result (pool.new + 1 ≡ max pool.old 1) }
         ensures refused { OnErr result (pool.old ≤ pool.new) }
@@ -107,6 +117,65 @@ impl Thread {
         put_all(pool, mem);
     }
 
+    /// As it travels; its blocks are spare from now on, whatever comes.
+    pub(crate) fn pack(self, alloc: Global, pool: &mut Pool, t: &Tid) -> Result<Packed, NoMemory>
+        requires { t.now.home < 8 }
+        ensures thread { IfOk result (λ x. x ≡ packed t.now self.guest) }
+        ensures spare { pool.new ≡ min (pool.old + length (guest_slots self.guest)) (2 ^ 32 - 1) }
+    {
+        // Its slots ascend, and there are 32 registers.
+        let _stack = self.slots.contains(self.stack);
+        are_all(&self.hart.regs);
+        let Thread {
+            wait: _,
+            priority,
+            stack,
+            hart,
+            slots: _,
+            blocks,
+        } = self;
+        let _sound = blocks.heap_slots();
+        let baggage = Baggage {
+            tid: *t,
+            priority,
+            calls: 0,
+            duty: Duty::None,
+            hart,
+            stack,
+            blocks,
+        };
+        let packed = Packed::of(alloc, &baggage);
+        put_all(pool, baggage.hart.mem);
+        packed
+    }
+
+    /// The thread that has come with all this.
+    pub(crate) fn unpack(baggage: Baggage) -> Thread
+        requires rules { IsThread (traveller baggage) }
+        requires typed { IsTyped (traveller baggage) }
+        ensures { result ≡ waits wait_of.No (unpacked (traveller baggage)) }
+    {
+        let Baggage {
+            tid: _,
+            priority,
+            calls: _,
+            duty: _,
+            hart,
+            stack,
+            blocks,
+        } = baggage;
+        let mut slots = blocks.heap_slots();
+        slots.insert(stack);
+        Thread {
+            wait: Wait::No,
+            priority,
+            stack,
+            hart,
+            slots,
+            blocks,
+        }
+    }
+
     /// Its priority.
     pub(crate) fn priority(&self) -> u8
         ensures { result ≡ self.now.guest.priority }
@@ -135,6 +204,16 @@ impl Thread {
         self.wait
     }
 
+    /// It waits for nothing.
+    pub(crate) fn is_unwaiting(&self) -> bool
+        ensures { result ≡ is_unwaiting self.now }
+    {
+        match self.wait {
+            Wait::No => true,
+            _ => false,
+        }
+    }
+
     /// It waits from now on.
     pub(crate) fn wait_for(&mut self, wait: Wait)
         ensures { self.new ≡ waits wait self.old.guest }
@@ -143,6 +222,7 @@ impl Thread {
     }
 
     /// It has its reply, and goes on.
+    #[tactic(auto, using(crate::proofs::Aligned::told_so))]
     pub(crate) fn tell(&mut self, code: u64, second: Option<u64>)
         ensures { self.new ≡ waits wait_of.No (told code second self.old.guest) }
     {

@@ -1,11 +1,13 @@
 //! The program `pm2`: the real files and outputs round the top call.
 #![tactic(auto)]
 
-use outside::{RealShelf, RealSink};
+use basics::NoMemory;
+use outside::{RealShelf, RealSink, write_piece};
 use pm2_top::{Status, pm2_main};
 use std::env;
 use std::io::{self, ErrorKind};
 use std::process::ExitCode;
+use wires::Wires;
 
 /// The words of the command line behind the program's name.
 fn words(rt: &HostRuntime) -> io::Result<Vec<String>> {
@@ -28,6 +30,13 @@ fn main(rt: HostRuntime) -> ExitCode {
     let mut shelf = RealShelf::new(&rt);
     let mut out = RealSink::new(rt.stdout());
     let mut err = RealSink::new(rt.stderr());
-    let report = pm2_main(rt.alloc(), &words, &mut shelf, &mut out, &mut err);
+    let wires = match Wires::new(rt.alloc(), 8) {
+        Ok(wires) => wires,
+        Err(NoMemory) => {
+            let _ = write_piece(&mut err, b"pm2: out of memory\n");
+            return ExitCode::from(Status::NoMemory.number());
+        }
+    };
+    let report = pm2_main(rt.alloc(), &words, &mut shelf, &mut out, &mut err, wires);
     ExitCode::from(report.status.number())
 }

@@ -85,7 +85,8 @@ abbrev pub StatusTold : Report → Status → Option (List ℕ) → Option (List
 StatusTold ended status written now before after =
     ((status ≡ ended.status) × Tells (err_text ended.status ended.trace) written now before after) ⊎ (status ≡ NoMemory)
 
--- a command is reported as it has ended, with its trace
+-- a command is reported as it has ended, with its trace and its links
 pub record Reports (ended report : Report) (written now : Option (List ℕ)) (before after : ℕ) : Type 0 where
   pub trace : report.trace ≡ ended.trace
+  pub wires : report.wires ≡ ended.wires
   pub told : StatusTold ended report.status written now before after

@@ -9,6 +9,7 @@ use slot_space::Geometry;
 use std::alloc::Global;
 use std::collections::BTreeMap;
 use std::test::Fail;
+use wires::Wires;
 
 const HI: &str = "main:
   la a0, text
@@ -110,6 +111,49 @@ sky:
   .ascii \"sky\"
 ";
 
+/// On two nodes it places two blocks of 100 bytes and checks where; frees the second, but none at an address between them; moves
+/// to node 1, and frees the first there, once. The slot is node 1's then, whose lowest one is 1.
+const PLACES: &str = "main:
+  li s0, 0x100020000
+  jal take
+  bne a0, s0, wrong
+  jal take
+  addi t0, s0, 112
+  bne a0, t0, wrong
+  jal give
+  bnez a0, wrong
+  addi a0, s0, 16
+  jal give
+  li s1, -2
+  bne a0, s1, wrong
+  li a0, 1
+  li a7, 14
+  ecall
+  bnez a0, wrong
+  mv a0, s0
+  jal give
+  bnez a0, wrong
+  mv a0, s0
+  jal give
+  bne a0, s1, wrong
+  jal take
+  li t0, 0x100010000
+  bne a0, t0, wrong
+  li a7, 1
+  ecall
+take:
+  li a0, 100
+  li a7, 12
+  ecall
+  ret
+give:
+  li a7, 13
+  ecall
+  ret
+wrong:
+  ebreak
+";
+
 /// The words, with a `|` between each two.
 fn words(alloc: Global, line: &str) -> Result<Vec<String>, Fail> {
     let mut all = Vec::new(alloc);
@@ -134,7 +178,8 @@ fn come_to<S: Shelf>(
     let mut out = VecSink::new(alloc, 1);
     let mut err = VecSink::new(alloc, 7);
     let all = words(alloc, line)?;
-    let report = pm2_main(alloc, &all, files, &mut out, &mut err);
+    let wires = Wires::new(alloc, 8)?;
+    let report = pm2_main(alloc, &all, files, &mut out, &mut err, wires);
     Ok((report, out.bytes, err.bytes))
 }
 
@@ -155,7 +200,7 @@ fn lines_of(alloc: Global, out: &[u8], thread: &str) -> Result<String, Fail> {
 #[test]
 fn rows_of_the_commands(rt: HostRuntime) -> Result<(), Fail> {
     let alloc = rt.alloc();
-    let rows: [(&str, &str, u8, &str, &str, usize); 22] = [
+    let rows: [(&str, &str, u8, &str, &str, usize); 23] = [
         ("sim|f", HI, 0, "0.0| hi\n", "", 6),
         ("sim|f", HI_WORDS, 0, "0.0| hi\n", "", 6),
         ("asm|f", HI, 0, HI_LISTING, "", 0),
@@ -257,6 +302,8 @@ fn rows_of_the_commands(rt: HostRuntime) -> Result<(), Fail> {
             "",
             9,
         ),
+        // Two beginnings, nine calls, the packet with the thread, and the note of its end.
+        ("sim|f|--nodes|2", PLACES, 0, "", "", 13),
     ];
     for (line, source, status, out, err, entries) in rows {
         let mut files = shelf(alloc, source.as_bytes())?;
@@ -269,7 +316,7 @@ fn rows_of_the_commands(rt: HostRuntime) -> Result<(), Fail> {
         assert_eq!(rt; text.as_str(), err, "{source}");
     }
     let usages =
-        "|fly|f;sim;sim|f|g;sim||;sim|-f;asm;asm|f|--slots|5;run|f;sim|f|--nodes|9;sim|f|--nodes|2|--nodes|2;sim|f|--trace|t|--schedule|t;sim|f|--turns|0;sim|f|--turns|1000001;sim|f|--slots|4097;sim|f|--quantum|65537;sim|f|--seed|18446744073709551616;sim|f|--seed|1|--seed|1;sim|f|--seed;sim|f|--seed|-1;--help;sim|f|--help";
+        "|fly|f;sim;sim|f|g;sim||;sim|-f;asm;asm|f|--slots|5;run|f;sim|f|--nodes|0;sim|f|--nodes|9;sim|f|--nodes|2|--nodes|2;sim|f|--trace|t|--schedule|t;sim|f|--turns|0;sim|f|--turns|1000001;sim|f|--slots|4097;sim|f|--quantum|65537;sim|f|--seed|18446744073709551616;sim|f|--seed|1|--seed|1;sim|f|--seed;sim|f|--seed|-1;--help;sim|f|--help";
     for line in usages.split(';') {
         let mut files = shelf(alloc, HI.as_bytes())?;
         let (report, out, err) = come_to(alloc, line, &mut files)?;
@@ -328,7 +375,8 @@ fn fail_at(alloc: Global, source: &str, call: u64) -> Result<(Status, Vec<u8>, V
     let mut files = shelf(alloc, source.as_bytes())?;
     let mut out = FailingSink::new(VecSink::new(alloc, 99), [call].to_vec(alloc)?);
     let mut err = VecSink::new(alloc, 99);
-    let report = pm2_main(alloc, &all, &mut files, &mut out, &mut err);
+    let wires = Wires::new(alloc, 8)?;
+    let report = pm2_main(alloc, &all, &mut files, &mut out, &mut err, wires);
     Ok((report.status, out.inner.bytes, err.bytes))
 }
 
@@ -366,7 +414,8 @@ fn files_and_outputs_that_fail(rt: HostRuntime) -> Result<(), Fail> {
         let mut files = shelf(alloc, source.as_bytes())?;
         let mut out = VecSink::new(alloc, 99);
         let mut deaf = FailingSink::new(VecSink::new(alloc, 4), [1u64].to_vec(alloc)?);
-        let report = pm2_main(alloc, &all, &mut files, &mut out, &mut deaf);
+        let wires = Wires::new(alloc, 8)?;
+        let report = pm2_main(alloc, &all, &mut files, &mut out, &mut deaf, wires);
         assert_eq!(rt; report.status.number(), number);
         assert_eq!(rt; deaf.inner.bytes.as_slice(), told.as_bytes());
     }

@@ -165,5 +165,6 @@ pub(crate) fn tell<E: Sink>(alloc: Global, ended: Report, err: &mut E) -> Report
     Report {
         status,
         trace: ended.trace,
+        wires: ended.wires,
     }
 }

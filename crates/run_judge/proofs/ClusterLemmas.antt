@@ -25,7 +25,7 @@ unfolding local_event is_range
 outside p me s Boot took h = let f : ltb me (nodes_of p) ≡ false = le-ltb me (nodes_of p) h in rw f refl
 outside p me s (Run vp quantum) took h = let f : ltb me (nodes_of p) ≡ false = le-ltb me (nodes_of p) h in rw f refl
 outside p me s (Take from) took h = let f : ltb me (nodes_of p) ≡ false = le-ltb me (nodes_of p) h in rw f refl
-outside p me s (Move t to) took h = refl
+outside p me s (Move t to) took h = let f : ltb me (nodes_of p) ≡ false = le-ltb me (nodes_of p) h in rw f refl
 
 pub fresh_more : (f : ℕ → Local) (xs : List Local) → ((n : ℕ) → get_or xs n (f n) ≡ f n) → (n : ℕ) → get_or (xs ++ f (length xs) ∷ []) n (f n) ≡ f n
 fresh_more f [] h zero = refl

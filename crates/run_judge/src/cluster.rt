@@ -3,7 +3,7 @@
 ghost use Rattle.std.specs.Prelude.{◌≡◌, ℕ, ◌↔◌, [], IfOk, IsTrue, length, slice_index_or};
 ghost use Rattle.run_trace.specs.Cluster.{IsTaken, fresh_net, net_after};
 ghost use Rattle.run_trace.specs.Trace.{Fits, event_of};
-ghost use Rattle.node_state.specs.Events.{program, fresh_in};
+ghost use Rattle.node_state.specs.Events.{program, fresh_in, StartsAligned};
 ghost use Rattle.run_judge.specs.Nets.{net_in, NodeDoes};
 
 use crate::flights::Flights;
@@ -46,7 +46,8 @@ impl Cluster {
         image: &Image,
         entry: &Entry,
     ) -> Result<bool, NoMemory>
-        requires { length self.old.nodes.items ≡ setup.now.geometry.nodes }
+        requires nodes { length self.old.nodes.items ≡ setup.now.geometry.nodes }
+        requires image { StartsAligned image.now }
         ensures fits { IfOk result (λ fits. let p = program setup.now image.now in
             IsTrue fits ↔ Fits p (net_in p self.old.nodes.items self.old.flights.all.items) entry.now) }
         ensures after { IfOk result (λ fits. IsTrue fits → (let p = program setup.now image.now in
@@ -91,7 +92,8 @@ fn do_event(
     act: Act,
     took: Option<Packet>,
 ) -> Result<Option<Done>, NoMemory>
-    requires { length nodes.old.items ≡ setup.now.geometry.nodes }
+    requires nodes { length nodes.old.items ≡ setup.now.geometry.nodes }
+    requires image { StartsAligned image.now }
     ensures { IfOk result (λ done. NodeDoes (program setup.now image.now) me act took nodes.old.items nodes.new.items done) }
 {
     match nodes.get_mut(me.0 as usize) {

@@ -4,7 +4,7 @@ ghost use Rattle.std.specs.Prelude.{◌≡◌, ◌≤◌, ◌<◌, ◌+◌, ◌�
 ghost use Rattle.rv_inst.specs.declared.image.Image.{Image};
 ghost use Rattle.run_trace.specs.declared.entry.Setup.{Setup};
 ghost use Rattle.run_trace.specs.Legality.{Legal, boot_entry, first_labels};
-ghost use Rattle.node_state.specs.Events.{program};
+ghost use Rattle.node_state.specs.Events.{program, StartsAligned};
 ghost use Rattle.run_judge.specs.Judged.{IsFirstFault, IsSound, Follows, BeginsAt};
 
 use crate::cluster::Cluster;
@@ -20,13 +20,14 @@ use trace_laws::{judged, whole};
 const STACK_END: u64 = 0x1_0001_0000;
 
 /// The number of the first entry at which a trace isn't legal, or of its entries where a node's beginning is missing.
-/// None exactly where the trace is legal.
+/// None exactly where the trace is legal. It asks for an image whose main thread can start, as each image of a source is.
 pub fn judge(
     alloc: Global,
     setup: &Setup,
     image: &Image,
     entries: &[Entry],
 ) -> Result<Option<usize>, NoMemory>
+    requires { StartsAligned image.now }
     ensures legal { IfOk result (λ fault. (fault ≡ None) ↔ Legal (program setup.now image.now) (reverse entries.now)) }
     ensures first { IfOk result (λ fault. IfSome fault (λ number. IsFirstFault (program setup.now image.now) entries.now number)) }
 {
@@ -55,6 +56,7 @@ fn first_fault(
     image: &Image,
     entries: &[Entry],
 ) -> Result<Option<usize>, NoMemory>
+    requires { StartsAligned image.now }
     ensures { IfOk result (λ fault. let p = program setup.now image.now in MatchOption fault (IsSound p (reverse entries.now))
         (λ number. (number < length entries.now) × IsSound p (reverse (take number entries.now)) × (IsSound p (reverse (take (number + 1) entries.now)) → ⊥))) }
 {

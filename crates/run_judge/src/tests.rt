@@ -1,5 +1,8 @@
 //! Traces that are known from outside, in words, and the same with one thing wrong.
 
+ghost use Rattle.std.specs.Prelude.{IfOk};
+ghost use Rattle.node_state.specs.Events.{StartsAligned};
+
 use crate::judge;
 use basics::Items;
 use marcel_core::End;
@@ -178,7 +181,9 @@ const WAITS_ROWS: [Wrong; 13] = [
     (17, 1, "heard 0\njudged 0 18446744073709551614", Some(5)),
 ];
 
-fn image(alloc: Global, words: &[u32]) -> Result<Image, Fail> {
+fn image(alloc: Global, words: &[u32]) -> Result<Image, Fail>
+    ensures { IfOk result StartsAligned }
+{
     let mut bytes = Vec::new(alloc);
     for word in words {
         bytes.extend_from_slice(&word.to_le_bytes())?;
@@ -348,18 +353,23 @@ fn with_lines(alloc: Global, trace: &str, row: &Wrong) -> Result<String, Fail> {
     Ok(text)
 }
 
-fn finds(alloc: Global, words: &[u32], trace: &str, rows: &[Wrong]) -> Result<u32, Fail> {
+/// What the judge says of a trace of one node with 16 slots.
+fn verdict(alloc: Global, words: &[u32], trace: &str) -> Result<Option<usize>, Fail> {
     let image = image(alloc, words)?;
     let geometry = Geometry::new(1, 16).ok_or("within the limits")?;
     let setup = Setup {
         geometry,
         quantum: 1000,
     };
+    let entries = entries(alloc, trace)?;
+    Ok(judge(alloc, &setup, &image, &entries)?)
+}
+
+fn finds(alloc: Global, words: &[u32], trace: &str, rows: &[Wrong]) -> Result<u32, Fail> {
     let mut found = 0u32;
     for row in rows {
         let text = with_lines(alloc, trace, row)?;
-        let entries = entries(alloc, text.as_str())?;
-        if judge(alloc, &setup, &image, &entries)? == row.3 {
+        if verdict(alloc, words, text.as_str())? == row.3 {
             found = found.saturating_add(1);
         }
     }

@@ -1,6 +1,5 @@
--- A thread by its own labels: its code run alone, with the replies that it was told.
-use Rattle.std.specs.Prelude.{List, [], ◌∷◌, Option, Some, None, Bool, false, if◌then◌else◌}
-use Rattle.rv_step.specs.Step.{State}
+-- A thread by its own labels: its code run alone in its own memory, with the replies that it was told.
+use Rattle.std.specs.Prelude.{◌≡◌, List, [], ◌∷◌, Option, Some, None, Bool, false, if◌then◌else◌}
 use Rattle.rv_step.specs.Birth.{told as hart_told}
 use Rattle.slot_space.specs.declared.names.Tid.{Tid}
 use Rattle.run_trace.specs.declared.entry.Entry.{Entry}
@@ -9,8 +8,15 @@ use Rattle.run_trace.specs.declared.label.Label.TheVariants.{Born, Ran, Asked, H
 use Rattle.run_trace.specs.Names.{is_tid}
 use Rattle.run_trace.specs.Program.{Program, code_of}
 use Rattle.slot_space.specs.Sets.{run}
-use Rattle.run_trace.specs.Guests.{newborn, with_zero_slots, without_slots}
-use Rattle.run_trace.specs.Spots.{Response, no_response, stepped, second_of, Spot, unborn}
+use Rattle.slot_space.specs.declared.names.Reply.{Reply}
+use Rattle.iso_blocks.specs.Heap.{rounded, place, placed, without}
+use Rattle.run_trace.specs.declared.call.Call.{Call}
+use Rattle.run_trace.specs.declared.call.Call.TheVariants.{Isomalloc, Isofree}
+use Rattle.run_trace.specs.Calls.{call_of, refusal}
+use Rattle.run_trace.specs.Guests.{Solo, Guest, newborn, with_zero_slots, without_slots, heap_of}
+use Rattle.run_trace.specs.Cluster.{Net}
+use Rattle.run_trace.specs.Holding.{Place, IsAt}
+use Rattle.run_trace.specs.Spots.{Response, no_response, stepped, second_of, Life, On, Served, Spot, unborn}
 
 -- whose label it is
 abbrev pub subject : Label → Option Tid
@@ -42,32 +48,63 @@ abbrev pub is_subject : Tid → Option Tid → Bool
 is_subject t None = false
 is_subject t (Some u) = is_tid u t
 
--- registers, pc and memory, and the reply that was judged last
+-- registers, pc, memory and blocks; the call of its heap that it waits for; and the reply that was judged last
 pub record Alone : Type 0 where
-  pub state : State
+  pub solo : Solo
+  pub asked : Option Call
   pub reply : Response
 
+-- a call by which a thread's blocks change
+abbrev pub heap_call : Call → Option Call
+heap_call (Isomalloc len) = Some (Isomalloc len)
+heap_call (Isofree address) = Some (Isofree address)
+heap_call _ = None
+
+-- where no check of it fails
+abbrev pub unless_refused : Option Reply → Option Call → Option Call
+unless_refused None asked = asked
+unless_refused (Some reply) asked = None
+
+-- a block lives from the reply of its isomalloc to the reply of its isofree
+abbrev pub answered : Option Call → Solo → Solo
+answered (Some (Isomalloc len)) x = record x { live = (placed (heap_of x) (rounded len) (place (heap_of x) (rounded len))).live }
+answered (Some (Isofree address)) x = record x { live = without x.live address }
+answered _ x = x
+
 -- what a label of the thread makes of it
-abbrev pub alone_then : Program → Label → Alone → Alone
-alone_then p (Born t why entry a0 a1 sp slot) a =
-    record { state = (newborn entry a0 a1 sp slot 0).solo.state; reply = no_response }
-alone_then p (Ran t vp count stop) a = record a { state = stepped (code_of p) count a.state }
-alone_then p (Judged t reply extra) a = record a { reply = record { code = reply; second = second_of extra } }
-alone_then p (Told t) a = record a { state = hart_told a.state a.reply.code a.reply.second }
-alone_then p (Took t first count) a =
-    record a { state = record a.state { memory = with_zero_slots (run first count) a.state.memory } }
-alone_then p (Gave t slots) a = record a { state = record a.state { memory = without_slots slots a.state.memory } }
-alone_then p _ a = a
+abbrev pub alone_then : Program → Tid → Label → Alone → Alone
+alone_then p t (Born u why entry a0 a1 sp slot) a =
+    record { solo = (newborn entry a0 a1 sp slot 0).solo; asked = None; reply = no_response }
+alone_then p t (Ran u vp count stop) a =
+    record a { solo = record a.solo { state = stepped (code_of p) count a.solo.state } }
+alone_then p t (Asked u call args bytes) a =
+    record a { asked = unless_refused (refusal p t a.solo (call_of a.solo.state)) (heap_call (call_of a.solo.state)) }
+alone_then p t (Judged u reply extra) a =
+    record { solo = answered a.asked a.solo; asked = None; reply = record { code = reply; second = second_of extra } }
+alone_then p t (Told u) a = record a { solo = record a.solo { state = hart_told a.solo.state a.reply.code a.reply.second } }
+alone_then p t (Took u first count) a =
+    record a { solo = record a.solo { state = record a.solo.state { memory = with_zero_slots (run first count) a.solo.state.memory } } }
+alone_then p t (Gave u slots) a =
+    record a { solo = record a.solo { state = record a.solo.state { memory = without_slots slots a.solo.state.memory } } }
+alone_then p t _ a = a
 
 -- only labels of thread t count
 abbrev pub alone_after : Program → Tid → List Label → Alone → Alone
 alone_after p t [] a = a
-alone_after p t (l ∷ ls) a = alone_after p t ls (if is_subject t (subject l) then alone_then p l a else a)
+alone_after p t (l ∷ ls) a = alone_after p t ls (if is_subject t (subject l) then alone_then p t l a else a)
+
+abbrev pub asked_in : Life → Option Call
+asked_in (On n (Served c)) = heap_call c
+asked_in _ = None
 
 abbrev pub alone_in : Spot → Alone
-alone_in s = record { state = s.guest.solo.state; reply = s.verdict }
+alone_in s = record { solo = s.guest.solo; asked = asked_in s.life; reply = s.verdict }
 
 -- thread t by its labels in a trace, newest entry first
 abbrev pub alone_of : Program → Tid → List Entry → Alone
 alone_of p t [] = alone_in unborn
 alone_of p t (x ∷ xs) = alone_after p t x.labels (alone_of p t xs)
+
+-- each thread, on whatever node it is, and on its way too, has the registers, the bytes and the blocks of its code run alone
+abbrev pub EachRunsAlone : Program → Net → List Entry → Type 0
+EachRunsAlone p net lines = (t : Tid) (place : Place) (g : Guest) → IsAt net place t g → g.solo ≡ (alone_of p t lines).solo

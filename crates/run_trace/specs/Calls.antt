@@ -9,7 +9,7 @@ use Rattle.slot_space.specs.declared.names.Reply.{Reply}
 use Rattle.slot_space.specs.declared.names.Reply.TheVariants as replies
 use Rattle.iso_blocks.specs.Heap.{starts_at}
 use Rattle.run_trace.specs.declared.call.Call.{Call}
-use Rattle.run_trace.specs.declared.call.Call.TheVariants.{Exit, Name, Node, Nodes, Yield, Create, Join, Isomalloc, Isofree, Print, Halt, Unknown}
+use Rattle.run_trace.specs.declared.call.Call.TheVariants.{Exit, Name, Node, Nodes, Yield, Create, Join, Isomalloc, Isofree, MigrateSelf, Print, Halt, Unknown}
 use Rattle.run_trace.specs.Program.{Program, nodes_of, slots_in, code_of}
 use Rattle.run_trace.specs.Guests.{Solo}
 
@@ -25,6 +25,7 @@ call_by number a0 a1 a2 =
     else if number == 7 then Join a0
     else if number == 12 then Isomalloc a0
     else if number == 13 then Isofree a0
+    else if number == 14 then MigrateSelf a0
     else if number == 16 then Print a0 a1
     else if number == 25 then Halt
     else Unknown number
@@ -43,6 +44,7 @@ number_of (Create entry argument priority) = 6
 number_of (Join name) = 7
 number_of (Isomalloc len) = 12
 number_of (Isofree address) = 13
+number_of (MigrateSelf to) = 14
 number_of (Print address len) = 16
 number_of Halt = 25
 number_of (Unknown number) = number
@@ -53,6 +55,7 @@ args_of (Create entry argument priority) = entry ∷ argument ∷ priority ∷ [
 args_of (Join name) = name ∷ []
 args_of (Isomalloc len) = len ∷ []
 args_of (Isofree address) = address ∷ []
+args_of (MigrateSelf to) = to ∷ []
 args_of (Print address len) = address ∷ len ∷ []
 args_of _ = []
 
@@ -73,6 +76,7 @@ refusal p t x (Join name) =
 refusal p t x (Isomalloc len) =
     refuse_if (len == 0) replies.BadArgument (refuse_if (nat_lt (65536 * slots_in p) len) replies.TooLong None)
 refusal p t x (Isofree address) = refuse_if (if starts_at x.live address then false else true) replies.NoSuch None
+refusal p t x (MigrateSelf to) = refuse_if (nat_le (nodes_of p) to) replies.BadArgument None
 refusal p t x (Print address len) =
     refuse_if (nat_lt 256 len) replies.TooLong
     (refuse_if (if readable (code_of p) x.state.memory address len then false else true) replies.BadArgument None)

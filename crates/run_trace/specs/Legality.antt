@@ -10,7 +10,9 @@ use Rattle.run_trace.specs.Names.{tid}
 use Rattle.run_trace.specs.Program.{Program, nodes_of}
 use Rattle.run_trace.specs.Guests.{stack_end}
 use Rattle.run_trace.specs.Cluster.{Net, fresh_net}
-use Rattle.run_trace.specs.Trace.{IsRun}
+use Rattle.run_trace.specs.Trace.{IsRun, net_after_trace}
+use Rattle.run_trace.specs.Holding.{EachHeldOnce}
+use Rattle.run_trace.specs.Alone.{EachRunsAlone}
 use Rattle.run_trace.specs.Histories.{IsInOrder}
 use Rattle.run_trace.specs.Spots.{Spots, at_first}
 use Rattle.run_trace.specs.Rules.{Obey, SoloRule, HoldersRule, LifeRule, RepliesRule, GrantsRule, Picks, Carried, EachSettled}
@@ -40,6 +42,11 @@ abbrev pub AreRising : List Entry → Type 0
 AreRising [] = ⊤
 AreRising (x ∷ xs) = NoneAbove x.round xs × AreRising xs
 
+-- after each entry
+abbrev pub AfterEach : (Net → List Entry → Type 0) → Program → List Entry → Type 0
+AfterEach P p [] = ⊤
+AfterEach P p (x ∷ xs) = AfterEach P p xs × P (net_after_trace p (fresh_net p) (x ∷ xs)) (x ∷ xs)
+
 -- the rules, for a trace after what was told of old, of a cluster that had come to base
 pub record ObeysFrom (p : Program) (old : Spots) (base : Net) (lines : List Entry) : Type 0 where
   pub solo : Obey SoloRule p old lines
@@ -60,7 +67,11 @@ pub record Legal (p : Program) (lines : List Entry) : Type 0 where
   pub runs : IsRun p (fresh_net p) lines
   -- each thread's registers and memory are those of its code run alone with the replies that it got
   pub solo : Obey SoloRule p (at_first p) lines
-  -- each slot has one holder, and goes only from the holder that the rule names
+  -- and so they are wherever it has moved, its blocks with them: on each node, and on its way
+  pub alone : AfterEach (EachRunsAlone p) p lines
+  -- no slot has two holders, through births, grants, moves and ends
+  pub one_holder : AfterEach (λ net xs. EachHeldOnce net) p lines
+  -- a slot goes only from the holder that the rule names
   pub holders : Obey HoldersRule p (at_first p) lines
   -- each call is asked, judged and told once, in this order, and told where its thread is
   pub life : Obey LifeRule p (at_first p) lines

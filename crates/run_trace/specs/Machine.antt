@@ -1,14 +1,18 @@
 -- One node as a machine: what an act does, composed of small steps. Here alone stand the rules of the calls.
-use Rattle.std.specs.Prelude.{ℕ, ◌^◌, List, [], ◌∷◌, Option, Some, None, Bool, true, false, ◌==◌, ◌&&◌, not, nat_lt, nat_le, slice_get, if◌then◌else◌}
+use Rattle.std.specs.Prelude.{ℕ, ◌^◌, List, [], ◌∷◌, Option, Some, None, is_none, Bool, true, false, ◌==◌, ◌&&◌, not, nat_lt, nat_le, slice_get, if◌then◌else◌}
+use Rattle.std.specs.List.{list_all}
 use Rattle.std.specs.Map.{lookup}
 use Rattle.slot_space.specs.Replies.{reply_code, tid_value}
-use Rattle.slot_space.specs.Sets.{has, minus, lowest_run}
+use Rattle.slot_space.specs.Sets.{has, minus, meets, lowest_run}
 use Rattle.iso_blocks.specs.Heap.{rounded, place, emptied}
 use Rattle.slot_space.specs.declared.names.Tid.{Tid}
 use Rattle.slot_space.specs.declared.names.Reply.{Reply}
 use Rattle.slot_space.specs.declared.names.Reply.TheVariants as replies
 use Rattle.rv_step.specs.declared.hart.Stop.{Stop}
 use Rattle.rv_step.specs.declared.hart.Stop.TheVariants as stops
+use Rattle.lrpc.specs.declared.duty.Duty.{Duty}
+use Rattle.lrpc.specs.declared.duty.Duty.TheVariants as duties
+use Rattle.pack_thread.specs.Threads.{Thread as Packed}
 use Rattle.marcel_core.specs.declared.end.End.{End}
 use Rattle.marcel_core.specs.declared.end.End.TheVariants as end_of
 use Rattle.marcel_core.specs.declared.birth.Verdict.{Verdict}
@@ -18,20 +22,20 @@ use Rattle.run_trace.specs.declared.entry.Act.{Act}
 use Rattle.run_trace.specs.declared.entry.Act.TheVariants.{Boot, Run as RunThread, Take, Move}
 use Rattle.run_trace.specs.declared.label.Why.TheVariants as why
 use Rattle.run_trace.specs.declared.packet.Body.{Body}
-use Rattle.run_trace.specs.declared.packet.Body.TheVariants.{Show, ShowDone, JoinAsk, Answer, EndNote}
+use Rattle.run_trace.specs.declared.packet.Body.TheVariants.{Mover, Show, ShowDone, JoinAsk, Answer, EndNote}
 use Rattle.run_trace.specs.declared.packet.Packet.{Packet}
 use Rattle.run_trace.specs.declared.node.Row.{Row}
 use Rattle.run_trace.specs.declared.node.Wait.{Wait}
 use Rattle.run_trace.specs.declared.node.Wait.TheVariants as wait
 use Rattle.run_trace.specs.Names.{is_tid, tid_of}
 use Rattle.run_trace.specs.Program.{Program, nodes_of, code_of, processors_of, quantum_limit, main_priority}
-use Rattle.run_trace.specs.Guests.{Solo, Guest, Thread, Run, run_of, guest_slots, heap_of, with_placed, without_block, slots_for}
+use Rattle.run_trace.specs.Guests.{Solo, Guest, Thread, Run, run_of, guest_slots, heap_of, with_placed, without_block, slots_for, unpacked}
 use Rattle.run_trace.specs.declared.call.Call.{Call}
-use Rattle.run_trace.specs.declared.call.Call.TheVariants.{Exit, Name, Node, Nodes, Yield, Create, Join, Isomalloc, Isofree, Print, Halt, Unknown}
+use Rattle.run_trace.specs.declared.call.Call.TheVariants.{Exit, Name, Node, Nodes, Yield, Create, Join, Isomalloc, Isofree, MigrateSelf, Print, Halt, Unknown}
 use Rattle.run_trace.specs.Calls.{call_of, refusal, bytes_of}
-use Rattle.run_trace.specs.Places.{best}
+use Rattle.run_trace.specs.Places.{best, is_listed}
 use Rattle.run_trace.specs.Local.{Local, Doing, nothing, with_booted}
-use Rattle.run_trace.specs.Steps.{at_thread, arrive, birth, ran, asks, asks_show, asks_join, halts, judge, tell, settle, reply_by_link, takes_run, returns, gives, ends, shows, acknowledges, hears, knows, next_name}
+use Rattle.run_trace.specs.Steps.{at_thread, arrive, birth, ran, asks, asks_show, asks_join, halts, judge, tell, settle, reply_by_link, takes_run, returns, gives, ends, leaves, comes, shows, acknowledges, hears, knows, next_name}
 
 -- ## Compositions
 
@@ -103,6 +107,16 @@ abbrev pub frees : Tid → ℕ → Thread → Doing → Doing
 frees t address x d =
     at_thread t (frees_block t address) (returns_any t (emptied (heap_of x.guest.solo) address) x.guest d)
 
+-- ## Moves
+
+-- the thread goes to another node, as each does whose home is a node of the cluster
+abbrev pub goes : Program → Tid → ℕ → Thread → Doing → Doing
+goes p t to x d = if nat_lt t.home (nodes_of p) then leaves t to x d else d
+
+-- a thread that asks for its own node stays
+abbrev pub migrates : Program → (me to : ℕ) → Tid → Doing → Doing
+migrates p me to t d = if to == me then d else at_thread t (goes p t to) d
+
 -- ## Calls
 
 -- a call past its checks, which names these bytes
@@ -117,6 +131,7 @@ does p me t (Create entry argument priority) bytes d =
 does p me t (Join name) bytes d = at_thread t (asks_join t (Join name) (tid_of name)) d
 does p me t (Isomalloc len) bytes d = at_thread t (allocates t (rounded len)) (asks t (Isomalloc len) d)
 does p me t (Isofree address) bytes d = at_thread t (frees t address) (asks t (Isofree address) d)
+does p me t (MigrateSelf to) bytes d = migrates p me to t (answer t 0 (asks t (MigrateSelf to) d))
 does p me t (Print address len) bytes d = at_thread t (asks_show t (Print address len) bytes) d
 does p me t Halt bytes d = at_thread t (halts t) (asks t Halt d)
 does p me t (Unknown number) bytes d = answer t (reply_code replies.BadArgument) (asks t (Unknown number) d)
@@ -158,6 +173,14 @@ abbrev pub run_picked : Program → (me vp quantum : ℕ) → Option Row → Loc
 run_picked p me vp quantum None s = None
 run_picked p me vp quantum (Some r) s = run_found p me vp quantum r.tid (lookup (is_tid r.tid) s.threads) s
 
+abbrev pub moves_found : Program → Tid → ℕ → Option Thread → Local → Option Doing
+moves_found p t to None s = None
+moves_found p t to (Some x) s = Some (goes p t to x (nothing s))
+
+-- a thread that is on the run list is sent away
+abbrev pub moves_listed : Program → Tid → ℕ → Local → Option Doing
+moves_listed p t to s = if is_listed t s.places.rows then moves_found p t to (lookup (is_tid t) s.threads) s else None
+
 -- ## Packets
 
 abbrev pub is_waiting : Option Thread → Wait → Bool
@@ -169,8 +192,31 @@ is_waiting (Some x) w = is_wait x.wait w
     is_wait wait.ForAnswer wait.ForAnswer = true
     is_wait _ _ = false
 
+-- it has made no remote call, and serves none
+abbrev pub is_unserving : Packed → Bool
+is_unserving x = x.calls == 0 && is_no_duty x.duty
+  where
+    is_no_duty : Duty → Bool
+    is_no_duty duties.None = true
+    is_no_duty _ = false
+
+-- a thread that was born here hasn't ended
+abbrev pub lives_yet : ℕ → Local → Tid → Bool
+lives_yet me s t = if t.home == me then is_open (slice_get s.names t.seq) else true
+
+-- none of these slots is the node's or of a thread that is here
+abbrev pub are_away : List ℕ → Local → Bool
+are_away slots s = not (meets slots s.slots.own) && list_all (λ e. not (meets slots (guest_slots e.1.guest))) s.threads
+
+-- a thread that this node expects: its home is a node, it isn't here and hasn't ended, and neither are its slots here
+abbrev pub may_come : Program → ℕ → Local → Packed → Bool
+may_come p me s x =
+    nat_lt x.tid.home (nodes_of p) && (is_unserving x && (is_none (lookup (is_tid x.tid) s.threads)
+    && (lives_yet me s x.tid && are_away (guest_slots (unpacked x)) s)))
+
 -- a packet that this node doesn't expect
 abbrev pub is_stray : Program → ℕ → Local → Body → Bool
+is_stray p me s (Mover x) = not (may_come p me s x)
 is_stray p me s (Show t bytes) = not (me == 0 && nat_lt t.home (nodes_of p))
 is_stray p me s (ShowDone t) = not (nat_lt t.home (nodes_of p) && is_waiting (lookup (is_tid t) s.threads) wait.ForShow)
 is_stray p me s (JoinAsk by seq) = not (nat_lt by.home (nodes_of p))
@@ -189,6 +235,7 @@ tells_joiner end None d = d
 tells_joiner end (Some by) d = reply_by_link by.0 by.1 (end_reply end) (Some (end_value end)) d
 
 abbrev pub accepts : ℕ → ℕ → Body → Local → Doing
+accepts me from (Mover x) s = comes x (nothing s)
 accepts me from (Show t bytes) s = acknowledges t from (shows t bytes (nothing s))
 accepts me from (ShowDone t) s = tell t 0 None (nothing s)
 accepts me from (JoinAsk by seq) s = judges_join by from (verdict (slice_get s.names seq)) (hears by seq from (nothing s))
@@ -205,13 +252,13 @@ is_range p me s Boot = nat_lt me (nodes_of p) && not s.booted
 is_range p me s (RunThread vp quantum) =
     nat_lt me (nodes_of p) && (s.booted && (nat_lt vp (processors_of p) && (nat_lt 0 quantum && nat_le quantum quantum_limit)))
 is_range p me s (Take from) = nat_lt me (nodes_of p) && (s.booted && nat_lt from (nodes_of p))
-is_range p me s (Move t to) = false
+is_range p me s (Move t to) = nat_lt me (nodes_of p) && (s.booted && (nat_lt to (nodes_of p) && not (to == me)))
 
 abbrev pub acts : Program → ℕ → Local → Act → Option Packet → Option Doing
 acts p me s Boot None = Some (boots p me (nothing s))
 acts p me s (RunThread vp quantum) None = run_picked p me vp quantum (best s.places.rows) s
 acts p me s (Take from) (Some packet) = Some (takes p me from packet.body s)
-acts p me s (Move t to) None = None
+acts p me s (Move t to) None = moves_listed p t to s
 acts p me s Boot (Some packet) = None
 acts p me s (RunThread vp quantum) (Some packet) = None
 acts p me s (Take from) None = None

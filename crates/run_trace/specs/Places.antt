@@ -1,5 +1,5 @@
 -- The run list of a node: threads in the order of their arrival, and the choice of the one that runs.
-use Rattle.std.specs.Prelude.{◌≡◌, ◌<◌, ◌≤◌, ◌⊎◌, ℕ, suc, List, [], ◌∷◌, ◌++◌, Option, Some, None, ◌==◌, nat_lt, if◌then◌else◌, ⊤}
+use Rattle.std.specs.Prelude.{◌≡◌, ◌<◌, ◌≤◌, ◌⊎◌, ℕ, suc, List, [], ◌∷◌, ◌++◌, Option, Some, None, Bool, true, false, ◌==◌, nat_lt, if◌then◌else◌, ⊤}
 use Rattle.slot_space.specs.declared.names.Tid.{Tid}
 use Rattle.run_trace.specs.declared.node.Row.{Row}
 use Rattle.run_trace.specs.Names.{is_tid}
@@ -18,6 +18,11 @@ arrived t priority s = record {
 abbrev pub without_row : Tid → List Row → List Row
 without_row t [] = []
 without_row t (r ∷ rs) = if is_tid t r.tid then rs else r ∷ without_row t rs
+
+-- the thread is on the list
+abbrev pub is_listed : Tid → List Row → Bool
+is_listed t [] = false
+is_listed t (r ∷ rs) = if is_tid t r.tid then true else is_listed t rs
 
 abbrev pub taken_off : Tid → Places → Places
 taken_off t s = record s { rows = without_row t s.rows }

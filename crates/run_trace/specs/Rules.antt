@@ -1,36 +1,37 @@
 -- The rules of a trace, each by what the labels before tell: what a label on node n must have found.
-use Rattle.std.specs.Prelude.{◌≡◌, ◌==◌, ℕ, List, [], ◌∷◌, ◌++◌, length, Option, Some, None, Bool, true, false, ⊤}
+use Rattle.std.specs.Prelude.{◌≡◌, ◌<◌, ◌==◌, ℕ, List, [], ◌∷◌, ◌++◌, length, Option, Some, None, Bool, true, false, slice_get, ⊤}
 use Rattle.slot_space.specs.Replies.{reply_code}
 use Rattle.slot_space.specs.Sets.{has, run, lowest_run}
 use Rattle.iso_blocks.specs.Heap.{rounded, place, emptied}
 use Rattle.slot_space.specs.declared.names.Tid.{Tid}
 use Rattle.slot_space.specs.declared.names.Reply.TheVariants as replies
 use Rattle.rv_step.specs.Run.{after, StopsBy}
+use Rattle.marcel_core.specs.Homes.{joiner}
 use Rattle.rv_step.specs.Step.{State}
 use Rattle.run_trace.specs.declared.entry.Act.{Act}
 use Rattle.run_trace.specs.declared.entry.Act.TheVariants.{Boot, Run, Take, Move}
 use Rattle.run_trace.specs.declared.entry.Entry.{Entry}
 use Rattle.run_trace.specs.declared.label.Label.{Label}
-use Rattle.run_trace.specs.declared.label.Label.TheVariants.{Born, Ran, Asked, Heard, Judged, Told, Took, Gave, Ended, Known, Shown, Halted}
+use Rattle.run_trace.specs.declared.label.Label.TheVariants.{Born, Ran, Asked, Heard, Judged, Told, Took, Gave, Ended, Known, Left, Came, Shown, Halted}
 use Rattle.run_trace.specs.declared.label.Why.{Why}
 use Rattle.run_trace.specs.declared.label.Why.TheVariants as why
 use Rattle.run_trace.specs.declared.label.Extra.{Extra}
 use Rattle.run_trace.specs.declared.node.Row.{Row}
 use Rattle.run_trace.specs.declared.packet.Body.{Body}
-use Rattle.run_trace.specs.declared.packet.Body.TheVariants.{Show, ShowDone, JoinAsk, Answer, EndNote}
+use Rattle.run_trace.specs.declared.packet.Body.TheVariants.{Mover, Show, ShowDone, JoinAsk, Answer, EndNote}
 use Rattle.run_trace.specs.declared.packet.Send.{Send}
 use Rattle.run_trace.specs.Names.{tid}
-use Rattle.run_trace.specs.Program.{Program, code_of}
-use Rattle.run_trace.specs.Guests.{Solo, Guest, stack_end, guest_slots, heap_of, slots_for}
+use Rattle.run_trace.specs.Program.{Program, nodes_of, code_of}
+use Rattle.run_trace.specs.Guests.{Solo, Guest, stack_end, guest_slots, heap_of, slots_for, packed}
 use Rattle.run_trace.specs.declared.call.Call.{Call}
-use Rattle.run_trace.specs.declared.call.Call.TheVariants.{Create, Isomalloc, Isofree}
+use Rattle.run_trace.specs.declared.call.Call.TheVariants.{Create, Isomalloc, Isofree, MigrateSelf}
 use Rattle.run_trace.specs.Calls.{call_of, number_of, args_of, refusal, said_bytes}
-use Rattle.run_trace.specs.Places.{IsBest}
+use Rattle.run_trace.specs.Places.{IsBest, is_listed}
 use Rattle.run_trace.specs.Steps.{extra_of}
 use Rattle.run_trace.specs.Machine.{place_code}
 use Rattle.run_trace.specs.Cluster.{Net}
 use Rattle.run_trace.specs.Trace.{net_after_trace, sends_or, done_for}
-use Rattle.run_trace.specs.Spots.{Stage, Ready, Running, Due, Served, Told_next, Ends, Leaves, Halts, Shows, Showing, Shown_there, Asks, Answers, Answered, Life, Unborn, On, Noting, Spots, Holder, Of_node, Of_thread, stepped, stage_of_call, after_label, after_labels}
+use Rattle.run_trace.specs.Spots.{Stage, Ready, Running, Due, Served, Told_next, Told_then, Departs, Ends, Leaves, Halts, Shows, Showing, Shown_there, Asks, Awaits, Answers, Answered, Life, Unborn, On, Moving, Noting, Spots, Holder, Of_node, Of_thread, stepped, stage_of_call, after_label, after_labels}
 
 -- a rule says of a label on node n, in an act of this quantum, what must have been told before
 abbrev pub Rule : Type 1
@@ -74,6 +75,7 @@ MayJudge n _ = ⊥
 -- a thread is told only where it is
 abbrev pub MayTell : ℕ → Life → Type 0
 MayTell n (On m Told_next) = m ≡ n
+MayTell n (On m (Told_then to)) = m ≡ n
 MayTell n (On m Shown_there) = m ≡ n
 MayTell n (On m (Answered h)) = m ≡ n
 MayTell n _ = ⊥
@@ -92,6 +94,17 @@ MayGive n (On m (Ends end)) g slots = (m ≡ n) × (slots ≡ guest_slots g)
 MayGive n (On m (Served (Isofree address))) g slots = (m ≡ n) × (slots ≡ emptied (heap_of g.solo) address) × (slots ≡ [] → ⊥)
 MayGive n _ g slots = ⊥
 
+-- a thread leaves for another node of the cluster, from the run list or by its own call
+abbrev pub MayLeave : ℕ → ℕ → Life → Type 0
+MayLeave n to (On m Ready) = m ≡ n
+MayLeave n to (On m (Departs other)) = (m ≡ n) × (other ≡ to)
+MayLeave n to _ = ⊥
+
+-- and comes there
+abbrev pub MayCome : ℕ → Life → Type 0
+MayCome n (Moving from to) = to ≡ n
+MayCome n _ = ⊥
+
 abbrev pub MayShow : ℕ → Life → Type 0
 MayShow n (On m (Shows bytes)) = n ≡ 0
 MayShow n _ = ⊥
@@ -99,6 +112,11 @@ MayShow n _ = ⊥
 abbrev pub MayKnow : Life → Type 0
 MayKnow (Noting m end) = ⊤
 MayKnow _ = ⊥
+
+-- the joiner that is answered then awaits this end
+abbrev pub JoinerAwaits : Tid → Option (Tid × ℕ) → Spots → Type 0
+JoinerAwaits t None w = ⊤
+JoinerAwaits t (Some by) w = (w.threads by.0).life ≡ On by.1 (Awaits t)
 
 abbrev pub LifeRule : Rule
 LifeRule p quantum n (Born t why entry a0 a1 sp slot) w = ((w.threads t).life ≡ Unborn) × (t ≡ tid n (length (w.births n)))
@@ -110,7 +128,10 @@ LifeRule p quantum n (Told t) w = MayTell n (w.threads t).life
 LifeRule p quantum n (Took t first count) w = MayTake n (w.threads t).life
 LifeRule p quantum n (Gave t slots) w = MayGive n (w.threads t).life (w.threads t).guest slots
 LifeRule p quantum n (Ended t end) w = (w.threads t).life ≡ On n (Leaves end)
-LifeRule p quantum n (Known t) w = MayKnow (w.threads t).life × (t.home ≡ n)
+LifeRule p quantum n (Known t) w =
+    MayKnow (w.threads t).life × (t.home ≡ n) × JoinerAwaits t (joiner (slice_get (w.births t.home) t.seq)) w
+LifeRule p quantum n (Left t to) w = MayLeave n to (w.threads t).life × (to < nodes_of p) × (to ≡ n → ⊥)
+LifeRule p quantum n (Came t) w = MayCome n (w.threads t).life
 LifeRule p quantum n (Shown t) w = MayShow n (w.threads t).life
 LifeRule p quantum n (Halted t) w = (w.threads t).life ≡ On n Halts
 LifeRule p quantum n _ w = ⊥
@@ -118,11 +139,13 @@ LifeRule p quantum n _ w = ⊥
 -- ## Replies: each is the library's
 
 -- what a call comes to that its node does: create is answered Full here, since its birth makes the new name due; isomalloc is
--- answered the place of its block; isofree is answered 0 once no slot is left to be given
+-- answered the place of its block; isofree is answered 0 once no slot is left to be given; migrate_self is answered 0 before it
+-- leaves
 abbrev pub IsServed : Call → Guest → ℕ → Type 0
 IsServed (Create entry argument priority) g reply = reply ≡ reply_code replies.Full
 IsServed (Isomalloc len) g reply = reply ≡ place_code (place (heap_of g.solo) (rounded len))
 IsServed (Isofree address) g reply = (reply ≡ 0) × (emptied (heap_of g.solo) address ≡ [])
+IsServed (MigrateSelf to) g reply = reply ≡ 0
 IsServed _ g reply = ⊥
 
 abbrev pub IsReply : Life → Guest → ℕ → Extra → Type 0
@@ -189,7 +212,7 @@ abbrev pub Obey : Rule → Program → Spots → List Entry → Type 0
 Obey rule p old [] = ⊤
 Obey rule p old (x ∷ xs) = Obey rule p old xs × ObeyEach rule p (quantum_in x.act) x.node x.labels (spots_of p old xs)
 
--- ## Picks: the best of the run list runs
+-- ## Picks: the best of the run list runs; a thread that is sent away is on it
 
 abbrev pub RunsFirst : Tid → ℕ → List Label → Type 0
 RunsFirst t vp (Ran u v count stop ∷ ls) = (u ≡ t) × (v ≡ vp)
@@ -199,7 +222,7 @@ abbrev pub PicksBest : Act → List Row → List Label → Type 0
 PicksBest (Run vp quantum) rows labels = (r : Row) × IsBest r rows × RunsFirst r.tid vp labels
 PicksBest Boot rows labels = ⊤
 PicksBest (Take from) rows labels = ⊤
-PicksBest (Move t to) rows labels = ⊤
+PicksBest (Move t to) rows labels = (is_listed t rows ≡ true) × (labels ≡ Left t to ∷ [])
 
 abbrev pub Picks : Program → Net → List Entry → Type 0
 Picks p base [] = ⊤
@@ -223,6 +246,7 @@ judged_causes t _ = []
 abbrev pub causes : Program → ℕ → Label → Spots → List Send
 causes p n (Asked t call args bytes) w = asked_causes t (stage_of_call p n t (w.threads t).guest.solo)
 causes p n (Judged t reply extra) w = judged_causes t (w.threads t).life
+causes p n (Left t to) w = send_to to (Mover (packed t (w.threads t).guest))
 causes p n (Ended t end) w = send_to t.home (EndNote t.seq end)
 causes p n _ w = []
 
@@ -242,6 +266,8 @@ IsSettled (On m Running) = ⊥
 IsSettled (On m (Due code)) = ⊥
 IsSettled (On m (Served c)) = ⊥
 IsSettled (On m Told_next) = ⊥
+IsSettled (On m (Told_then to)) = ⊥
+IsSettled (On m (Departs to)) = ⊥
 IsSettled (On m (Ends end)) = ⊥
 IsSettled (On m (Leaves end)) = ⊥
 IsSettled (On m Halts) = ⊥

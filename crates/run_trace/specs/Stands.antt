@@ -8,22 +8,23 @@ use Rattle.slot_space.specs.declared.names.Tid.{Tid}
 use Rattle.marcel_core.specs.declared.end.End.{End}
 use Rattle.marcel_core.specs.declared.birth.Birth.{Birth}
 use Rattle.marcel_core.specs.declared.birth.Birth.TheVariants.{Lives, Awaited, Detached, Ended, Over}
+use Rattle.pack_thread.specs.Threads.{Thread as Packed}
 use Rattle.run_trace.specs.declared.packet.Body.{Body}
-use Rattle.run_trace.specs.declared.packet.Body.TheVariants.{Show, ShowDone, JoinAsk, Answer, EndNote}
+use Rattle.run_trace.specs.declared.packet.Body.TheVariants.{Mover, Show, ShowDone, JoinAsk, Answer, EndNote}
 use Rattle.run_trace.specs.declared.packet.Packet.{Packet}
 use Rattle.run_trace.specs.declared.node.Row.{Row}
 use Rattle.run_trace.specs.declared.node.Wait.{Wait}
 use Rattle.run_trace.specs.declared.node.Wait.TheVariants as wait
 use Rattle.run_trace.specs.Names.{is_tid, tid}
 use Rattle.run_trace.specs.Program.{Program, nodes_of}
-use Rattle.run_trace.specs.Guests.{Guest, Thread, waits, guest_slots}
+use Rattle.run_trace.specs.Guests.{Guest, Thread, waits, guest_slots, packed}
 use Rattle.run_trace.specs.Local.{Local}
 use Rattle.run_trace.specs.Cluster.{Net}
 use Rattle.run_trace.specs.Keyed.{StandsFor, MapStandsFor}
 use Rattle.run_trace.specs.Rules.{is_free}
 use Rattle.run_trace.specs.declared.call.Call.{Call}
 use Rattle.run_trace.specs.declared.call.Call.TheVariants.{Isofree}
-use Rattle.run_trace.specs.Spots.{Stage, Ready, Running, Due, Served, Told_next, Ends, Leaves, Halts, Stays, Shows, Showing, Shown_there, Asks, Awaits, Answers, Answered, Life, Unborn, On, Noting, Gone, Response, Spot, Spots, Holder, Of_node, Of_thread, Nobody}
+use Rattle.run_trace.specs.Spots.{Stage, Ready, Running, Due, Served, Told_next, Told_then, Departs, Ends, Leaves, Halts, Stays, Shows, Showing, Shown_there, Asks, Awaits, Answers, Answered, Life, Unborn, On, Moving, Noting, Gone, Response, Spot, Spots, Holder, Of_node, Of_thread, Nobody}
 
 -- ## The threads of a node: those that are there, but one that has given its slots
 
@@ -63,6 +64,7 @@ listed r = record { tid = r.tid; priority = r.priority }
 
 abbrev pub row_in_stage : Tid → Stage → ℕ → Option Listed
 row_in_stage t Ready priority = Some (record { tid = t; priority = priority })
+row_in_stage t (Departs to) priority = Some (record { tid = t; priority = priority })
 row_in_stage t _ priority = None
 
 abbrev pub row_in_life : ℕ → Tid → Life → ℕ → Option Listed
@@ -89,6 +91,8 @@ is_busy n (On m Running) = m == n
 is_busy n (On m (Due code)) = m == n
 is_busy n (On m (Served c)) = m == n
 is_busy n (On m Told_next) = m == n
+is_busy n (On m (Told_then to)) = m == n
+is_busy n (On m (Departs to)) = m == n
 is_busy n (On m (Ends end)) = m == n
 is_busy n (On m (Leaves end)) = m == n
 is_busy n (On m Halts) = m == n
@@ -99,10 +103,11 @@ is_busy n _ = false
 abbrev pub busy_part : ℕ → Tid → Spot → Option Busy
 busy_part n t s = if is_busy n s.life then Some (busy t s.life) else None
 
--- ## Links: each thread has at most one packet under way
+-- ## Links: each thread has at most one packet under way, which is the thread itself where it moves
 
 -- what a packet says of a thread
 pub data Word : Type 0 where
+  Travels : (x : Packed) → Word
   Line : (t : Tid) (bytes : List ℕ) → Word
   Line_shown : (t : Tid) (code : ℕ) (second : Option ℕ) → Word
   Joins : (t u : Tid) → Word
@@ -110,6 +115,7 @@ pub data Word : Type 0 where
   Ended_word : (t : Tid) (end : End) → Word
 
 abbrev pub word_name : Word → Tid
+word_name (Travels x) = x.tid
 word_name (Line t bytes) = t
 word_name (Line_shown t code second) = t
 word_name (Joins t u) = t
@@ -118,6 +124,7 @@ word_name (Ended_word t end) = t
 
 -- of a packet on a link to node j
 abbrev pub word_of : ℕ → Body → Word
+word_of j (Mover x) = Travels x
 word_of j (Show t bytes) = Line t bytes
 word_of j (ShowDone t) = Line_shown t 0 None
 word_of j (JoinAsk by seq) = Joins by (tid j seq)
@@ -137,20 +144,21 @@ pub record Way : Type 0 where
 abbrev pub way : ℕ → ℕ → Word → Option Way
 way from to word = Some (record { from = from; to = to; word = word })
 
-abbrev pub way_of : Tid → Life → Response → Option Way
-way_of t (On m (Shows bytes)) v = way m 0 (Line t bytes)
-way_of t (On m Shown_there) v = way 0 m (Line_shown t v.code v.second)
-way_of t (On m (Asks u)) v = way m u.home (Joins t u)
-way_of t (On m (Answered h)) v = way h m (Reply t v.code v.second)
-way_of t (Noting m end) v = way m t.home (Ended_word t end)
-way_of t _ v = None
+abbrev pub way_of : Tid → Life → Response → Guest → Option Way
+way_of t (Moving m to) v g = way m to (Travels (packed t g))
+way_of t (On m (Shows bytes)) v g = way m 0 (Line t bytes)
+way_of t (On m Shown_there) v g = way 0 m (Line_shown t v.code v.second)
+way_of t (On m (Asks u)) v g = way m u.home (Joins t u)
+way_of t (On m (Answered h)) v g = way h m (Reply t v.code v.second)
+way_of t (Noting m end) v g = way m t.home (Ended_word t end)
+way_of t _ v g = None
 
 abbrev pub on_link : ℕ → ℕ → Option Way → Option Word
 on_link i j None = None
 on_link i j (Some x) = if x.from == i && x.to == j then Some x.word else None
 
 abbrev pub link_part : ℕ → ℕ → Tid → Spot → Option Word
-link_part i j t s = on_link i j (way_of t s.life s.verdict)
+link_part i j t s = on_link i j (way_of t s.life s.verdict s.guest)
 
 -- ## A node, and what all nodes share
 
@@ -172,6 +180,7 @@ pub data Phase : Type 0 where
 abbrev pub phase_of : Life → Phase
 phase_of Unborn = Before
 phase_of (On n stage) = During
+phase_of (Moving n to) = During
 phase_of (Noting n end) = During
 phase_of (Gone end) = After
 
@@ -210,6 +219,7 @@ held_in_stage _ g = Some (holding_of g)
 -- None where it holds nothing
 abbrev pub held : Life → Guest → Option Holding
 held (On n stage) g = held_in_stage stage g
+held (Moving n to) g = Some (holding_of g)
 held _ g = None
 
 abbrev pub slots_held : Option Holding → List ℕ

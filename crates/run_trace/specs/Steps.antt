@@ -11,16 +11,17 @@ use Rattle.marcel_core.specs.declared.end.End.{End}
 use Rattle.marcel_core.specs.declared.birth.Birth.{Birth}
 use Rattle.marcel_core.specs.declared.birth.Birth.TheVariants.{Lives}
 use Rattle.marcel_core.specs.Homes.{with_birth, joined, ended}
+use Rattle.pack_thread.specs.Threads.{Thread as Packed}
 use Rattle.run_trace.specs.declared.label.Label.{Label}
-use Rattle.run_trace.specs.declared.label.Label.TheVariants.{Born, Ran, Asked, Heard, Judged, Told, Took, Gave, Ended, Known, Shown, Halted}
+use Rattle.run_trace.specs.declared.label.Label.TheVariants.{Born, Ran, Asked, Heard, Judged, Told, Took, Gave, Ended, Known, Left, Came, Shown, Halted}
 use Rattle.run_trace.specs.declared.label.Why.{Why}
 use Rattle.run_trace.specs.declared.label.Extra.{Extra}
 use Rattle.run_trace.specs.declared.label.Extra.TheVariants.{Nothing, Second}
 use Rattle.run_trace.specs.declared.packet.Body.{Body}
-use Rattle.run_trace.specs.declared.packet.Body.TheVariants.{Show, ShowDone, JoinAsk, Answer, EndNote}
+use Rattle.run_trace.specs.declared.packet.Body.TheVariants.{Mover, Show, ShowDone, JoinAsk, Answer, EndNote}
 use Rattle.run_trace.specs.declared.node.Wait.TheVariants as wait
 use Rattle.run_trace.specs.Names.{tid, tid_cmp, is_tid}
-use Rattle.run_trace.specs.Guests.{Guest, Thread, Run, waits, with_state, newborn, stack_end, told, takes_slots, gives_slots, guest_slots}
+use Rattle.run_trace.specs.Guests.{Guest, Thread, Run, waits, with_state, newborn, stack_end, told, takes_slots, gives_slots, guest_slots, packed, unpacked}
 use Rattle.run_trace.specs.declared.call.Call.{Call}
 use Rattle.run_trace.specs.Calls.{number_of, args_of}
 use Rattle.run_trace.specs.Places.{arrived, taken_off}
@@ -156,6 +157,16 @@ gives t x d = thread_out t (slots_in (guest_slots x.guest) (say (Gave t (guest_s
 
 unfoldable pub ends : Tid → End → Doing → Doing
 ends t end d = put t.home (EndNote t.seq end) (say (Ended t end) d)
+
+-- ## Moves
+
+-- the thread, which is on the run list, goes to another node with all that it has
+unfoldable pub leaves : Tid → ℕ → Thread → Doing → Doing
+leaves t to x d = put to (Mover (packed t x.guest)) (say (Left t to) (thread_out t (take_off t d)))
+
+-- a thread comes, and is on the run list, the last to arrive
+unfoldable pub comes : Packed → Doing → Doing
+comes x d = arrive x.tid x.priority (thread_in x.tid (waits wait.No (unpacked x)) (say (Came x.tid) d))
 
 -- ## What a packet brings
 

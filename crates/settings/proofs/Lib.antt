@@ -1,3 +1,4 @@
 pub mod Digits
 pub mod Giving
 pub mod Twice
+pub mod Valued

@@ -1,24 +1,29 @@
--- An option that stands twice has no settings.
+-- An option or a flag that stands twice has no settings.
 use Rattle.std.proofs.Common.{◌≡◌, refl, ℕ, ◌+◌, ◌≤◌, Bool, true, false, List, [], ◌∷◌, length, All, Option, Some, None, arith}
 use Rattle.std.specs.Prelude.{codes, cond, count_by}
 use Rattle.std.specs.Str.{bytes_eq}
 use Rattle.std.specs.List.{list_all}
 use Rattle.std.proofs.lemmas.List.Elements.{All-cons, All-nil}
 use Rattle.words.specs.Uses.{is_use}
-use Rattle.words.specs.Words.{Item, Text, file, is_name, items_of, values}
+use Rattle.words.specs.Words.{Item, Text, file, form_of, is_name, items_of, plain, values}
 use Rattle.words.proofs.Rules.{same_text}
 use Rattle.words.proofs.Uses.{tally, tally_is, uses_have_values}
 use Rattle.settings.specs.declared.verb.Verb.{Verb}
 use Rattle.settings.specs.declared.command.Command.{Command}
-use Rattle.settings.specs.Numbers.{NumberOf, at_most_one, number_at, number_options, quantum, seed, slots, turns}
+use Rattle.settings.specs.Numbers.{NumberOf, all_names, at_most_once, at_most_one, moves, nodes, number_at, quantum, seed, slots, turns}
 use Rattle.settings.specs.Settings.{IsOnceOnly, chosen_by, chosen_with, command_of, grammar_of, settings_by, settings_of, some_then, verb_of}
 
--- ---- a number that there isn't
+-- ---- what there isn't
 
 two_values : (vs : List Text) → 2 ≤ length vs → at_most_one vs ≡ None
 two_values [] h = let bad : 2 ≤ 0 = h in absurd (omega arith)
 two_values (v ∷ []) h = let bad : 2 ≤ 1 = h in absurd (omega arith)
 two_values (v ∷ w ∷ vs) h = refl
+
+two_uses : (vs : List Text) → 2 ≤ length vs → at_most_once vs ≡ None
+two_uses [] h = let bad : 2 ≤ 0 = h in absurd (omega arith)
+two_uses (v ∷ []) h = let bad : 2 ≤ 1 = h in absurd (omega arith)
+two_uses (v ∷ w ∷ vs) h = refl
 
 no_number : (given : Text → List Text) (o : NumberOf) → 2 ≤ length (given o.name) → number_at given o ≡ None
 no_number given o h = rw (two_values (given o.name) h) refl
@@ -27,49 +32,62 @@ then_nothing : {A B : Type 0} (o : Option A) (next : A → Option B) → ((x : A
 then_nothing None next h = refl
 then_nothing (Some x) next h = h x
 
--- there are no settings without this number
-abbrev IsNeeded : NumberOf → Type 0
-IsNeeded o = (command : Command) (given : Text → List Text) → number_at given o ≡ None → chosen_with command given ≡ None
+-- there are no settings where this name has two values
+abbrev IsSingle : Text → Type 0
+IsSingle name = (command : Command) (given : Text → List Text) → 2 ≤ length (given name) → chosen_with command given ≡ None
 
-slots_needed : IsNeeded slots
-slots_needed command given none = rw none refl
+nodes_single : IsSingle nodes.name
+nodes_single command given two = rw (no_number given nodes two) refl
 
-quantum_needed : IsNeeded quantum
-quantum_needed command given none = then_nothing (number_at given slots) _ (λ s. rw none refl)
+slots_single : IsSingle slots.name
+slots_single command given two = then_nothing (number_at given nodes) _ (λ n. rw (no_number given slots two) refl)
 
-turns_needed : IsNeeded turns
-turns_needed command given none = then_nothing (number_at given slots) _ (λ s. then_nothing (number_at given quantum) _ (λ q. rw none refl))
+quantum_single : IsSingle quantum.name
+quantum_single command given two = then_nothing (number_at given nodes) _ (λ n. then_nothing (number_at given slots) _ (λ s. rw (no_number given quantum two) refl))
 
-seed_needed : IsNeeded seed
-seed_needed command given none = then_nothing (number_at given slots) _ (λ s. then_nothing (number_at given quantum) _ (λ q. then_nothing (number_at given turns) _ (λ t. rw none refl)))
+turns_single : IsSingle turns.name
+turns_single command given two =
+    then_nothing (number_at given nodes) _ (λ n. then_nothing (number_at given slots) _ (λ s. then_nothing (number_at given quantum) _ (λ q. rw (no_number given turns two) refl)))
+
+seed_single : IsSingle seed.name
+seed_single command given two =
+    then_nothing (number_at given nodes) _ (λ n. then_nothing (number_at given slots) _ (λ s. then_nothing (number_at given quantum) _ (λ q. then_nothing (number_at given turns) _ (λ t.
+    rw (no_number given seed two) refl))))
+
+moves_single : IsSingle moves
+moves_single command given two =
+    then_nothing (number_at given nodes) _ (λ n. then_nothing (number_at given slots) _ (λ s. then_nothing (number_at given quantum) _ (λ q. then_nothing (number_at given turns) _ (λ t.
+    then_nothing (number_at given seed) _ (λ d. rw (two_uses (given moves) two) refl)))))
 
 -- ---- the words
 
-good_names : (verb : Verb) (names : List Text) (command : Command) → command_of verb names ≡ Some command → list_all is_name names ≡ true
+pub good_names : (verb : Verb) (names : List Text) (command : Command) → command_of verb names ≡ Some command → list_all is_name names ≡ true
 good_names verb names command e = by_test (list_all is_name names) refl
   where
     by_test : (b : Bool) → list_all is_name names ≡ b → list_all is_name names ≡ true
     by_test true h = h
     by_test false h = let bad = rw h at e in cc
 
-verb_is_no_use : (name word : Text) (verb : Verb) → verb_of word ≡ Some verb → is_use name word ≡ false
-verb_is_no_use name word verb e = by_word (bytes_eq word (codes "asm")) (bytes_eq word (codes "sim")) refl refl
+pub verb_is_plain : (word : Text) (verb : Verb) → verb_of word ≡ Some verb → form_of word ≡ plain
+verb_is_plain word verb e = by_word (bytes_eq word (codes "asm")) (bytes_eq word (codes "sim")) refl refl
   where
-    by_word : (a s : Bool) → bytes_eq word (codes "asm") ≡ a → bytes_eq word (codes "sim") ≡ s → is_use name word ≡ false
+    by_word : (a s : Bool) → bytes_eq word (codes "asm") ≡ a → bytes_eq word (codes "sim") ≡ s → form_of word ≡ plain
     by_word true s ea es = rw (same_text word (codes "asm") ea) refl
     by_word false true ea es = rw (same_text word (codes "sim") es) refl
     by_word false false ea es = let bad = rw (ea, es) at e in cc
 
-by_command : (o : NumberOf) → IsNeeded o → (verb : Verb) (items : List Item) (c : Option Command) → command_of verb (values file items) ≡ c
-    → (list_all is_name (values file items) ≡ true → 2 ≤ length (values o.name items)) → chosen_by verb (λ name. values name items) ≡ None
-by_command o needed verb items None ec two = rw ec refl
-by_command o needed verb items (Some command) ec two =
-    rw ec (needed command (λ name. values name items) (no_number (λ name. values name items) o (two (good_names verb (values file items) command ec))))
+verb_is_no_use : (name word : Text) (verb : Verb) → verb_of word ≡ Some verb → is_use name word ≡ false
+verb_is_no_use name word verb e = rw (verb_is_plain word verb e) refl
 
-by_items : (o : NumberOf) → IsNeeded o → (verb : Verb) (words : List Text) (i : Option (List Item)) → items_of (grammar_of verb) words ≡ i → 2 ≤ count_by (is_use o.name) words → settings_by verb words ≡ None
-by_items o needed verb words None ei h = rw ei refl
-by_items o needed verb words (Some items) ei h =
-    rw ei (by_command o needed verb items (command_of verb (values file items)) refl (λ names. omega (arith, h, uses_have_values (grammar_of verb) o.name words items ei names)))
+by_command : (name : Text) → IsSingle name → (verb : Verb) (items : List Item) (c : Option Command) → command_of verb (values file items) ≡ c
+    → (list_all is_name (values file items) ≡ true → 2 ≤ length (values name items)) → chosen_by verb (λ n. values n items) ≡ None
+by_command name single verb items None ec two = rw ec refl
+by_command name single verb items (Some command) ec two = rw ec (single command (λ n. values n items) (two (good_names verb (values file items) command ec)))
+
+by_items : (name : Text) → IsSingle name → (verb : Verb) (words : List Text) (i : Option (List Item)) → items_of (grammar_of verb) words ≡ i → 2 ≤ count_by (is_use name) words → settings_by verb words ≡ None
+by_items name single verb words None ei h = rw ei refl
+by_items name single verb words (Some items) ei h =
+    rw ei (by_command name single verb items (command_of verb (values file items)) refl (λ names. omega (arith, h, uses_have_values (grammar_of verb) name words items ei names)))
 
 counts_none : (b : Bool) → b ≡ false → cond {A = ℕ} b 1 0 ≡ 0
 counts_none true h = cc
@@ -80,18 +98,20 @@ behind_verb name word words e h =
     let all : cond (is_use name word) 1 0 + tally (is_use name) words ≡ count_by (is_use name) (word ∷ words) = tally_is (is_use name) (word ∷ words) in
     omega (arith, h, all, counts_none (is_use name word) e, tally_is (is_use name) words)
 
-by_verb : (o : NumberOf) → IsNeeded o → (word : Text) (words : List Text) (v : Option Verb) → verb_of word ≡ v → 2 ≤ count_by (is_use o.name) (word ∷ words) → settings_of (word ∷ words) ≡ None
-by_verb o needed word words None ev h = rw ev refl
-by_verb o needed word words (Some verb) ev h =
-    rw ev (by_items o needed verb words (items_of (grammar_of verb) words) refl (behind_verb o.name word words (verb_is_no_use o.name word verb ev) h))
+by_verb : (name : Text) → IsSingle name → (word : Text) (words : List Text) (v : Option Verb) → verb_of word ≡ v → 2 ≤ count_by (is_use name) (word ∷ words) → settings_of (word ∷ words) ≡ None
+by_verb name single word words None ev h = rw ev refl
+by_verb name single word words (Some verb) ev h =
+    rw ev (by_items name single verb words (items_of (grammar_of verb) words) refl (behind_verb name word words (verb_is_no_use name word verb ev) h))
 
-once : (o : NumberOf) → IsNeeded o → IsOnceOnly o
-once o needed [] h = refl
-once o needed (word ∷ words) h = by_verb o needed word words (verb_of word) refl h
+once : (name : Text) → IsSingle name → IsOnceOnly name
+once name single [] h = refl
+once name single (word ∷ words) h = by_verb name single word words (verb_of word) refl h
 
-pub all_once : All IsOnceOnly number_options
+pub all_once : All IsOnceOnly all_names
 all_once =
-    All-cons IsOnceOnly slots (quantum ∷ turns ∷ seed ∷ []) (once slots slots_needed)
-    (All-cons IsOnceOnly quantum (turns ∷ seed ∷ []) (once quantum quantum_needed)
-    (All-cons IsOnceOnly turns (seed ∷ []) (once turns turns_needed)
-    (All-cons IsOnceOnly seed [] (once seed seed_needed) (All-nil IsOnceOnly))))
+    All-cons IsOnceOnly nodes.name (slots.name ∷ quantum.name ∷ turns.name ∷ seed.name ∷ moves ∷ []) (once nodes.name nodes_single)
+    (All-cons IsOnceOnly slots.name (quantum.name ∷ turns.name ∷ seed.name ∷ moves ∷ []) (once slots.name slots_single)
+    (All-cons IsOnceOnly quantum.name (turns.name ∷ seed.name ∷ moves ∷ []) (once quantum.name quantum_single)
+    (All-cons IsOnceOnly turns.name (seed.name ∷ moves ∷ []) (once turns.name turns_single)
+    (All-cons IsOnceOnly seed.name (moves ∷ []) (once seed.name seed_single)
+    (All-cons IsOnceOnly moves [] (once moves moves_single) (All-nil IsOnceOnly))))))

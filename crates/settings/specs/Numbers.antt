@@ -1,5 +1,5 @@
--- Options whose values are numbers, and what is given at most once.
-use Rattle.std.specs.Prelude.{◌&&◌, ℕ, Bool, List, [], ◌∷◌, length, Option, Some, None, if◌then◌else◌, codes, nat_le, option_and_then}
+-- Options whose values are numbers, flags, and what is given at most once.
+use Rattle.std.specs.Prelude.{◌&&◌, ℕ, Bool, true, false, List, [], ◌∷◌, ◌++◌, length, map, Option, Some, None, if◌then◌else◌, codes, nat_le, option_and_then}
 use Rattle.std.specs.List.{list_all}
 use Rattle.std.specs.Str.Parse.{digits_value}
 use Rattle.words.specs.Words.{Text, is_name}
@@ -35,6 +35,9 @@ pub record NumberOf : Type 0 where
   pub high : ℕ
   pub usual : ℕ
 
+abbrev pub nodes : NumberOf
+nodes = record { name = codes "nodes"; low = 1; high = 8; usual = 1 }
+
 abbrev pub slots : NumberOf
 slots = record { name = codes "slots"; low = 1; high = 4096; usual = 256 }
 
@@ -49,7 +52,7 @@ seed = record { name = codes "seed"; low = 0; high = 18446744073709551615; usual
 
 -- all of them
 abbrev pub number_options : List NumberOf
-number_options = slots ∷ quantum ∷ turns ∷ seed ∷ []
+number_options = nodes ∷ slots ∷ quantum ∷ turns ∷ seed ∷ []
 
 abbrev pub number_or_usual : NumberOf → Option Text → Option ℕ
 number_or_usual o None = Some o.usual
@@ -58,3 +61,26 @@ number_or_usual o (Some text) = number_of o.low o.high text
 -- the option's number, by the values that are given under each name
 abbrev pub number_at : (Text → List Text) → NumberOf → Option ℕ
 number_at given o = option_and_then (number_or_usual o) (at_most_one (given o.name))
+
+-- ---- flags
+
+abbrev pub moves : Text
+moves = codes "moves"
+
+-- all of them
+abbrev pub flags : List Text
+flags = moves ∷ []
+
+-- the names of all options and flags
+abbrev pub all_names : List Text
+all_names = map (λ o. o.name) number_options ++ flags
+
+-- whether there is a use of a flag; None where there are two
+abbrev pub at_most_once : List Text → Option Bool
+at_most_once [] = Some false
+at_most_once (v ∷ []) = Some true
+at_most_once (v ∷ w ∷ vs) = None
+
+-- whether the flag is given, by the values that are given under each name
+abbrev pub flag_at : (Text → List Text) → Text → Option Bool
+flag_at given name = at_most_once (given name)

@@ -1,5 +1,5 @@
 -- Settings as numbers, and an option without where its name lies in memory.
-use Rattle.std.specs.Prelude.{◌≡◌, ◌≤◌}
+use Rattle.std.specs.Prelude.{◌≤◌}
 use Rattle.settings.specs.Numbers.{NumberOf}
 use Rattle.settings.specs.Settings.{Chosen}
 use Rattle.settings.specs.declared.number.NumberOption.{NumberOption}
@@ -13,14 +13,14 @@ chosen s = record {
   quantum = s.setup.quantum;
   turns = s.turns;
   seed = s.seed;
+  moves = s.moves;
 }
 
 abbrev pub option_seen : NumberOption → NumberOf
 option_seen o = record { name = o.name.now; low = o.low; high = o.high; usual = o.usual }
 
--- there is one node, a run has 1 to 65,536 instructions, and there are 1 to 1,000,000 entries; slots have their own limits
+-- a run has 1 to 65,536 instructions, and there are 1 to 1,000,000 entries; nodes and slots have their own limits
 pub record IsWithinLimits (s : Settings) : Type 0 where
-  pub node : s.setup.geometry.nodes ≡ 1
   pub some_quantum : 1 ≤ s.setup.quantum
   pub small_quantum : s.setup.quantum ≤ 65536
   pub some_turns : 1 ≤ s.turns

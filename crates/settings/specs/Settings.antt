@@ -1,10 +1,10 @@
 -- The settings that a command line asks for, as a function of all its words.
-use Rattle.std.specs.Prelude.{◌≡◌, ◌≤◌, ℕ, count_by, List, [], ◌∷◌, map, Option, Some, None, if◌then◌else◌, codes}
-use Rattle.std.specs.List.{list_all}
+use Rattle.std.specs.Prelude.{◌≡◌, ◌≤◌, ℕ, Bool, true, false, count_by, List, [], ◌∷◌, map, Option, Some, None, if◌then◌else◌, codes}
+use Rattle.std.specs.List.{list_all, list_any}
 use Rattle.std.specs.Str.{bytes_eq}
 use Rattle.words.specs.Uses.{is_use}
-use Rattle.words.specs.Words.{GrammarOf, Text, file, is_name, items_of, values}
-use Rattle.settings.specs.Numbers.{NumberOf, number_at, number_options, slots, quantum, turns, seed}
+use Rattle.words.specs.Words.{Form, GrammarOf, Text, file, form_of, is_name, items_of, long, values}
+use Rattle.settings.specs.Numbers.{flag_at, flags, moves, nodes, number_at, number_options, slots, quantum, turns, seed}
 use Rattle.settings.specs.declared.verb.Verb.{Verb}
 use Rattle.settings.specs.declared.verb.Verb.TheVariants as verb
 use Rattle.settings.specs.declared.command.Command.{Command}
@@ -20,7 +20,7 @@ verb_of word =
 -- what a command takes beside its positional words
 abbrev pub grammar_of : Verb → GrammarOf
 grammar_of verb.Asm = record { options = []; flags = [] }
-grammar_of verb.Sim = record { options = map (λ o. o.name) number_options; flags = [] }
+grammar_of verb.Sim = record { options = map (λ o. o.name) number_options; flags = flags }
 
 -- a command and its positional words
 abbrev pub command_with : Verb → List Text → Option Command
@@ -33,7 +33,7 @@ command_of verb names = if list_all is_name names then command_with verb names e
 
 -- ---- the settings
 
--- what is asked for, in numbers
+-- what is asked for, in numbers, and whether `--moves` is given
 pub record Chosen : Type 0 where
   pub command : Command
   pub nodes : ℕ
@@ -41,19 +41,22 @@ pub record Chosen : Type 0 where
   pub quantum : ℕ
   pub turns : ℕ
   pub seed : ℕ
+  pub moves : Bool
 
 abbrev pub some_then : {A B : Type 0} → Option A → (A → Option B) → Option B
 some_then None next = None
 some_then (Some x) next = next x
 
--- a command with its numbers, by the values that are given under each name
+-- a command with its numbers and its flag, by the values that are given under each name
 abbrev pub chosen_with : Command → (Text → List Text) → Option Chosen
 chosen_with command given =
+    some_then (number_at given nodes) (λ nodes.
     some_then (number_at given slots) (λ slots.
     some_then (number_at given quantum) (λ quantum.
     some_then (number_at given turns) (λ turns.
     some_then (number_at given seed) (λ seed.
-    Some (record { command = command; nodes = 1; slots = slots; quantum = quantum; turns = turns; seed = seed })))))
+    some_then (flag_at given moves) (λ moves.
+    Some (record { command = command; nodes = nodes; slots = slots; quantum = quantum; turns = turns; seed = seed; moves = moves })))))))
 
 abbrev pub chosen_by : Verb → (Text → List Text) → Option Chosen
 chosen_by verb given = some_then (command_of verb (given file)) (λ command. chosen_with command given)
@@ -67,6 +70,19 @@ abbrev pub settings_of : List Text → Option Chosen
 settings_of [] = None
 settings_of (word ∷ words) = some_then (verb_of word) (λ verb. settings_by verb words)
 
--- words in which the option stands twice have no settings
-abbrev pub IsOnceOnly : NumberOf → Type 0
-IsOnceOnly option = (words : List Text) → 2 ≤ count_by (is_use option.name) words → settings_of words ≡ None
+-- words in which this option or flag stands twice have no settings
+abbrev pub IsOnceOnly : Text → Type 0
+IsOnceOnly name = (words : List Text) → 2 ≤ count_by (is_use name) words → settings_of words ≡ None
+
+-- whether a word of this form gives a value to this name behind its `=`
+abbrev pub gives_in : Text → Form → Bool
+gives_in name (long n (Some value)) = bytes_eq n name
+gives_in name _ = false
+
+-- whether a word is `--name=value`
+abbrev pub gives_value : Text → Text → Bool
+gives_value name word = gives_in name (form_of word)
+
+-- words that give this flag a value have no settings
+abbrev pub IsWithoutValue : Text → Type 0
+IsWithoutValue name = (words : List Text) → list_any (gives_value name) words ≡ true → settings_of words ≡ None

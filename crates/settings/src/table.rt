@@ -1,12 +1,19 @@
-//! The table of options.
+//! The table of options and flags.
 
 ghost use Rattle.std.specs.Prelude.{◌≡◌, ◌≤◌, IfSome};
 ghost use Rattle.words.specs.Seen.{values_given};
-ghost use Rattle.settings.specs.Numbers.{number_at};
+ghost use Rattle.settings.specs.Numbers.{flag_at, number_at};
 ghost use Rattle.settings.specs.Seen.{option_seen};
 
 use crate::number::{NumberOption, at_most_one, number_of};
 use words::Given;
+
+pub(crate) const NODES: NumberOption = NumberOption {
+    name: "nodes",
+    low: 1,
+    high: 8,
+    usual: 1,
+};
 
 pub(crate) const SLOTS: NumberOption = NumberOption {
     name: "slots",
@@ -36,6 +43,9 @@ pub(crate) const SEED: NumberOption = NumberOption {
     usual: 0,
 };
 
+/// The name of a flag.
+pub(crate) const MOVES: &str = "moves";
+
 /// The option's number.
 pub(crate) fn number_at(given: &Given, option: NumberOption) -> Option<u64>
     ensures value { result ≡ number_at (values_given given.now) (option_seen option) }
@@ -44,5 +54,16 @@ pub(crate) fn number_at(given: &Given, option: NumberOption) -> Option<u64>
     match at_most_one(given.values(option.name))? {
         None => Some(option.usual),
         Some(text) => number_of(text, option.low, option.high),
+    }
+}
+
+/// Whether the flag is given. None where it stands twice.
+pub(crate) fn flag_at(given: &Given, name: &str) -> Option<bool>
+    ensures { result ≡ flag_at (values_given given.now) name.now }
+{
+    match given.values(name) {
+        [] => Some(false),
+        [_] => Some(true),
+        _ => None,
     }
 }

@@ -2,7 +2,8 @@ use crate::{Command, WordsError, settings};
 use std::alloc::Global;
 use std::test::Fail;
 
-/// What the words, with a `|` between each two, ask for: the command, its file, nodes, slots, quantum, turns and seed.
+/// What the words, with a `|` between each two, ask for: the command, its file, nodes, slots, quantum, turns and seed, and
+/// `moves` where that flag is given.
 fn asked(alloc: Global, line: &str) -> Result<String, Fail> {
     let mut words = Vec::new(alloc);
     for word in line.split('|') {
@@ -17,8 +18,9 @@ fn asked(alloc: Global, line: &str) -> Result<String, Fail> {
         Command::Sim(file) => ("sim", file),
     };
     let geometry = settings.setup.geometry;
+    let moves = if settings.moves { " moves" } else { "" };
     Ok(format!(in alloc;
-        "{verb} {} {} {} {} {} {}",
+        "{verb} {} {} {} {} {} {}{moves}",
         file.as_str(),
         geometry.nodes(),
         geometry.slots(),
@@ -31,7 +33,7 @@ fn asked(alloc: Global, line: &str) -> Result<String, Fail> {
 // The rows are worked by hand from the description of the commands.
 #[test]
 fn words_ask_for_what_they_say(rt: HostRuntime) -> Result<(), Fail> {
-    let rows: [(&str, &str); 17] = [
+    let rows: [(&str, &str); 25] = [
         ("asm|p", "asm p 1 256 1000 100000 0"),
         ("sim|p", "sim p 1 256 1000 100000 0"),
         ("sim|p|--slots|16", "sim p 1 16 1000 100000 0"),
@@ -61,6 +63,17 @@ fn words_ask_for_what_they_say(rt: HostRuntime) -> Result<(), Fail> {
         ("sim|help", "sim help 1 256 1000 100000 0"),
         ("sim|p=q", "sim p=q 1 256 1000 100000 0"),
         ("asm|a file", "asm a file 1 256 1000 100000 0"),
+        ("sim|p|--nodes|2", "sim p 2 256 1000 100000 0"),
+        ("sim|--nodes=2|p", "sim p 2 256 1000 100000 0"),
+        ("sim|p|--nodes|8|--slots|7", "sim p 8 7 1000 100000 0"),
+        ("sim|p|--nodes|8|--slots|1", "sim p 8 1 1000 100000 0"),
+        ("sim|p|--moves", "sim p 1 256 1000 100000 0 moves"),
+        ("sim|p|--moves|--nodes|1", "sim p 1 256 1000 100000 0 moves"),
+        (
+            "sim|--moves|--seed|7|--nodes=3|p",
+            "sim p 3 256 1000 100000 7 moves",
+        ),
+        ("sim|moves", "sim moves 1 256 1000 100000 0"),
     ];
     for (line, want) in rows {
         let found = asked(rt.alloc(), line)?;
@@ -73,10 +86,10 @@ fn words_ask_for_what_they_say(rt: HostRuntime) -> Result<(), Fail> {
 #[test]
 fn all_other_words_are_bad_usage(rt: HostRuntime) -> Result<(), Fail> {
     assert!(rt; matches!(settings(rt.alloc(), &[]), Err(WordsError::Usage)));
-    let rows: [(&str, &str); 13] = [
+    let rows: [(&str, &str); 15] = [
         (
             "no word is a command",
-            ";|sim|p;fly|p;run|p;Sim|p;p|sim;--slots|5|sim|p;--|sim|p",
+            ";|sim|p;fly|p;run|p;Sim|p;p|sim;--slots|5|sim|p;--moves|--nodes|3|sim|p;--|sim|p",
         ),
         (
             "help or the version",
@@ -88,31 +101,39 @@ fn all_other_words_are_bad_usage(rt: HostRuntime) -> Result<(), Fail> {
         ),
         (
             "a positional word is one too many",
-            "asm|p|q;sim|p|q;sim|p|--|q",
+            "asm|p|q;sim|p|q;sim|p|--|q;sim|p|--moves|x",
         ),
         (
-            "asm has no options",
-            "asm|p|--slots|5;asm|p|--slots=5;asm|p|--seed|0",
+            "asm has no options and no flags",
+            "asm|p|--slots|5;asm|p|--slots=5;asm|p|--seed|0;asm|p|--nodes|2;asm|p|--moves",
         ),
         (
             "no value",
-            "sim|p|--slots;sim|p|--quantum;sim|p|--turns;sim|p|--seed;sim|p|--slots|--seed|1;sim|p|--slots|--;sim|--slots|--|5|p",
+            "sim|p|--nodes;sim|p|--nodes|--moves;sim|p|--slots;sim|p|--quantum;sim|p|--turns;sim|p|--seed;sim|p|--slots|--seed|1;sim|p|--slots|--;sim|--slots|--|5|p",
         ),
         (
             "an empty value",
-            "sim|p|--slots=;sim|p|--quantum=;sim|p|--turns=;sim|p|--seed=;sim|p|--slots|",
+            "sim|p|--nodes=;sim|p|--slots=;sim|p|--quantum=;sim|p|--turns=;sim|p|--seed=;sim|p|--slots|",
         ),
         (
             "out of range",
-            "sim|p|--slots|0;sim|p|--slots|4097;sim|p|--quantum|0;sim|p|--quantum|65537;sim|p|--turns|0;sim|p|--turns|1000001;sim|p|--seed|18446744073709551616;sim|p|--seed=99999999999999999999",
+            "sim|p|--nodes|0;sim|p|--nodes|9;sim|p|--nodes|257;sim|p|--slots|0;sim|p|--slots|4097;sim|p|--quantum|0;sim|p|--quantum|65537;sim|p|--turns|0;sim|p|--turns|1000001;sim|p|--seed|18446744073709551616;sim|p|--seed=99999999999999999999",
         ),
         (
             "an option twice",
-            "sim|p|--slots|5|--slots|5;sim|p|--slots|5|--slots|6;sim|p|--quantum=5|--quantum|5;sim|--turns|5|p|--turns=5;sim|--seed=5|p|--seed=6",
+            "sim|p|--nodes|2|--nodes|2;sim|p|--slots|5|--slots|5;sim|p|--slots|5|--slots|6;sim|p|--quantum=5|--quantum|5;sim|--turns|5|p|--turns=5;sim|--seed=5|p|--seed=6",
+        ),
+        (
+            "a flag twice",
+            "sim|p|--moves|--moves;sim|--moves|p|--moves",
+        ),
+        (
+            "a flag with a value",
+            "sim|p|--moves=1;sim|p|--moves=;sim|--moves=true|p;sim|p|--moves|--moves=1;sim|p|--|--moves=1",
         ),
         (
             "an unknown option",
-            "sim|p|--fly;sim|p|--fly|5;sim|p|--fly=5;sim|p|--nodes|2;sim|p|--slot|5;sim|p|--slots5;sim|p|--SLOTS|5;sim|p|-s|5;sim|p|--=5;sim|p|---slots=5",
+            "sim|p|--fly;sim|p|--fly|5;sim|p|--fly=5;sim|p|--node|2;sim|p|--move;sim|p|--slot|5;sim|p|--slots5;sim|p|--SLOTS|5;sim|p|-s|5;sim|p|--=5;sim|p|---slots=5",
         ),
         (
             "a name that is empty or begins with a hyphen",

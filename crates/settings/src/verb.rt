@@ -13,7 +13,9 @@ pub(crate) enum Verb {
     Sim,
 }
 
-static SIM_OPTIONS: [&str; 4] = ["slots", "quantum", "turns", "seed"];
+static SIM_OPTIONS: [&str; 5] = ["nodes", "slots", "quantum", "turns", "seed"];
+
+static SIM_FLAGS: [&str; 1] = ["moves"];
 
 impl Verb {
     /// The command of a word.
@@ -40,7 +42,7 @@ impl Verb {
             },
             Verb::Sim => Grammar {
                 options: &SIM_OPTIONS,
-                flags: &[],
+                flags: &SIM_FLAGS,
             },
         }
     }

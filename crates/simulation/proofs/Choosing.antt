@@ -1,22 +1,117 @@
--- The chosen act is one of them.
-use Rattle.std.proofs.Common.{◌≡◌, ℕ, ◌%◌, ◌<◌, List, [], ◌∷◌, length, Option, Some, None, false, refl, sym, ap, ◌∙◌, subst, arith}
-use Rattle.std.specs.Prelude.{All, ◌↔◌}
-use Rattle.std.proofs.lemmas.Option.{slice_get_within, get_or_from_slice_get, slice_get-get_or}
+-- The chosen act is one of the possible ones, and each of those can be done.
+use Rattle.std.proofs.Common.{◌≡◌, ℕ, zero, suc, ◌+◌, ◌%◌, ◌<◌, ◌≤◌, List, [], ◌∷◌, ◌++◌, map, length, Option, Some, None, Bool, true, false, eqb, cond, refl, sym, ap, ◌∙◌, subst, arith}
+use Rattle.std.specs.Prelude.{◌↔◌, ◌≢◌, ⊤, filter, flat_map, slice_get, not, ◌==◌}
+use Rattle.std.proofs.lemmas.Option.{slice_get-get_or}
+use Rattle.std.proofs.lemmas.Bool.{eq-eqb}
+use Rattle.slot_space.specs.Sets.{run}
+use Rattle.slot_space.specs.declared.names.Tid.{Tid}
 use Rattle.run_trace.specs.declared.entry.Act.{Act}
-use Rattle.node_loop.specs.View.{NodeView}
-use Rattle.node_loop.specs.Turns.{can}
+use Rattle.run_trace.specs.declared.entry.Act.TheVariants.{Run, Take, Move}
+use Rattle.run_trace.specs.declared.entry.Entry.{Entry}
+use Rattle.run_trace.specs.Program.{Program, nodes_of, quantum_limit}
+use Rattle.run_trace.specs.Places.{is_listed}
+use Rattle.run_trace.specs.Cluster.{Net}
+use Rattle.node_loop.specs.Turns.{IsActInRange}
 use Rattle.node_loop.specs.declared.node.Turned.{Turned}
 use Rattle.node_loop.specs.declared.node.Turned.TheVariants.{Did, Idle}
-use Rattle.cluster.specs.Acts.{possible_acts}
-use Rattle.cluster.specs.Standing.{IsPossible, Steps, net_after}
-use Rattle.simulation.specs.Drawn.{chosen}
+use Rattle.cluster.specs.Acts.{has_pick, holds, runs_of, takes_of, ready_on, moves_to, moves_of, acts_of, possible_acts, is_possible}
+use Rattle.cluster.specs.View.{ClusterView}
+use Rattle.cluster.specs.Standing.{StandsFor, Steps, net_after}
+use Rattle.simulation.specs.Drawn.{chosen, possible_after}
 use Rattle.simulation.specs.Underway.{Draws}
 
-pub chosen_passes : (P : ℕ × Act → Type 0) (acts items : List (ℕ × Act)) (o : Option (ℕ × Act)) (word : ℕ) (a : ℕ × Act) → items ≡ acts → All P acts → o ≡ chosen word items → o ≡ Some a → P a
-chosen_passes P acts items o word a same all c s =
-    let e : chosen word acts ≡ Some a = ap (chosen word) (sym same) ∙ sym c ∙ s in
-    let inside : word % length acts < length acts = slice_get_within acts (word % length acts) a e in
-    subst P (get_or_from_slice_get acts (word % length acts) a a e) (all (word % length acts) a inside)
+-- ## All items of a list
+
+abbrev AreAll : {A : Type 0} → (A → Type 0) → List A → Type 0
+AreAll P [] = ⊤
+AreAll P (x ∷ xs) = P x × AreAll P xs
+
+both : {A : Type 0} (P : A → Type 0) (xs ys : List A) → AreAll P xs → AreAll P ys → AreAll P (xs ++ ys)
+both P [] ys h k = k
+both P (x ∷ xs) ys h k = (h.0, both P xs ys h.1 k)
+
+each_mapped : {A B : Type 0} (Q : A → Type 0) (P : B → Type 0) (f : A → B) → ((x : A) → Q x → P (f x)) → (xs : List A) → AreAll Q xs → AreAll P (map f xs)
+each_mapped Q P f h [] all = tt
+each_mapped Q P f h (x ∷ xs) all = (h x all.0, each_mapped Q P f h xs all.1)
+
+each_joined : {A B : Type 0} (Q : A → Type 0) (P : B → Type 0) (f : A → List B) → ((x : A) → Q x → AreAll P (f x)) → (xs : List A) → AreAll Q xs → AreAll P (flat_map f xs)
+each_joined Q P f h [] all = tt
+each_joined Q P f h (x ∷ xs) all = both P (f x) (flat_map f xs) (h x all.0) (each_joined Q P f h xs all.1)
+
+each_passes : {A : Type 0} (Q : A → Type 0) (test : A → Bool) (xs : List A) → AreAll Q xs → AreAll (λ x. Q x × (test x ≡ true)) (filter test xs)
+each_passes Q test [] all = tt
+each_passes Q test (x ∷ xs) all = by (test x) refl (each_passes Q test xs all.1)
+  where
+    by : (v : Bool) → test x ≡ v → AreAll (λ x. Q x × (test x ≡ true)) (filter test xs) → AreAll (λ x. Q x × (test x ≡ true)) (cond v (x ∷ filter test xs) (filter test xs))
+    by true e rest = ((all.0, e), rest)
+    by false e rest = rest
+
+any_items : {A : Type 0} (xs : List A) → AreAll (λ x. ⊤) xs
+any_items [] = tt
+any_items (x ∷ xs) = (tt, any_items xs)
+
+run_below : (limit s count : ℕ) → s + count ≤ limit → AreAll (λ k. k < limit) (run s count)
+unfolding run
+run_below limit s zero l = tt
+run_below limit s (suc count) l = (omega (arith, l), run_below limit (suc s) count (omega (arith, l)))
+
+-- ## Each possible act can be done
+
+pub record IsPossible (p : Program) (net : Net) (a : ℕ × Act) : Type 0 where
+  pub node : a.0 < nodes_of p
+  pub range : IsActInRange p a.0 a.1
+  pub possible : is_possible net a.0 a.1 ≡ true
+
+module _ (p : Program) (net : Net) (some : 0 < p.setup.quantum) (bounded : p.setup.quantum ≤ quantum_limit) where
+  runs_possible : (n : ℕ) → n < nodes_of p → AreAll (IsPossible p net) (runs_of p net n)
+  runs_possible n l = by (has_pick net n) refl
+    where
+      by : (v : Bool) → has_pick net n ≡ v → AreAll (IsPossible p net) (cond v (map (λ vp. (n, Run vp p.setup.quantum)) (run 0 1)) [])
+      by true e = each_mapped (λ k. k < 1) (IsPossible p net) (λ vp. (n, Run vp p.setup.quantum)) (λ vp below. record { node = l; range = (below, some, bounded); possible = e }) (run 0 1) (run_below 1 0 1 (omega arith))
+      by false e = tt
+
+  takes_possible : (n : ℕ) → n < nodes_of p → AreAll (IsPossible p net) (takes_of p net n)
+  takes_possible n l =
+      each_mapped (λ i. (i < nodes_of p) × (holds (net.links i n) ≡ true)) (IsPossible p net) (λ i. (n, Take i)) (λ i h. record { node = l; range = h.0; possible = h.1 })
+      (filter (λ i. holds (net.links i n)) (run 0 (nodes_of p)))
+      (each_passes (λ i. i < nodes_of p) (λ i. holds (net.links i n)) (run 0 (nodes_of p)) (run_below (nodes_of p) 0 (nodes_of p) (omega arith)))
+
+  other : (to n : ℕ) → not (to == n) ≡ true → to ≢ n
+  other to n e same = let one : eqb to n ≡ true = eq-eqb to n same in cc (e, one)
+
+  move_possible : (n : ℕ) → n < nodes_of p → (t : Tid) → is_listed t (net.nodes n).places.rows ≡ true → AreAll (IsPossible p net) (moves_to p n t)
+  move_possible n l t listed =
+      each_mapped (λ to. (to < nodes_of p) × (not (to == n) ≡ true)) (IsPossible p net) (λ to. (n, Move t to)) (λ to h. record { node = l; range = (h.0, other to n h.1); possible = listed })
+      (filter (λ to. not (to == n)) (run 0 (nodes_of p)))
+      (each_passes (λ to. to < nodes_of p) (λ to. not (to == n)) (run 0 (nodes_of p)) (run_below (nodes_of p) 0 (nodes_of p) (omega arith)))
+
+  moves_possible : (moves : Bool) (n : ℕ) → n < nodes_of p → AreAll (IsPossible p net) (moves_of moves p net n)
+  moves_possible false n l = tt
+  moves_possible true n l =
+      each_joined (λ t. ⊤ × (is_listed t (net.nodes n).places.rows ≡ true)) (IsPossible p net) (λ t. moves_to p n t) (λ t h. move_possible n l t h.1)
+      (ready_on (net.nodes n))
+      (each_passes (λ t. ⊤) (λ t. is_listed t (net.nodes n).places.rows) (map (λ e. e.0) (net.nodes n).threads) (any_items (map (λ e. e.0) (net.nodes n).threads)))
+
+  acts_possible : (moves : Bool) (n : ℕ) → n < nodes_of p → AreAll (IsPossible p net) (acts_of moves p net n)
+  acts_possible moves n l =
+      both (IsPossible p net) (runs_of p net n) (takes_of p net n ++ moves_of moves p net n) (runs_possible n l)
+      (both (IsPossible p net) (takes_of p net n) (moves_of moves p net n) (takes_possible n l) (moves_possible moves n l))
+
+  each_possible : (moves : Bool) → AreAll (IsPossible p net) (possible_acts moves p net)
+  each_possible moves = each_joined (λ n. n < nodes_of p) (IsPossible p net) (λ n. acts_of moves p net n) (acts_possible moves) (run 0 (nodes_of p)) (run_below (nodes_of p) 0 (nodes_of p) (omega arith))
+
+-- ## The chosen one
+
+item_passes : {A : Type 0} (P : A → Type 0) (xs : List A) (i : ℕ) (a : A) → AreAll P xs → slice_get xs i ≡ Some a → P a
+item_passes {A = A} P [] i a all e = absurd (let none : slice_get {X = A} [] i ≡ None = refl in cc (none, e))
+item_passes P (x ∷ xs) zero a all e = let same : x ≡ a = cc e in subst P same all.0
+item_passes P (x ∷ xs) (suc i) a all e = item_passes P xs i a all.1 e
+
+pub chosen_possible : (moves : Bool) (c : ClusterView) (lines : List Entry) (acts items : List (ℕ × Act)) (o : Option (ℕ × Act)) (word : ℕ) (a : ℕ × Act) → StandsFor c lines
+    → acts ≡ possible_after moves c.program lines → items ≡ acts → o ≡ chosen word items → o ≡ Some a → IsPossible c.program (net_after c.program lines) a
+chosen_possible moves c lines acts items o word a s listed same is some =
+    item_passes (IsPossible c.program (net_after c.program lines)) (possible_after moves c.program lines) (word % length (possible_after moves c.program lines)) a
+    (each_possible c.program (net_after c.program lines) s.some_quantum s.bounded_quantum moves) (ap (chosen word) (sym (same ∙ listed)) ∙ sym is ∙ some)
 
 pub some_chosen : (acts all items : List (ℕ × Act)) (o : Option (ℕ × Act)) (word : ℕ) → acts ≡ all → (all ≡ [] → ⊥) → items ≡ acts → o ≡ chosen word items → o ≡ None → ⊥
 some_chosen acts all items o word listed some same c none = by acts (sym (ap (chosen word) same) ∙ sym c ∙ none) listed
@@ -28,10 +123,10 @@ some_chosen acts all items o word listed some same c none = by acts (sym (ap (ch
         cc (e, slice_get-get_or (x ∷ xs) (word % length (x ∷ xs)) x inside)
 
 -- an act that can be done is done
-pub draws : (old new : NodeView) (acts items : List (ℕ × Act)) (o : Option (ℕ × Act)) (word n : ℕ) (act : Act) (t : Turned) → acts ≡ possible_acts old.program (net_after old) → All (IsPossible old) acts
-    → items ≡ acts → o ≡ chosen word items → o ≡ Some (n, act) → Steps old n act new t → (t ≡ Idle) ↔ (can old act ≡ false) → Draws word old new
-draws old new acts items o word n act Idle listed all same c s h i =
-    let p : IsPossible old (n, act) = chosen_passes (IsPossible old) acts items o word (n, act) same all c s in
-    absurd (cc (i.0 refl, p.possible))
-draws old new acts items o word n act Did listed all same c s h i =
-    record { node = n; act = act; chosen_is = ap (chosen word) (sym (same ∙ listed)) ∙ sym c ∙ s; adds = h }
+pub draws : (moves : Bool) (old new : ClusterView) (lines : List Entry) (acts items : List (ℕ × Act)) (o : Option (ℕ × Act)) (word n : ℕ) (act : Act) (t : Turned) → StandsFor old lines
+    → acts ≡ possible_after moves old.program lines → items ≡ acts → o ≡ chosen word items → o ≡ Some (n, act) → Steps old lines n act new t
+    → (t ≡ Idle) ↔ (is_possible (net_after old.program lines) n act ≡ false) → Draws moves word lines old new
+draws moves old new lines acts items o word n act Idle s listed same is some h i =
+    absurd (cc (i.0 refl, (chosen_possible moves old lines acts items o word (n, act) s listed same is some).possible))
+draws moves old new lines acts items o word n act Did s listed same is some h i =
+    record { node = n; act = act; chosen_is = ap (chosen word) (sym (same ∙ listed)) ∙ sym is ∙ some; adds = h }

@@ -1,32 +1,32 @@
 -- A run under way, from act to act, and how it ends.
-use Rattle.std.proofs.Common.{◌≡◌, ℕ, suc, ◌+◌, ◌<◌, ◌≤◌, List, [], ◌∷◌, ◌++◌, length, reverse, take, drop, Option, Some, None, refl, sym, ap, ◌∙◌, subst, arith}
-use Rattle.std.specs.Prelude.{option_map}
-use Rattle.std.proofs.lemmas.List.{length-append, length-reverse, append_assoc, append-nil}
+use Rattle.std.proofs.Common.{◌≡◌, ℕ, zero, suc, ◌+◌, ◌<◌, ◌≤◌, Bool, List, [], ◌∷◌, ◌++◌, length, take, drop, reverse, Option, Some, None, refl, sym, ap, ◌∙◌, subst, arith, inl}
+use Rattle.std.specs.Prelude.{◌≢◌, option_map}
+use Rattle.std.proofs.lemmas.List.{length-append, append_assoc, append-nil, reverse-reverse}
 use Rattle.std.proofs.Math.Seq.{drop-append_seam, take-append_seam, take-append-add}
 use Rattle.outside.specs.Outside.{Appends, AppendsPrefix}
 use Rattle.rand_pcg.specs.Lcg.{Lcg}
 use Rattle.rand_pcg.specs.Pcg.{pcg32}
 use Rattle.run_trace.specs.declared.entry.Act.{Act}
 use Rattle.run_trace.specs.declared.entry.Entry.{Entry}
-use Rattle.run_trace.specs.Cluster.{fresh_net}
+use Rattle.run_trace.specs.declared.packet.Packet.{Packet}
+use Rattle.wires.specs.declared.ends.Ends.{Ends}
 use Rattle.run_trace.specs.Console.{console_of}
-use Rattle.run_trace.specs.Legality.{Legal, boot_entry, boot_entries}
+use Rattle.run_trace.specs.Legality.{Legal, boot_entries}
 use Rattle.run_trace.specs.Program.{Program, nodes_of}
 use Rattle.run_trace.specs.Spots.{at_first}
-use Rattle.run_trace.specs.Trace.{net_after_trace}
-use Rattle.node_loop.specs.View.{NodeView}
-use Rattle.node_loop.specs.Turns.{entry_limit}
-use Rattle.cluster.specs.Acts.{possible_acts}
-use Rattle.cluster.specs.Outcomes.{IsDoneAt, IsStuckAt, IsAt}
-use Rattle.cluster.specs.declared.cluster.State.TheVariants.{Going, Done, Stalled}
-use Rattle.cluster.specs.Standing.{HasBooted, Loses, trace_of, net_after, newest_stamp, newest_round}
-use Rattle.simulation.specs.Drawn.{AreDrawn, IsDrawn, chosen, generator, word_at}
-use Rattle.simulation.specs.Ends.{WentOn, before_last, EndsAt, Runs, ShowsAt}
+use Rattle.cluster.specs.Outcomes.{GoesOn, IsDoneAt, IsStuckAt, IsAt}
+use Rattle.cluster.specs.declared.deciding.State.TheVariants.{Going, Done, Stalled}
+use Rattle.cluster.specs.Standing.{StandsFor, HaveCarried, Loses, newest_round, turn_limit}
+use Rattle.cluster.specs.View.{ClusterView, console_in, wires_of}
+use Rattle.simulation.specs.Drawn.{AreDrawn, IsDrawn, chosen, generator, possible_after, word_at}
+use Rattle.simulation.specs.Ends.{WentOn, before_last, EndsAt, Runs, ShowsAt, Simulates, Shows, CarriesAt}
 use Rattle.outside.specs.declared.outside.WriteRefusal.{WriteRefusal}
 use Rattle.outside.specs.declared.outside.WriteRefusal.TheVariants as refusals
 use Rattle.simulation.specs.Underway.{Draws, IsUnderway, HasRun, refusal_end}
 use Rattle.simulation.specs.declared.simulation.End.{End}
 use Rattle.simulation.specs.declared.simulation.End.TheVariants as ends
+use Rattle.simulation.specs.declared.simulation.Simulated.{Simulated}
+use Rattle.simulation.proofs.Beginning.{begins_possible, nothing_shown}
 
 -- ## The output
 
@@ -46,162 +46,156 @@ prefixed written xs ys mid now h k =
 
 -- ## The beginning
 
-pub begins : (seed : ℕ) (old : NodeView) (words : Lcg) (written : Option (List ℕ)) → HasBooted old.program old → (possible_acts old.program (net_after old) ≡ [] → ⊥) → words ≡ generator seed
-    → IsUnderway seed old written 0 old words written
-begins seed old words written b some w = record {
-  stands = b.stands;
+-- the trace of a run under way
+abbrev pub trace_of : {moves : Bool} {seed : ℕ} {old : ClusterView} {written : Option (List ℕ)} {done : ℕ} {c : ClusterView} {words : Lcg} {now : Option (List ℕ)} → IsUnderway moves seed old written done c words now → List Entry
+trace_of {old = old} u = u.later ++ boot_entries old.program (nodes_of old.program)
+
+pub begins : (moves : Bool) (seed : ℕ) (old : ClusterView) (words : Lcg) (written : Option (List ℕ)) → StandsFor old (boot_entries old.program (nodes_of old.program)) → words ≡ generator seed
+    → IsUnderway moves seed old written 0 old words written
+begins moves seed old words written s w = record {
   program = refl;
   later = [];
-  trace = b.trace;
+  stands = s;
   count = refl;
   drawn = tt;
   went_on = tt;
-  possible = some;
+  possible = begins_possible moves old.program s.legal;
   generator = w;
   shown = subst (λ xs. Appends written xs written) (sym empty) (nothing written);
+  wide = refl;
 }
   where
-    lines : trace_of old ≡ boot_entry old.program 0 ∷ []
-    lines = b.trace ∙ ap (λ n. boot_entries old.program n) b.stands.alone.one
-
-    empty : old.console ≡ []
-    empty = sym b.stands.alone.console ∙ ap (console_of old.program (at_first old.program)) lines
+    empty : console_in old ≡ []
+    empty = sym s.console ∙ nothing_shown old.program (nodes_of old.program)
 
     nothing : (o : Option (List ℕ)) → Appends o [] o
     nothing None = refl
     nothing (Some xs) = ap (λ (z : List ℕ). Some z) (sym (append-nil xs))
 
-module _ (seed : ℕ) (old : NodeView) (written : Option (List ℕ)) (done : ℕ) (c : NodeView) (words : Lcg) (now : Option (List ℕ)) (u : IsUnderway seed old written done c words now) where
+module _ (moves : Bool) (seed : ℕ) (old : ClusterView) (written : Option (List ℕ)) (done : ℕ) (c : ClusterView) (words : Lcg) (now : Option (List ℕ)) (u : IsUnderway moves seed old written done c words now) where
   abbrev p : Program
-  p = c.program
+  p = old.program
 
   abbrev first : List Entry
   first = boot_entries p (nodes_of p)
 
-  first_is : first ≡ boot_entry p 0 ∷ []
-  first_is = ap (λ n. boot_entries p n) u.stands.alone.one
-
-  pub few_entries : (turns : ℕ) → done < turns → turns ≤ 1000000 → length c.entries < entry_limit
-  few_entries turns l few =
-      let count : length c.entries ≡ length u.later + length first = sym (length-reverse c.entries) ∙ ap length u.trace ∙ length-append u.later first in
-      omega (arith, count, ap length first_is, u.count, l, few)
-
-  newest_stamp_is : newest_stamp (trace_of c) ≡ suc (length u.later)
-  newest_stamp_is = ap newest_stamp u.trace ∙ by u.later u.drawn
+  turns_are : c.turns ≡ length u.later
+  turns_are = sym u.stands.round ∙ by u.later u.drawn
     where
-      by : (later : List Entry) → AreDrawn p seed first later → newest_stamp (later ++ first) ≡ suc (length later)
-      by [] d = ap newest_stamp first_is
-      by (x ∷ later) d = d.1.stamp ∙ omega arith
+      at_first_round : (n : ℕ) → newest_round (boot_entries p n) ≡ 0
+      at_first_round zero = refl
+      at_first_round (suc n) = refl
 
-  newest_round_is : newest_round (trace_of c) ≡ length u.later
-  newest_round_is = ap newest_round u.trace ∙ by u.later u.drawn
-    where
-      by : (later : List Entry) → AreDrawn p seed first later → newest_round (later ++ first) ≡ length later
-      by [] d = ap newest_round first_is
+      by : (later : List Entry) → AreDrawn moves p seed first later → newest_round (later ++ first) ≡ length later
+      by [] d = at_first_round (nodes_of p)
       by (x ∷ later) d = d.1.round ∙ omega arith
+
+  pub few_turns : (turns : ℕ) → done < turns → turns ≤ 1000000 → c.turns < turn_limit
+  few_turns turns l few = omega (arith, turns_are, u.count, l, few)
+
+  pub some_act : possible_after moves c.program (u.later ++ first) ≢ []
+  some_act = subst (λ q. possible_after moves q (u.later ++ first) ≢ []) (sym u.program) u.possible
 
   -- ## One act more
 
-  module _ (word : ℕ) (c2 : NodeView) (d : Draws word c c2) (w : word ≡ (pcg32 words).0) where
+  module _ (word : ℕ) (c2 : ClusterView) (d : Draws moves word (u.later ++ first) c c2) (w : word ≡ (pcg32 words).0) where
     abbrev x : Entry
     x = d.adds.entry
-
-    word_is : word ≡ word_at seed (length u.later)
-    word_is = w ∙ ap (λ g. (pcg32 g).0) u.generator ∙ ap (λ k. word_at seed k) (sym u.count)
-
-    is_drawn : IsDrawn p (word_at seed (length u.later)) (suc (length u.later)) (u.later ++ first) x
-    is_drawn = record {
-      act = ap (λ k. chosen k (possible_acts p (net_after_trace p (fresh_net p) (u.later ++ first)))) (sym word_is)
-          ∙ ap (λ ls. chosen word (possible_acts p (net_after_trace p (fresh_net p) ls))) (sym u.trace)
-          ∙ d.chosen_is ∙ ap (λ n. Some (n, d.act)) (sym d.adds.next.node) ∙ ap (λ (a : Act). Some (x.node, a)) (sym d.adds.next.act);
-      stamp = d.adds.next.stamp ∙ ap suc newest_stamp_is;
-      round = d.adds.next.round ∙ ap suc newest_round_is;
-    }
-
-    trace_is : trace_of c2 ≡ (x ∷ u.later) ++ first
-    trace_is = d.adds.trace ∙ ap (λ (ls : List Entry). x ∷ ls) u.trace
-
-    drawn_now : AreDrawn p seed first (x ∷ u.later)
-    drawn_now = (u.drawn, is_drawn)
-
-    pub room : length c.console ≤ length c2.console
-    room = let longer : length c2.console ≡ length c.console + length d.adds.lines = ap length d.adds.console ∙ length-append c.console d.adds.lines in omega (arith, longer)
-
-    new_lines : drop (length c.console) c2.console ≡ d.adds.lines
-    new_lines = ap (drop (length c.console)) d.adds.console ∙ drop-append_seam c.console d.adds.lines
-
-    shown_now : (now2 : Option (List ℕ)) → Appends now (drop (length c.console) c2.console) now2 → Appends written c2.console now2
-    shown_now now2 h = subst (λ xs. Appends written xs now2) (sym d.adds.console)
-        (appended written c.console d.adds.lines now now2 u.shown (subst (λ xs. Appends now xs now2) new_lines h))
-
-    part_shown : (now2 : Option (List ℕ)) → AppendsPrefix now (drop (length c.console) c2.console) now2 → AppendsPrefix written c2.console now2
-    part_shown now2 h = subst (λ xs. AppendsPrefix written xs now2) (sym d.adds.console)
-        (prefixed written c.console d.adds.lines now now2 u.shown (subst (λ xs. AppendsPrefix now xs now2) new_lines h))
 
     program_is : c2.program ≡ old.program
     program_is = d.adds.program ∙ u.program
 
-    console_is : console_of c2.program (at_first c2.program) (trace_of c2) ≡ c2.console
-    console_is = d.adds.stands.alone.console
+    word_is : word ≡ word_at seed (length u.later)
+    word_is = w ∙ ap (λ g. (pcg32 g).0) u.generator ∙ ap (λ k. word_at seed k) (sym u.count)
 
-    -- the run goes on
-    pub goes_on : (words2 : Lcg) (now2 : Option (List ℕ)) → words2 ≡ (pcg32 words).1 → Appends now (drop (length c.console) c2.console) now2 → IsAt c2.program (trace_of c2) Going
-        → IsUnderway seed old written (done + 1) c2 words2 now2
-    goes_on words2 now2 g h going = subst (λ k. IsUnderway seed old written k c2 words2 now2) later_is (record {
-      stands = d.adds.stands;
+    is_drawn : IsDrawn moves p (word_at seed (length u.later)) (suc (length u.later)) (u.later ++ first) x
+    is_drawn = record {
+      act = ap (λ k. chosen k (possible_after moves p (u.later ++ first))) (sym word_is)
+          ∙ ap (λ q. chosen word (possible_after moves q (u.later ++ first))) (sym u.program)
+          ∙ d.chosen_is ∙ ap (λ n. Some (n, d.act)) (sym d.adds.next.node) ∙ ap (λ (a : Act). Some (x.node, a)) (sym d.adds.next.act);
+      stamp = d.adds.next.stamp ∙ ap suc (u.stands.stamp ∙ ap suc turns_are);
+      round = d.adds.next.round ∙ ap suc (u.stands.round ∙ turns_are);
+    }
+
+    drawn_now : AreDrawn moves p seed first (x ∷ u.later)
+    drawn_now = (u.drawn, is_drawn)
+
+    pub room : length (console_in c) ≤ length (console_in c2)
+    room = let longer : length (console_in c2) ≡ length (console_in c) + length d.adds.shown = ap length d.adds.console ∙ length-append (console_in c) d.adds.shown in omega (arith, longer)
+
+    new_lines : drop (length (console_in c)) (console_in c2) ≡ d.adds.shown
+    new_lines = ap (drop (length (console_in c))) d.adds.console ∙ drop-append_seam (console_in c) d.adds.shown
+
+    shown_now : (now2 : Option (List ℕ)) → Appends now (drop (length (console_in c)) (console_in c2)) now2 → Appends written (console_in c2) now2
+    shown_now now2 h = subst (λ xs. Appends written xs now2) (sym d.adds.console)
+        (appended written (console_in c) d.adds.shown now now2 u.shown (subst (λ xs. Appends now xs now2) new_lines h))
+
+    part_shown : (now2 : Option (List ℕ)) → AppendsPrefix now (drop (length (console_in c)) (console_in c2)) now2 → AppendsPrefix written (console_in c2) now2
+    part_shown now2 h = subst (λ xs. AppendsPrefix written xs now2) (sym d.adds.console)
+        (prefixed written (console_in c) d.adds.shown now now2 u.shown (subst (λ xs. AppendsPrefix now xs now2) new_lines h))
+
+    console_is : console_of p (at_first p) (x ∷ u.later ++ first) ≡ console_in c2
+    console_is = subst (λ q. console_of q (at_first q) (x ∷ u.later ++ first) ≡ console_in c2) program_is d.adds.stands.console
+
+    pub goes_on : (words2 : Lcg) (now2 : Option (List ℕ)) → words2 ≡ (pcg32 words).1 → Appends now (drop (length (console_in c)) (console_in c2)) now2 → IsAt c2.program (x ∷ u.later ++ first) Going
+        → IsUnderway moves seed old written (done + 1) c2 words2 now2
+    goes_on words2 now2 g h at = subst (λ k. IsUnderway moves seed old written k c2 words2 now2) later_is (record {
       program = program_is;
       later = x ∷ u.later;
-      trace = trace_is ∙ ap (λ (q : Program). (x ∷ u.later) ++ boot_entries q (nodes_of q)) (sym d.adds.program);
+      stands = d.adds.stands;
       count = ap suc u.count;
-      drawn = subst (λ (q : Program). AreDrawn q seed (boot_entries q (nodes_of q)) (x ∷ u.later)) (sym d.adds.program) drawn_now;
-      went_on = subst (λ (q : Program). WentOn q (boot_entries q (nodes_of q)) (x ∷ u.later)) (sym d.adds.program) (
-        u.went_on,
-        (λ e. going.not_done (subst (λ ls. IsDoneAt c2.program ls) (sym trace_is) (subst (λ q. IsDoneAt q ((x ∷ u.later) ++ first)) (sym d.adds.program) e))),
-        (λ e. going.not_stuck (subst (λ ls. IsStuckAt c2.program ls) (sym trace_is) (subst (λ q. IsStuckAt q ((x ∷ u.later) ++ first)) (sym d.adds.program) e))),
-      );
-      possible = going.possible;
+      drawn = drawn_now;
+      went_on = (u.went_on, going.not_done, going.not_stuck);
+      possible = going.possible moves;
       generator = g ∙ ap (λ k. (pcg32 k).1) u.generator;
       shown = shown_now now2 h;
+      wide = d.adds.wide ∙ u.wide;
     })
       where
+        going : GoesOn p (x ∷ u.later ++ first)
+        going = subst (λ q. GoesOn q (x ∷ u.later ++ first)) program_is at
+
         later_is : suc done ≡ done + 1
         later_is = omega arith
 
     -- the run has ended with this act
-    pub ended : (turns : ℕ) (now2 : Option (List ℕ)) (end : End) → done < turns → EndsAt p turns first (x ∷ u.later) end → ShowsAt c2.program written now2 (trace_of c2) end → HasRun turns seed old c2 written now2 end
+    ended : (turns : ℕ) (now2 : Option (List ℕ)) (end : End) → done < turns → EndsAt p turns first (x ∷ u.later) end → ShowsAt p written now2 (x ∷ u.later ++ first) end → HasRun moves turns seed old c2 written now2 end
     ended turns now2 end l e s = record {
-      runs = subst (λ q. Runs q turns seed (trace_of c2) end) u.program (record {
-        legal = subst (λ q. Legal q (trace_of c2)) d.adds.program d.adds.stands.alone.legal;
+      lines = x ∷ u.later ++ first;
+      trace = d.adds.stands.trace;
+      runs = record {
+        legal = subst (λ q. Legal q (x ∷ u.later ++ first)) program_is d.adds.stands.legal;
         later = x ∷ u.later;
-        begins = trace_is;
+        begins = refl;
         drawn = drawn_now;
         few = omega (arith, u.count, l);
         ends = e;
-      });
-      shows = subst (λ q. ShowsAt q written now2 (trace_of c2) end) program_is s;
+      };
+      shows = s;
+      leaves = λ enough. (d.adds.wide ∙ u.wide, subst (λ q. HaveCarried q (x ∷ u.later ++ first) (wires_of c2)) program_is d.adds.stands.carried);
     }
 
-    pub refused : (turns : ℕ) (now2 : Option (List ℕ)) (refusal : WriteRefusal) (end : End) → done < turns → AppendsPrefix now (drop (length c.console) c2.console) now2 → end ≡ refusal_end refusal → HasRun turns seed old c2 written now2 end
-    refused turns now2 refusal end l h e = subst (λ z. HasRun turns seed old c2 written now2 z) (sym e) (by refusal)
+    pub refused : (turns : ℕ) (now2 : Option (List ℕ)) (refusal : WriteRefusal) (end : End) → done < turns → AppendsPrefix now (drop (length (console_in c)) (console_in c2)) now2 → end ≡ refusal_end refusal
+        → HasRun moves turns seed old c2 written now2 end
+    refused turns now2 refusal end l h e = subst (λ z. HasRun moves turns seed old c2 written now2 z) (sym e) (by refusal)
       where
-        part : AppendsPrefix written (console_of c2.program (at_first c2.program) (trace_of c2)) now2
+        part : AppendsPrefix written (console_of p (at_first p) (x ∷ u.later ++ first)) now2
         part = subst (λ xs. AppendsPrefix written xs now2) (sym console_is) (part_shown now2 h)
 
-        by : (r : WriteRefusal) → HasRun turns seed old c2 written now2 (refusal_end r)
+        by : (r : WriteRefusal) → HasRun moves turns seed old c2 written now2 (refusal_end r)
         by refusals.Failed = ended turns now2 ends.WriteFault l u.went_on part
-        by refusals.NoMemory = ended turns now2 ends.NoMemory l u.went_on part
+        by refusals.NoMemory = ended turns now2 ends.NoMemory l u.went_on (λ some. part)
 
-    at_trace : (P : Program → List Entry → Type 0) → P c2.program (trace_of c2) → P p ((x ∷ u.later) ++ first)
-    at_trace P h = subst (λ q. P q ((x ∷ u.later) ++ first)) d.adds.program (subst (λ ls. P c2.program ls) trace_is h)
-
-    all_shown : (now2 : Option (List ℕ)) → Appends now (drop (length c.console) c2.console) now2 → Appends written (console_of c2.program (at_first c2.program) (trace_of c2)) now2
+    all_shown : (now2 : Option (List ℕ)) → Appends now (drop (length (console_in c)) (console_in c2)) now2 → Appends written (console_of p (at_first p) (x ∷ u.later ++ first)) now2
     all_shown now2 h = subst (λ xs. Appends written xs now2) (sym console_is) (shown_now now2 h)
 
-    pub is_done : (turns : ℕ) (now2 : Option (List ℕ)) → done < turns → Appends now (drop (length c.console) c2.console) now2 → IsAt c2.program (trace_of c2) Done → HasRun turns seed old c2 written now2 ends.Done
-    is_done turns now2 l h at = ended turns now2 ends.Done l ((λ e. cc e), u.went_on, at_trace IsDoneAt at) (all_shown now2 h)
+    pub is_done : (turns : ℕ) (now2 : Option (List ℕ)) → done < turns → Appends now (drop (length (console_in c)) (console_in c2)) now2 → IsAt c2.program (x ∷ u.later ++ first) Done
+        → HasRun moves turns seed old c2 written now2 ends.Done
+    is_done turns now2 l h at = ended turns now2 ends.Done l ((λ e. cc e), u.went_on, subst (λ q. IsDoneAt q (x ∷ u.later ++ first)) program_is at) (all_shown now2 h)
 
-    pub is_stalled : (turns : ℕ) (now2 : Option (List ℕ)) → done < turns → Appends now (drop (length c.console) c2.console) now2 → IsAt c2.program (trace_of c2) Stalled → HasRun turns seed old c2 written now2 ends.Stalled
-    is_stalled turns now2 l h at = ended turns now2 ends.Stalled l ((λ e. cc e), u.went_on, at_trace IsStuckAt at) (all_shown now2 h)
+    pub is_stalled : (turns : ℕ) (now2 : Option (List ℕ)) → done < turns → Appends now (drop (length (console_in c)) (console_in c2)) now2 → IsAt c2.program (x ∷ u.later ++ first) Stalled
+        → HasRun moves turns seed old c2 written now2 ends.Stalled
+    is_stalled turns now2 l h at = ended turns now2 ends.Stalled l ((λ e. cc e), u.went_on, subst (λ q. IsStuckAt q (x ∷ u.later ++ first)) program_is at) (all_shown now2 h)
 
   -- ## It ends where it stands
 
@@ -209,26 +203,54 @@ module _ (seed : ℕ) (old : NodeView) (written : Option (List ℕ)) (done : ℕ
   before [] h = tt
   before (x ∷ later) h = h.0
 
-  stops : (turns : ℕ) (end : End) → done ≤ turns → EndsAt p turns first u.later end → Runs old.program turns seed (trace_of c) end
-  stops turns end l e = subst (λ q. Runs q turns seed (trace_of c) end) u.program (record {
-    legal = u.stands.alone.legal;
+  stops : (turns : ℕ) (end : End) → done ≤ turns → EndsAt p turns first u.later end → Runs moves p turns seed (u.later ++ first) end
+  stops turns end l e = record {
+    legal = subst (λ q. Legal q (u.later ++ first)) u.program u.stands.legal;
     later = u.later;
-    begins = u.trace;
+    begins = refl;
     drawn = u.drawn;
     few = omega (arith, u.count, l);
     ends = e;
-  })
+  }
 
-  all_written : Appends written (console_of old.program (at_first old.program) (trace_of c)) now
-  all_written = subst (λ q. Appends written (console_of q (at_first q) (trace_of c)) now) u.program (subst (λ xs. Appends written xs now) (sym u.stands.alone.console) u.shown)
+  all_written : Appends written (console_of p (at_first p) (u.later ++ first)) now
+  all_written = subst (λ q. Appends written (console_of q (at_first q) (u.later ++ first)) now) u.program (subst (λ xs. Appends written xs now) (sym u.stands.console) u.shown)
 
-  pub out_of_turns : (turns : ℕ) → done ≡ turns → HasRun turns seed old c written now ends.OutOfTurns
-  out_of_turns turns e = record { runs = stops turns ends.OutOfTurns (omega (arith, e)) (u.went_on, u.count ∙ e); shows = all_written }
+  pub out_of_turns : (turns : ℕ) → done ≡ turns → HasRun moves turns seed old c written now ends.OutOfTurns
+  out_of_turns turns e = record {
+    lines = u.later ++ first;
+    trace = u.stands.trace;
+    runs = stops turns ends.OutOfTurns (omega (arith, e)) (u.went_on, u.count ∙ e);
+    shows = all_written;
+    leaves = λ enough. (u.wide, subst (λ q. HaveCarried q (u.later ++ first) (wires_of c)) u.program u.stands.carried);
+  }
 
-  pub lost : (turns : ℕ) (c2 : NodeView) → done < turns → Loses c c2 → HasRun turns seed old c2 written now ends.NoMemory
-  lost turns c2 l h =
-      let same : trace_of c2 ≡ trace_of c = ap reverse h.entries in
+  pub lost : (turns : ℕ) (c2 : ClusterView) → done < turns → Loses c c2 (u.later ++ first) → HasRun moves turns seed old c2 written now ends.NoMemory
+  lost turns c2 l h = record {
+    lines = u.later ++ first;
+    trace = h.trace;
+    runs = stops turns ends.NoMemory (omega (arith, l)) (before u.later u.went_on);
+    shows = λ some. whole_prefix written _ now all_written;
+    leaves = λ enough. absurd (enough refl);
+  }
+
+-- ## What is handed out
+
+module _ (moves : Bool) (turns seed : ℕ) (p : Program) (old new : ClusterView) (written now : Option (List ℕ)) (end : End) (r : HasRun moves turns seed old new written now end)
+    (same : old.program ≡ p) (s : Simulated) (ended : s.end ≡ end) (trace : s.trace ≡ reverse r.lines) where
+  lines_are : reverse s.trace ≡ r.lines
+  lines_are = ap reverse trace ∙ reverse-reverse r.lines
+
+  pub simulated : Simulates moves p turns seed s
+  simulated = inl (subst (λ ls. Runs moves p turns seed ls s.end) (sym lines_are) (subst (λ e. Runs moves p turns seed r.lines e) (sym ended) (subst (λ q. Runs moves q turns seed r.lines end) same r.runs)))
+
+  pub shown : Shows p written now s
+  shown = subst (λ ls. ShowsAt p written now ls s.end) (sym lines_are) (subst (λ e. ShowsAt p written now r.lines e) (sym ended) (subst (λ q. ShowsAt q written now r.lines end) same r.shows))
+
+  pub carried : (given : List (Ends Packet)) → s.wires ≡ wires_of new → length (wires_of old) ≡ length given → CarriesAt p given s
+  carried given wires wide enough =
+      let left = r.leaves (λ e. enough (ended ∙ e)) in
       record {
-        runs = subst (λ ls. Runs old.program turns seed ls ends.NoMemory) (sym same) (stops turns ends.NoMemory (omega (arith, l)) (before u.later u.went_on));
-        shows = subst (λ ls. AppendsPrefix written (console_of old.program (at_first old.program) ls) now) (sym same) (whole_prefix written _ now all_written);
+        nodes = ap length wires ∙ (left.0 ∙ wide);
+        carried = subst (λ ls. HaveCarried p ls s.wires) (sym lines_are) (subst (λ es. HaveCarried p r.lines es) (sym wires) (subst (λ q. HaveCarried q r.lines (wires_of new)) same left.1));
       }

@@ -1,12 +1,15 @@
 -- How a run ends, and what it has shown.
-use Rattle.std.specs.Prelude.{◌≡◌, ◌⊎◌, ◌≤◌, ℕ, List, [], ◌∷◌, ◌++◌, length, reverse, Option, ⊤}
+use Rattle.std.specs.Prelude.{◌≡◌, ◌≢◌, ◌⊎◌, ◌≤◌, ℕ, Bool, List, [], ◌∷◌, ◌++◌, length, reverse, Option, ⊤}
 use Rattle.outside.specs.Outside.{Appends, AppendsPrefix}
 use Rattle.run_trace.specs.declared.entry.Entry.{Entry}
+use Rattle.run_trace.specs.declared.packet.Packet.{Packet}
 use Rattle.run_trace.specs.Console.{console_of}
 use Rattle.run_trace.specs.Legality.{Legal, boot_entries}
 use Rattle.run_trace.specs.Program.{Program, nodes_of}
 use Rattle.run_trace.specs.Spots.{at_first}
+use Rattle.wires.specs.declared.ends.Ends.{Ends}
 use Rattle.cluster.specs.Outcomes.{IsDoneAt, IsStuckAt}
+use Rattle.cluster.specs.Standing.{HaveCarried}
 use Rattle.simulation.specs.Drawn.{AreDrawn}
 use Rattle.simulation.specs.declared.simulation.End.{End}
 use Rattle.simulation.specs.declared.simulation.End.TheVariants.{Done, Stalled, OutOfTurns, WriteFault, NoMemory}
@@ -31,25 +34,35 @@ EndsAt p turns first later WriteFault = WentOn p first (before_last later)
 EndsAt p turns first later NoMemory = WentOn p first (before_last later)
 
 -- a run with these turns and this seed: its trace, newest entry first, and its end
-pub record Runs (p : Program) (turns seed : ℕ) (lines : List Entry) (end : End) : Type 0 where
+pub record Runs (moves : Bool) (p : Program) (turns seed : ℕ) (lines : List Entry) (end : End) : Type 0 where
   pub legal : Legal p lines
   pub later : List Entry
   pub begins : lines ≡ later ++ boot_entries p (nodes_of p)
-  pub drawn : AreDrawn p seed (boot_entries p (nodes_of p)) later
+  pub drawn : AreDrawn moves p seed (boot_entries p (nodes_of p)) later
   pub few : length later ≤ turns
   pub ends : EndsAt p turns (boot_entries p (nodes_of p)) later end
 
--- what has come of a run: where there was no memory to begin there is no trace
-abbrev pub Simulates : Program → (turns seed : ℕ) → Simulated → Type 0
-Simulates p turns seed s = Runs p turns seed (reverse s.trace) s.end ⊎ ((s.trace ≡ []) × (s.end ≡ NoMemory))
+-- what has come of a run: where there was no memory to begin or to gather its entries there is no trace
+abbrev pub Simulates : Bool → Program → (turns seed : ℕ) → Simulated → Type 0
+Simulates moves p turns seed s = Runs moves p turns seed (reverse s.trace) s.end ⊎ ((s.trace ≡ []) × (s.end ≡ NoMemory))
 
--- the lines of a trace are on the output, or after a refused write or want of memory a first part of them
+-- the lines of a trace are on the output, or after a refused write or want of memory a first part of them; nothing is said
+-- of a trace that wasn't gathered
 abbrev pub ShowsAt : Program → Option (List ℕ) → Option (List ℕ) → List Entry → End → Type 0
 ShowsAt p written now lines Done = Appends written (console_of p (at_first p) lines) now
 ShowsAt p written now lines Stalled = Appends written (console_of p (at_first p) lines) now
 ShowsAt p written now lines OutOfTurns = Appends written (console_of p (at_first p) lines) now
 ShowsAt p written now lines WriteFault = AppendsPrefix written (console_of p (at_first p) lines) now
-ShowsAt p written now lines NoMemory = AppendsPrefix written (console_of p (at_first p) lines) now
+ShowsAt p written now lines NoMemory = lines ≢ [] → AppendsPrefix written (console_of p (at_first p) lines) now
 
 abbrev pub Shows : Program → Option (List ℕ) → Option (List ℕ) → Simulated → Type 0
 Shows p written now s = ShowsAt p written now (reverse s.trace) s.end
+
+-- as many nodes have ends as before, and on each link was sent what the trace sends, and received what it takes
+pub record Carries (p : Program) (given : List (Ends Packet)) (s : Simulated) : Type 0 where
+  pub nodes : length s.wires ≡ length given
+  pub carried : HaveCarried p (reverse s.trace) s.wires
+
+-- but for want of memory, the wires have carried what the trace says
+abbrev pub CarriesAt : Program → List (Ends Packet) → Simulated → Type 0
+CarriesAt p given s = s.end ≢ NoMemory → Carries p given s

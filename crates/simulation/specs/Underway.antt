@@ -1,5 +1,5 @@
 -- A run under way.
-use Rattle.std.specs.Prelude.{◌≡◌, ◌≢◌, ℕ, List, [], ◌++◌, length, Option, Some}
+use Rattle.std.specs.Prelude.{◌≡◌, ◌≢◌, ℕ, Bool, List, [], ◌++◌, length, Option, Some}
 use Rattle.outside.specs.Outside.{Appends}
 use Rattle.outside.specs.declared.outside.WriteRefusal.{WriteRefusal}
 use Rattle.outside.specs.declared.outside.WriteRefusal.TheVariants as refusals
@@ -7,11 +7,10 @@ use Rattle.rand_pcg.specs.Lcg.{Lcg}
 use Rattle.run_trace.specs.declared.entry.Act.{Act}
 use Rattle.run_trace.specs.declared.entry.Entry.{Entry}
 use Rattle.run_trace.specs.Legality.{boot_entries}
-use Rattle.run_trace.specs.Program.{nodes_of}
-use Rattle.node_loop.specs.View.{NodeView}
-use Rattle.cluster.specs.Acts.{possible_acts}
-use Rattle.cluster.specs.Standing.{StandsForItsTrace, Adds, trace_of, net_after}
-use Rattle.simulation.specs.Drawn.{AreDrawn, chosen, generator_after}
+use Rattle.run_trace.specs.Program.{Program, nodes_of}
+use Rattle.cluster.specs.View.{ClusterView, console_in, wires_of}
+use Rattle.cluster.specs.Standing.{StandsFor, HasTrace, HaveCarried, Adds}
+use Rattle.simulation.specs.Drawn.{AreDrawn, chosen, generator_after, possible_after}
 use Rattle.simulation.specs.Ends.{WentOn, Runs, ShowsAt}
 use Rattle.simulation.specs.declared.simulation.End.{End}
 use Rattle.simulation.specs.declared.simulation.End.TheVariants as ends
@@ -20,27 +19,34 @@ abbrev pub refusal_end : WriteRefusal → End
 refusal_end refusals.Failed = ends.WriteFault
 refusal_end refusals.NoMemory = ends.NoMemory
 
--- the act that the word chooses is done
-pub record Draws (word : ℕ) (old new : NodeView) : Type 0 where
+-- the act that the word chooses after a trace is done
+pub record Draws (moves : Bool) (word : ℕ) (lines : List Entry) (old new : ClusterView) : Type 0 where
   pub node : ℕ
   pub act : Act
-  pub chosen_is : chosen word (possible_acts old.program (net_after old)) ≡ Some (node, act)
-  pub adds : Adds old node act new
+  pub chosen_is : chosen word (possible_after moves old.program lines) ≡ Some (node, act)
+  pub adds : Adds old lines node act new
 
 -- after so many acts of a run that began as old: it goes on
-pub record IsUnderway (seed : ℕ) (old : NodeView) (written : Option (List ℕ)) (done : ℕ) (c : NodeView) (words : Lcg) (now : Option (List ℕ)) : Type 0 where
-  pub stands : StandsForItsTrace c
+pub record IsUnderway (moves : Bool) (seed : ℕ) (old : ClusterView) (written : Option (List ℕ)) (done : ℕ) (c : ClusterView) (words : Lcg) (now : Option (List ℕ)) : Type 0 where
   pub program : c.program ≡ old.program
   pub later : List Entry
-  pub trace : trace_of c ≡ later ++ boot_entries c.program (nodes_of c.program)
+  pub stands : StandsFor c (later ++ boot_entries old.program (nodes_of old.program))
   pub count : length later ≡ done
-  pub drawn : AreDrawn c.program seed (boot_entries c.program (nodes_of c.program)) later
-  pub went_on : WentOn c.program (boot_entries c.program (nodes_of c.program)) later
-  pub possible : possible_acts c.program (net_after c) ≢ []
+  pub drawn : AreDrawn moves old.program seed (boot_entries old.program (nodes_of old.program)) later
+  pub went_on : WentOn old.program (boot_entries old.program (nodes_of old.program)) later
+  pub possible : possible_after moves old.program (later ++ boot_entries old.program (nodes_of old.program)) ≢ []
   pub generator : words ≡ generator_after seed done
-  pub shown : Appends written c.console now
+  pub shown : Appends written (console_in c) now
+  pub wide : length (wires_of c) ≡ length (wires_of old)
+
+-- what a run's end leaves of the links; after want of memory nothing is said of them
+abbrev pub LeavesAt : Program → ClusterView → ClusterView → List Entry → End → Type 0
+LeavesAt p old new lines end = end ≢ ends.NoMemory → (length (wires_of new) ≡ length (wires_of old)) × HaveCarried p lines (wires_of new)
 
 -- a run that began as old has ended
-pub record HasRun (turns seed : ℕ) (old new : NodeView) (written now : Option (List ℕ)) (end : End) : Type 0 where
-  pub runs : Runs old.program turns seed (trace_of new) end
-  pub shows : ShowsAt old.program written now (trace_of new) end
+pub record HasRun (moves : Bool) (turns seed : ℕ) (old new : ClusterView) (written now : Option (List ℕ)) (end : End) : Type 0 where
+  pub lines : List Entry
+  pub trace : HasTrace new lines
+  pub runs : Runs moves old.program turns seed lines end
+  pub shows : ShowsAt old.program written now lines end
+  pub leaves : LeavesAt old.program old new lines end

@@ -1,14 +1,16 @@
 //! Runs by drawn acts.
 
-ghost use Rattle.std.specs.Prelude.{◌≡◌, ◌≢◌, ◌<◌, ◌≤◌, ◌++◌, [], drop, length, OnOk, OnErr, IsErrOf};
+ghost use Rattle.std.specs.Prelude.{◌≡◌, ◌≢◌, ◌<◌, ◌≤◌, ◌++◌, [], List, drop, length, OnOk, OnErr, IsErrOf};
 ghost use Rattle.outside.specs.Outside.{Rose, Appends, AppendsPrefix};
-ghost use Rattle.run_trace.specs.Program.{quantum_limit};
-ghost use Rattle.node_state.specs.Events.{program};
-ghost use Rattle.node_loop.specs.Turns.{entry_limit};
-ghost use Rattle.cluster.specs.Acts.{possible_acts};
-ghost use Rattle.cluster.specs.Standing.{StandsForItsTrace, HasBooted, Loses, net_after};
-ghost use Rattle.simulation.specs.Drawn.{chosen, generator};
-ghost use Rattle.simulation.specs.Ends.{Simulates, Shows};
+ghost use Rattle.run_trace.specs.declared.entry.Entry.{Entry};
+ghost use Rattle.run_trace.specs.Legality.{boot_entries};
+ghost use Rattle.run_trace.specs.Program.{nodes_of, quantum_limit};
+ghost use Rattle.node_state.specs.Events.{program, StartsAligned};
+ghost use Rattle.wires.specs.Wires.{AreFreshFor};
+ghost use Rattle.cluster.specs.Standing.{StandsFor, Loses, turn_limit};
+ghost use Rattle.cluster.specs.View.{console_in};
+ghost use Rattle.simulation.specs.Drawn.{chosen, generator, possible_after};
+ghost use Rattle.simulation.specs.Ends.{Simulates, Shows, CarriesAt};
 ghost use Rattle.simulation.specs.Underway.{Draws, HasRun};
 
 use basics::{Items, NoMemory};
@@ -16,10 +18,11 @@ use cluster::{Cluster, State};
 use outside::{Sink, WriteRefusal, write_piece};
 use rand_core::utils::NextWord;
 use rand_pcg::Lcg64Xsh32;
-use run_trace::{Act, Entry, Setup};
+use run_trace::{Act, Entry, Packet, Setup};
 use rv_inst::Image;
 use slot_space::NodeNo;
 use std::alloc::Global;
+use wires::Wires;
 
 /// The stream of the generator.
 const STREAM: u64 = 54;
@@ -53,59 +56,72 @@ impl From<WriteRefusal> for End {
 }
 
 /// A run that has ended.
-#[derive(Debug, Drop)]
+#[derive(Drop)]
 pub struct Simulated {
     pub end: End,
     /// Its entries, oldest first.
     pub trace: Items<Entry>,
+    /// The links of its nodes, which have carried its packets; at want of memory maybe none.
+    pub wires: Wires<Packet>,
 }
 
 /// Runs a program from its beginning: each act is drawn by the seed, and the lines are written after it. It ends where the
-/// program is done or stuck, or after so many acts.
+/// program is done or stuck, or after so many acts. Threads are moved only where moves are asked for.
 pub fn simulate<K: Sink>(
     alloc: Global,
     setup: &Setup,
-    image: &Image,
+    image: Image,
     turns: u64,
     seed: u64,
+    moves: bool,
+    wires: Wires<Packet>,
     out: &mut K,
 ) -> Simulated
-    requires one { setup.now.geometry.nodes ≡ 1 }
     requires quantum { (0 < setup.now.quantum) × (setup.now.quantum ≤ quantum_limit) }
+    requires image { StartsAligned image }
     requires turns { (0 < turns) × (turns ≤ 1000000) }
-    ensures simulated { Simulates (program setup.now image.now) turns seed result }
-    ensures shown { Shows (program setup.now image.now) (K.written out.old) (K.written out.new) result }
+    requires fresh { AreFreshFor (length wires) wires }
+    requires wide { setup.now.geometry.nodes ≤ length wires }
+    ensures simulated { Simulates moves (program setup.now image) turns seed result }
+    ensures shown { Shows (program setup.now image) (K.written out.old) (K.written out.new) result }
+    ensures carried { CarriesAt (program setup.now image) wires result }
     ensures failed { result.end ≡ End.WriteFault → Rose (K.faults out.old) (K.faults out.new) }
     ensures later { K.faults out.old ≤ K.faults out.new }
 {
-    match Cluster::boot(alloc, setup, image) {
-        Err(NoMemory) => Simulated {
-            end: End::NoMemory,
-            trace: Items::new(Vec::new(alloc)),
-        },
-        Ok(mut cluster) => {
-            let end = run(&mut cluster, turns, seed, out);
-            Simulated {
-                end,
-                trace: cluster.finish(),
-            }
-        }
+    let mut cluster = match Cluster::boot(alloc, setup, image, wires) {
+        Err(NoMemory) => return none(alloc),
+        Ok(cluster) => cluster,
+    };
+    let end = run(&mut cluster, turns, seed, moves, out);
+    match cluster.finish() {
+        Err(NoMemory) => none(alloc),
+        Ok((trace, wires)) => Simulated { end, trace, wires },
+    }
+}
+
+// A run of which there is nothing, for want of memory.
+fn none(alloc: Global) -> Simulated
+    ensures { (result.trace ≡ []) × (result.end ≡ End.NoMemory) }
+{
+    Simulated {
+        end: End::NoMemory,
+        trace: Items::new(Vec::new(alloc)),
+        wires: Wires::none(alloc),
     }
 }
 
 // Draws act after act.
-fn run<K: Sink>(cluster: &mut Cluster, turns: u64, seed: u64, out: &mut K) -> End
-    requires booted { HasBooted cluster.old.program cluster.old }
-    requires some { possible_acts cluster.old.program (net_after cluster.old) ≢ [] }
+fn run<K: Sink>(cluster: &mut Cluster, turns: u64, seed: u64, moves: bool, out: &mut K) -> End
+    requires begun { StandsFor cluster.old (boot_entries cluster.old.program (nodes_of cluster.old.program)) }
     requires turns { (0 < turns) × (turns ≤ 1000000) }
-    ensures ran { HasRun turns seed cluster.old cluster.new (K.written out.old) (K.written out.new) result }
+    ensures ran { HasRun moves turns seed cluster.old cluster.new (K.written out.old) (K.written out.new) result }
     ensures failed { result ≡ End.WriteFault → Rose (K.faults out.old) (K.faults out.new) }
     ensures later { K.faults out.old ≤ K.faults out.new }
 {
     let mut words = generator(seed);
     for done in 0..turns {
         let shown = cluster.console().len();
-        match draw(cluster, words.next_word()) {
+        match draw(cluster, words.next_word(), moves) {
             Ok(()) => {}
             Err(NoMemory) => return End::NoMemory,
         }
@@ -131,14 +147,13 @@ fn generator(seed: u64) -> Lcg64Xsh32
 }
 
 // Does the possible act that the word chooses.
-fn draw(cluster: &mut Cluster, word: u32) -> Result<(), NoMemory>
-    requires stands { StandsForItsTrace cluster.old }
-    requires some { possible_acts cluster.old.program (net_after cluster.old) ≢ [] }
-    requires entries { length cluster.old.entries < entry_limit }
-    ensures ok { OnOk result (Draws word cluster.old cluster.new) }
-    ensures err { OnErr result (Loses cluster.old cluster.new) }
+fn draw(cluster: &mut Cluster, word: u32, moves: bool) -> Result<(), NoMemory>
+    requires some { (lines : List Entry) × StandsFor cluster.old lines × (possible_after moves cluster.old.program lines ≢ []) }
+    requires turns { cluster.old.turns < turn_limit }
+    ensures ok { (lines : List Entry) → StandsFor cluster.old lines → OnOk result (Draws moves word lines cluster.old cluster.new) }
+    ensures err { (lines : List Entry) → StandsFor cluster.old lines → OnErr result (Loses cluster.old cluster.new lines) }
 {
-    let acts = cluster.acts()?;
+    let acts = cluster.acts(moves)?;
     match chosen(&acts, word) {
         None => unreachable!(),
         Some(choice) => {
@@ -160,9 +175,9 @@ fn chosen(acts: &[(NodeNo, Act)], word: u32) -> Option<(NodeNo, Act)>
 
 // Writes the lines that came after the first so many bytes.
 fn show<K: Sink>(cluster: &Cluster, shown: usize, out: &mut K) -> Result<(), WriteRefusal>
-    requires { shown ≤ length cluster.now.console }
-    ensures ok { OnOk result (Appends (K.written out.old) (drop shown cluster.now.console) (K.written out.new)) }
-    ensures err { OnErr result (AppendsPrefix (K.written out.old) (drop shown cluster.now.console) (K.written out.new)) }
+    requires { shown ≤ length (console_in cluster.now) }
+    ensures ok { OnOk result (Appends (K.written out.old) (drop shown (console_in cluster.now)) (K.written out.new)) }
+    ensures err { OnErr result (AppendsPrefix (K.written out.old) (drop shown (console_in cluster.now)) (K.written out.new)) }
     ensures failed { IsErrOf result WriteRefusal.Failed → Rose (K.faults out.old) (K.faults out.new) }
     ensures later { K.faults out.old ≤ K.faults out.new }
 {

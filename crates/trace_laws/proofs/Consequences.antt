@@ -1,26 +1,38 @@
--- Two consequences: no slot has two holders, and a thread is its code run alone.
-use Rattle.std.proofs.Common.{◌≡◌, ℕ, List, [], ◌∷◌, Option, Some, None, Bool, true, false, eqb, cond, refl, sym, ap, ◌∙◌, arith}
+-- Consequences: no thread is at two places, no slot has two holders, and a thread is its code run alone.
+use Rattle.std.proofs.Common.{◌≡◌, ℕ, List, [], ◌∷◌, Option, Some, None, Bool, true, false, eqb, cond, refl, sym, ap, ◌∙◌, arith, inl, inr}
 use Rattle.std.specs.Prelude.{slice_get}
 use Rattle.marcel_core.specs.Homes.{joiner}
 use Rattle.std.proofs.lemmas.Bool.{eqb-true}
+use Rattle.rv_step.specs.Step.{State}
+use Rattle.rv_step.specs.declared.hart.Stop.{Stop}
+use Rattle.rv_step.specs.declared.hart.Stop.TheVariants as stops
 use Rattle.slot_space.specs.Sets.{has}
 use Rattle.slot_space.specs.declared.names.Tid.{Tid}
+use Rattle.slot_space.specs.declared.names.Reply.{Reply}
+use Rattle.marcel_core.specs.declared.birth.Birth.{Birth}
 use Rattle.marcel_core.specs.declared.end.End.{End}
+use Rattle.run_trace.specs.declared.call.Call.{Call}
 use Rattle.run_trace.specs.declared.entry.Entry.{Entry}
 use Rattle.run_trace.specs.declared.label.Label.{Label}
 use Rattle.run_trace.specs.declared.label.Label.TheVariants.{Born, Ran, Asked, Heard, Judged, Told, Took, Gave, Ended, Known, Left, Came, Lent, InHand, Decided, Returned, Home, Down, Burst, Gathered, Shown, Halted, Dropped}
 use Rattle.run_trace.specs.declared.label.Why.{Why}
 use Rattle.run_trace.specs.declared.label.Why.TheVariants as why
 use Rattle.run_trace.specs.Names.{is_tid}
-use Rattle.run_trace.specs.Program.{Program}
-use Rattle.run_trace.specs.Guests.{Guest, Thread, guest_slots}
+use Rattle.run_trace.specs.Program.{Program, code_of}
+use Rattle.run_trace.specs.Calls.{call_of, refusal}
+use Rattle.run_trace.specs.Guests.{Solo, Guest, Thread, waits, guest_slots, told, gives_slots, packed, unpacked}
+use Rattle.run_trace.specs.declared.packet.Body.{Body}
+use Rattle.run_trace.specs.declared.packet.Body.TheVariants.{Mover}
+use Rattle.run_trace.specs.declared.packet.Packet.{Packet}
+use Rattle.run_trace.specs.Keyed.{AreApart, item_of}
 use Rattle.run_trace.specs.Cluster.{Net}
-use Rattle.run_trace.specs.Rules.{spots_of, is_free}
-use Rattle.run_trace.specs.Spots.{Stage, Life, Unborn, On, Noting, Gone, Spot, Spots, Holder, Of_node, Of_thread, Nobody, update, creator_served, joiner_served, end_in, at_first, after_label, after_labels, judged_guest, second_of}
-use Rattle.run_trace.specs.Stands.{Stands, thread_part, thread_in_life, thread_in_stage, held, slots_held, is_thread}
-use Rattle.run_trace.specs.Alone.{Alone, alone_then, alone_after, alone_in, alone_of, subject, is_subject}
-use Rattle.run_trace.specs.Holding.{IsOn, Has}
-use Rattle.trace_laws.proofs.Tids.{is-true}
+use Rattle.run_trace.specs.Rules.{spots_of, is_free, IsBorn, JoinerAwaits, MayHear, MayJudge, MayTell, MayKnow, MayLeave, MayCome, MayShow, SoloRule, LifeRule, ObeyEach, Obey, quantum_in}
+use Rattle.run_trace.specs.Spots.{Stage, Life, Unborn, On, Moving, Noting, Gone, Response, Spot, Spots, Holder, Of_node, Of_thread, Nobody, update, creator_served, joiner_served, end_in, at_first, after_label, after_labels, stepped, ran_stage, ran_spot, passed_stage, asked_stage, heard_at, judged_life, judged_guest, told_stage, gave_life, shown_life, second_of}
+use Rattle.run_trace.specs.Stands.{Stands, thread_part, thread_in_life, thread_in_stage, held, slots_held, is_thread, Word, Travels, word_name, word_of, words_of, way_of, on_link}
+use Rattle.run_trace.specs.Alone.{Alone, alone_then, alone_after, alone_in, alone_of, asked_in, heap_call, unless_refused, answered, subject, is_subject, EachRunsAlone}
+use Rattle.run_trace.specs.Holding.{Place, On_node, On_link, IsAmong, IsAt, Has, EachHeldOnce}
+use Rattle.trace_laws.proofs.Tids.{is-true, is-refl}
+use Rattle.trace_laws.proofs.Parts.{Tells, on_way, at_way}
 
 -- ## A thread that is on a node, by its spot
 
@@ -38,6 +50,7 @@ on_node_is n t s x h = by s.life refl h
   where
     by : (life : Life) → s.life ≡ life → thread_in_life n life s.guest ≡ Some x → OnNode n s x
     by Unborn e g = absurd (cc g)
+    by (Moving m to) e g = absurd (cc g)
     by (Noting m end) e g = absurd (cc g)
     by (Gone end) e g = absurd (cc g)
     by (On m stage) e g = by_node (eqb m n) refl g
@@ -48,6 +61,60 @@ on_node_is n t s x h = by s.life refl h
             let parts = in_stage m stage s.guest x f in
             record { stage = stage; life = e ∙ ap (λ j. On j stage) same; guest = parts.0; slots = ap (λ z. slots_held (held z s.guest)) e ∙ parts.1 }
         by_node false k f = absurd (cc f)
+
+-- ## Where a thread is, its life and its guest are those that are told
+
+abbrev LivesAt : Place → Life → Type 0
+LivesAt (On_node n) life = (stage : Stage) × (life ≡ On n stage)
+LivesAt (On_link from to) life = life ≡ Moving from to
+
+record Found (place : Place) (s : Spot) (g : Guest) : Type 0 where
+  life : LivesAt place s.life
+  guest : s.guest ≡ g
+  slots : slots_held (held s.life s.guest) ≡ guest_slots g
+
+-- what a packet on a link says stands there once
+word_found : (j : ℕ) (ps : List Packet) (body : Body) → AreApart is_tid word_name (words_of j ps) → IsAmong body ps → item_of is_tid word_name (words_of j ps) (word_name (word_of j body)) ≡ Some (word_of j body)
+word_found j [] body a i = absurd i
+word_found j (x ∷ xs) body a i = elim i as (λ v. item_of is_tid word_name (words_of j (x ∷ xs)) t ≡ Some (word_of j body)) [
+  | inl e ↦ rw e (rw (is-refl t) refl)
+  | inr k ↦ by (is_tid t (word_name (word_of j x.body))) refl (word_found j xs body a.1 k)
+]
+  where
+    t : Tid
+    t = word_name (word_of j body)
+
+    by : (v : Bool) → is_tid t (word_name (word_of j x.body)) ≡ v → item_of is_tid word_name (words_of j xs) t ≡ Some (word_of j body) → cond v (Some (word_of j x.body)) (item_of is_tid word_name (words_of j xs) t) ≡ Some (word_of j body)
+    by true e f = absurd (cc (f, a.0, ap (item_of is_tid word_name (words_of j xs)) (is-true t (word_name (word_of j x.body)) e)))
+    by false e f = f
+
+found : (p : Program) (w : Spots) (net : Net) → Stands p w net → (place : Place) (t : Tid) (g : Guest) → IsAt net place t g → Found place (w.threads t) g
+found p w net s (On_node n) t g h =
+    let on : OnNode n (w.threads t) (waits h.0 g) = on_node_is n t (w.threads t) (waits h.0 g) (sym ((s.nodes n).threads.shows t) ∙ h.1) in
+    record { life = (on.stage, on.life); guest = on.guest; slots = on.slots }
+found p w net s (On_link i j) t g h =
+    let o : Spot = w.threads t in
+    let word : Word = Travels (packed t g) in
+    let item : on_link i j (way_of t o.life o.verdict o.guest) ≡ Some word = sym ((s.links i j).shows t) ∙ word_found j (net.links i j) (Mover (packed t g)) (s.links i j).apart h in
+    let tells : Tells t i j word o.life o.verdict o.guest = at_way t o.life o.verdict o.guest (record { from = i; to = j; word = word }) (on_way i j (way_of t o.life o.verdict o.guest) word item) in
+    let same : o.guest ≡ g = ap unpacked (sym tells.1) in
+    record { life = tells.0; guest = same; slots = ap (λ z. slots_held (held z o.guest)) tells.0 ∙ ap guest_slots same }
+
+lives_once : (a b : Place) (life : Life) → LivesAt a life → LivesAt b life → a ≡ b
+lives_once (On_node n) (On_node m) life h k = let same : On n h.0 ≡ On m k.0 = sym h.1 ∙ k.1 in let one : n ≡ m = cc same in ap On_node one
+lives_once (On_link i j) (On_link k l) life x y =
+    let same : Moving i j ≡ Moving k l = sym x ∙ y in
+    let from : i ≡ k = cc same in let to : j ≡ l = cc same in
+    ap (λ z. On_link z j) from ∙ ap (λ z. On_link k z) to
+lives_once (On_node n) (On_link i j) life h k = absurd (cc (h.1, k))
+lives_once (On_link i j) (On_node m) life h k = absurd (cc (h, k.1))
+
+-- no thread is at two places
+pub one_place : (p : Program) (w : Spots) (net : Net) → Stands p w net → (t : Tid) (a b : Place) (g h : Guest) → IsAt net a t g → IsAt net b t h → (a ≡ b) × (g ≡ h)
+one_place p w net s t a b g h x y =
+    let one : Found a (w.threads t) g = found p w net s a t g x in
+    let other : Found b (w.threads t) h = found p w net s b t h y in
+    (lives_once a b (w.threads t).life one.life other.life, sym one.guest ∙ other.guest)
 
 -- ## No slot has two holders
 
@@ -62,90 +129,149 @@ thread_is t (Of_node n) e = absurd (cc e)
 thread_is t Nobody e = absurd (cc e)
 
 -- whoever has a slot is its holder by the labels
-pub has_is : (p : Program) (w : Spots) (net : Net) → Stands p w net → (slot : ℕ) (h : Holder) → Has net slot h → h ≡ w.slots slot
+has_is : (p : Program) (w : Spots) (net : Net) → Stands p w net → (slot : ℕ) (h : Holder) → Has net slot h → h ≡ w.slots slot
 has_is p w net s slot (Of_node n) k = free_is n (w.slots slot) (sym ((s.nodes n).own slot) ∙ k)
 has_is p w net s slot (Of_thread t) k =
-    let on : OnNode k.0 (w.threads t) k.1 = on_node_is k.0 t (w.threads t) k.1 (sym ((s.nodes k.0).threads.shows t) ∙ k.2) in
-    thread_is t (w.slots slot) (sym (s.agrees.slots t slot) ∙ ap (has slot) on.slots ∙ k.3)
+    let at : Found k.0 (w.threads t) k.1 = found p w net s k.0 t k.1 k.2 in
+    thread_is t (w.slots slot) (sym (s.agrees.slots t slot) ∙ ap (has slot) at.slots ∙ k.3)
 has_is p w net s slot Nobody k = absurd k
 
-pub one_holder : (p : Program) (w : Spots) (net : Net) → Stands p w net → (slot : ℕ) (a b : Holder) → Has net slot a → Has net slot b → a ≡ b
+pub one_holder : (p : Program) (w : Spots) (net : Net) → Stands p w net → EachHeldOnce net
 one_holder p w net s slot a b h k = has_is p w net s slot a h ∙ sym (has_is p w net s slot b k)
-
--- no thread is on two nodes
-pub one_place : (p : Program) (w : Spots) (net : Net) → Stands p w net → (t : Tid) (n m : ℕ) (x y : Thread) → IsOn net n t x → IsOn net m t y → n ≡ m
-one_place p w net s t n m x y h k =
-    let a : OnNode n (w.threads t) x = on_node_is n t (w.threads t) x (sym ((s.nodes n).threads.shows t) ∙ h) in
-    let b : OnNode m (w.threads t) y = on_node_is m t (w.threads t) y (sym ((s.nodes m).threads.shows t) ∙ k) in
-    cc (sym a.life ∙ b.life)
 
 -- ## A thread is its code run alone
 
-other_life : (w : Tid → Spot) (by t : Tid) (life : Life) → alone_in (update w by (record (w by) { life = life }) t) ≡ alone_in (w t)
-other_life w by t life = elim (is_tid by t) as (λ b. is_tid by t ≡ b → alone_in (cond b (record (w by) { life = life }) (w t)) ≡ alone_in (w t)) [ true ↦ λ e. ap (λ z. alone_in (w z)) (is-true by t e) | false ↦ λ e. refl ] refl
+-- what a thread has alone, asking this
+abbrev asking : Spot → Option Call → Alone
+asking s asked = record { solo = s.guest.solo; asked = asked; reply = s.verdict }
 
-served_creator : (n : ℕ) (u : Tid) (why : Why) (w : Tid → Spot) (t : Tid) → alone_in (creator_served n u why w t) ≡ alone_in (w t)
-served_creator n u why.Main w t = refl
-served_creator n u (why.Create by) w t = other_life w by t _
-served_creator n u (why.Inside by bubble) w t = refl
-served_creator n u (why.Service by count) w t = refl
+other_life : (w : Tid → Spot) (by t : Tid) (life : Life) → asked_in life ≡ asked_in (w by).life → alone_in (update w by (record (w by) { life = life }) t) ≡ alone_in (w t)
+other_life w by t life h = elim (is_tid by t) as (λ b. is_tid by t ≡ b → alone_in (cond b (record (w by) { life = life }) (w t)) ≡ alone_in (w t)) [
+  | true ↦ λ e. ap (asking (w by)) h ∙ ap (λ z. alone_in (w z)) (is-true by t e)
+  | false ↦ λ e. refl
+] refl
 
-served_joiner : (u : Tid) (end : End) (o : Option (Tid × ℕ)) (w : Tid → Spot) (t : Tid) → alone_in (joiner_served u end o w t) ≡ alone_in (w t)
-served_joiner u end None w t = refl
-served_joiner u end (Some by) w t = other_life w by.0 t _
+-- a creator asks nothing of its heap
+served_creator : (p : Program) (n : ℕ) (u : Tid) (why : Why) (entry a0 : ℕ) (w : Spots) (t : Tid) → IsBorn p n why entry a0 w → alone_in (creator_served n u why w.threads t) ≡ alone_in (w.threads t)
+served_creator p n u why.Main entry a0 w t h = refl
+served_creator p n u (why.Create by) entry a0 w t h = other_life w.threads by t _ (sym (ap asked_in h.1))
+served_creator p n u (why.Inside by bubble) entry a0 w t h = refl
+served_creator p n u (why.Service by count) entry a0 w t h = refl
+
+-- neither does a joiner
+served_joiner : (u : Tid) (end : End) (o : Option (Tid × ℕ)) (w : Spots) (t : Tid) → JoinerAwaits u o w → alone_in (joiner_served u end o w.threads t) ≡ alone_in (w.threads t)
+served_joiner u end None w t h = refl
+served_joiner u end (Some by) w t h = other_life w.threads by.0 t _ (sym (ap asked_in h))
 
 -- a change of u's spot, as t sees it
-seen : (w : Tid → Spot) (u t : Tid) (s : Spot) (f : Alone → Alone) → alone_in s ≡ f (alone_in (w u)) → alone_in (update w u s t) ≡ cond (is_tid u t) (f (alone_in (w t))) (alone_in (w t))
-seen w u t s f h = elim (is_tid u t) as (λ b. is_tid u t ≡ b → alone_in (cond b s (w t)) ≡ cond b (f (alone_in (w t))) (alone_in (w t))) [ true ↦ λ e. h ∙ ap (λ z. f (alone_in (w z))) (is-true u t e) | false ↦ λ e. refl ] refl
+seen : (w : Tid → Spot) (u t : Tid) (s : Spot) (f : Tid → Alone → Alone) → alone_in s ≡ f u (alone_in (w u)) → alone_in (update w u s t) ≡ cond (is_tid u t) (f t (alone_in (w t))) (alone_in (w t))
+seen w u t s f h = elim (is_tid u t) as (λ b. is_tid u t ≡ b → alone_in (cond b s (w t)) ≡ cond b (f t (alone_in (w t))) (alone_in (w t))) [ true ↦ λ e. h ∙ ap (λ z. f z (alone_in (w z))) (is-true u t e) | false ↦ λ e. refl ] refl
 
-same_either : (b : Bool) (a : Alone) → cond b a a ≡ a
-same_either true a = refl
-same_either false a = refl
+-- one that asks nothing before and nothing after
+seen_so : (w : Tid → Spot) (u t : Tid) (life : Life) → asked_in life ≡ asked_in (w u).life → alone_in (update w u (record (w u) { life = life }) t) ≡ cond (is_tid u t) (alone_in (w t)) (alone_in (w t))
+seen_so w u t life h = seen w u t (record (w u) { life = life }) (λ z a. a) (ap (asking (w u)) h)
 
--- a reply changes no register and no byte
-judged_state : (life : Life) (g : Guest) → (judged_guest life g).solo.state ≡ g.solo.state
-judged_state life g = grind arith
+ran_asks : (n : ℕ) (stop : Stop) (s : State) → asked_in (On n (ran_stage stop s)) ≡ None
+ran_asks n stops.Quantum s = refl
+ran_asks n stops.Call s = refl
+ran_asks n (stops.Fault kind) s = refl
 
-label_alone : (p : Program) (n : ℕ) (l : Label) (w : Spots) (t : Tid) → alone_in ((after_label p n l w).threads t) ≡ cond (is_subject t (subject l)) (alone_then p l (alone_in (w.threads t))) (alone_in (w.threads t))
-label_alone p n (Born u why entry a0 a1 sp slot) w t =
-    seen (creator_served n u why w.threads) u t _ (λ a. alone_then p (Born u why entry a0 a1 sp slot) a) refl
-    ∙ ap (λ a. cond (is_tid u t) (alone_then p (Born u why entry a0 a1 sp slot) a) a) (served_creator n u why w.threads t)
-label_alone p n (Ran u vp count stop) w t = seen w.threads u t _ (λ a. alone_then p (Ran u vp count stop) a) refl
-label_alone p n (Asked u call args bytes) w t = seen w.threads u t _ (λ a. a) refl
-label_alone p n (Heard u) w t = seen w.threads u t _ (λ a. a) refl
-label_alone p n (Judged u reply extra) w t = seen w.threads u t _ (λ a. alone_then p (Judged u reply extra) a) (ap (λ z. record { state = z; reply = record { code = reply; second = second_of extra } }) (judged_state (w.threads u).life (w.threads u).guest))
-label_alone p n (Told u) w t = seen w.threads u t _ (λ a. alone_then p (Told u) a) refl
-label_alone p n (Gave u slots) w t = seen w.threads u t _ (λ a. alone_then p (Gave u slots) a) refl
-label_alone p n (Ended u end) w t = seen w.threads u t _ (λ a. a) refl
-label_alone p n (Known u) w t =
+passed_asks : (p : Program) (n : ℕ) (t : Tid) (x : Solo) (c : Call) → asked_in (On n (passed_stage p n t x c)) ≡ heap_call c
+passed_asks p n t x c = grind arith
+
+call_asks : (p : Program) (n : ℕ) (t : Tid) (x : Solo) (c : Call) (r : Option Reply) → asked_in (On n (asked_stage p n t x c r)) ≡ unless_refused r (heap_call c)
+call_asks p n t x c None = passed_asks p n t x c
+call_asks p n t x c (Some reply) = refl
+
+heard_asks : (n : ℕ) (births : ℕ → List Birth) (life : Life) → MayHear n life → asked_in (heard_at births life) ≡ asked_in life
+heard_asks n births life h = grind (arith, h)
+
+judged_asks : (n : ℕ) (life : Life) → MayJudge n life → asked_in (judged_life life) ≡ None
+judged_asks n life h = grind (arith, h)
+
+judged_solo : (life : Life) (g : Guest) → (judged_guest life g).solo ≡ answered (asked_in life) g.solo
+judged_solo life g = grind arith
+
+tell_asks : (n : ℕ) (life : Life) → MayTell n life → asked_in life ≡ None
+tell_asks n life h = grind (arith, h)
+
+told_asks : (n : ℕ) (life : Life) → asked_in (On n (told_stage life)) ≡ None
+told_asks n life = grind arith
+
+gave_asks : (life : Life) → asked_in (gave_life life) ≡ asked_in life
+gave_asks life = grind arith
+
+known_asks : (life : Life) → MayKnow life → asked_in life ≡ None
+known_asks life h = grind (arith, h)
+
+shown_asks : (n : ℕ) (life : Life) → MayShow n life → asked_in (shown_life life) ≡ asked_in life
+shown_asks n life h = grind (arith, h)
+
+leave_asks : (n to : ℕ) (life : Life) → MayLeave n to life → asked_in life ≡ None
+leave_asks n to life h = grind (arith, h)
+
+come_asks : (n : ℕ) (life : Life) → MayCome n life → asked_in life ≡ None
+come_asks n life h = grind (arith, h)
+
+label_alone : (p : Program) (q n : ℕ) (l : Label) (w : Spots) (t : Tid) → SoloRule p q n l w → LifeRule p q n l w
+    → alone_in ((after_label p n l w).threads t) ≡ cond (is_subject t (subject l)) (alone_then p t l (alone_in (w.threads t))) (alone_in (w.threads t))
+label_alone p q n (Born u why entry a0 a1 sp slot) w t solo life =
+    seen (creator_served n u why w.threads) u t _ (λ z a. alone_then p z (Born u why entry a0 a1 sp slot) a) refl
+    ∙ ap (λ a. cond (is_tid u t) (alone_then p t (Born u why entry a0 a1 sp slot) a) a) (served_creator p n u why entry a0 w t solo.0)
+label_alone p q n (Ran u vp count stop) w t solo life =
+    let next : State = stepped (code_of p) count (w.threads u).guest.solo.state in
+    seen w.threads u t _ (λ z a. alone_then p z (Ran u vp count stop) a) (ap (asking (ran_spot p n count stop (w.threads u))) (ran_asks n stop next ∙ sym (ap asked_in life)))
+label_alone p q n (Asked u call args bytes) w t solo life =
+    let x : Solo = (w.threads u).guest.solo in
+    seen w.threads u t _ (λ z a. alone_then p z (Asked u call args bytes) a) (ap (asking (w.threads u)) (call_asks p n u x (call_of x.state) (refusal p u x (call_of x.state))))
+label_alone p q n (Heard u) w t solo life = seen_so w.threads u t _ (heard_asks n w.births (w.threads u).life life)
+label_alone p q n (Judged u reply extra) w t solo life =
+    let o : Spot = w.threads u in
+    let v : Response = record { code = reply; second = second_of extra } in
+    seen w.threads u t _ (λ z a. alone_then p z (Judged u reply extra) a)
+    (ap (λ z. record { solo = (judged_guest o.life o.guest).solo; asked = z; reply = v }) (judged_asks n o.life life)
+    ∙ ap (λ z. record { solo = z; asked = None; reply = v }) (judged_solo o.life o.guest))
+label_alone p q n (Told u) w t solo life =
+    let o : Spot = w.threads u in
+    seen w.threads u t _ (λ z a. alone_then p z (Told u) a)
+    (ap (λ z. record { solo = (told o.verdict.code o.verdict.second o.guest).solo; asked = z; reply = o.verdict }) (told_asks n o.life ∙ sym (tell_asks n o.life life)))
+label_alone p q n (Took u first count) w t solo life = seen w.threads u t _ (λ z a. alone_then p z (Took u first count) a) refl
+label_alone p q n (Gave u slots) w t solo life =
+    let o : Spot = w.threads u in
+    seen w.threads u t _ (λ z a. alone_then p z (Gave u slots) a)
+    (ap (λ z. record { solo = (gives_slots slots o.guest).solo; asked = z; reply = o.verdict }) (gave_asks o.life))
+label_alone p q n (Ended u end) w t solo life = seen_so w.threads u t _ (sym (ap asked_in life))
+label_alone p q n (Known u) w t solo life =
     let end : End = end_in (w.threads u).life in
     let o : Option (Tid × ℕ) = joiner (slice_get (w.births u.home) u.seq) in
-    seen (joiner_served u end o w.threads) u t _ (λ a. a) (sym (served_joiner u end o w.threads u))
-    ∙ ap (λ a. cond (is_tid u t) a a) (served_joiner u end o w.threads t)
-label_alone p n (Shown u) w t = seen w.threads u t _ (λ a. a) refl
-label_alone p n (Halted u) w t = seen w.threads u t _ (λ a. a) refl
-label_alone p n (Took u first count) w t = seen w.threads u t _ (λ a. alone_then p (Took u first count) a) refl
-label_alone p n (Left u to) w t = sym (same_either (is_tid u t) _)
-label_alone p n (Came u) w t = sym (same_either (is_tid u t) _)
-label_alone p n (Decided u count first) w t = sym (same_either (is_tid u t) _)
-label_alone p n (Dropped u count reply) w t = sym (same_either (is_tid u t) _)
-label_alone p n (Lent to slots) w t = refl
-label_alone p n (InHand lender slots) w t = refl
-label_alone p n (Returned to slots) w t = refl
-label_alone p n (Home slots) w t = refl
-label_alone p n (Down bubble list) w t = refl
-label_alone p n (Burst bubble list) w t = refl
-label_alone p n (Gathered bubble count) w t = refl
+    seen (joiner_served u end o w.threads) u t _ (λ z a. a)
+    (ap (asking (w.threads u)) (sym (known_asks (w.threads u).life life.0)) ∙ sym (served_joiner u end o w u life.2))
+    ∙ ap (λ a. cond (is_tid u t) a a) (served_joiner u end o w t life.2)
+label_alone p q n (Shown u) w t solo life = seen_so w.threads u t _ (shown_asks n (w.threads u).life life)
+label_alone p q n (Halted u) w t solo life = seen_so w.threads u t _ (sym (ap asked_in life))
+label_alone p q n (Left u to) w t solo life = seen_so w.threads u t _ (sym (leave_asks n to (w.threads u).life life.0))
+label_alone p q n (Came u) w t solo life = seen_so w.threads u t _ (sym (come_asks n (w.threads u).life life))
+label_alone p q n (Decided u count first) w t solo life = absurd life
+label_alone p q n (Dropped u count reply) w t solo life = absurd life
+label_alone p q n (Lent to slots) w t solo life = absurd life
+label_alone p q n (InHand lender slots) w t solo life = absurd life
+label_alone p q n (Returned to slots) w t solo life = absurd life
+label_alone p q n (Home slots) w t solo life = absurd life
+label_alone p q n (Down bubble list) w t solo life = absurd life
+label_alone p q n (Burst bubble list) w t solo life = absurd life
+label_alone p q n (Gathered bubble count) w t solo life = absurd life
 
-labels_alone : (p : Program) (n : ℕ) (ls : List Label) (w : Spots) (t : Tid) → alone_in ((after_labels p n ls w).threads t) ≡ alone_after p t ls (alone_in (w.threads t))
-labels_alone p n [] w t = refl
-labels_alone p n (l ∷ ls) w t = labels_alone p n ls (after_label p n l w) t ∙ ap (alone_after p t ls) (label_alone p n l w t)
+labels_alone : (p : Program) (q n : ℕ) (ls : List Label) (w : Spots) (t : Tid) → ObeyEach SoloRule p q n ls w → ObeyEach LifeRule p q n ls w
+    → alone_in ((after_labels p n ls w).threads t) ≡ alone_after p t ls (alone_in (w.threads t))
+labels_alone p q n [] w t solo life = refl
+labels_alone p q n (l ∷ ls) w t solo life = labels_alone p q n ls (after_label p n l w) t solo.1 life.1 ∙ ap (alone_after p t ls) (label_alone p q n l w t solo.0 life.0)
 
-pub spots_alone : (p : Program) (lines : List Entry) (t : Tid) → alone_in ((spots_of p (at_first p) lines).threads t) ≡ alone_of p t lines
-spots_alone p [] t = refl
-spots_alone p (x ∷ xs) t = labels_alone p x.node x.labels (spots_of p (at_first p) xs) t ∙ ap (alone_after p t x.labels) (spots_alone p xs t)
+spots_alone : (p : Program) (lines : List Entry) (t : Tid) → Obey SoloRule p (at_first p) lines → Obey LifeRule p (at_first p) lines
+    → alone_in ((spots_of p (at_first p) lines).threads t) ≡ alone_of p t lines
+spots_alone p [] t solo life = refl
+spots_alone p (x ∷ xs) t solo life = labels_alone p (quantum_in x.act) x.node x.labels (spots_of p (at_first p) xs) t solo.1 life.1 ∙ ap (alone_after p t x.labels) (spots_alone p xs t solo.0 life.0)
 
-pub runs_alone : (p : Program) (lines : List Entry) (net : Net) → Stands p (spots_of p (at_first p) lines) net → (t : Tid) (n : ℕ) (x : Thread) → IsOn net n t x → x.guest.solo.state ≡ (alone_of p t lines).state
-runs_alone p lines net s t n x h =
-    let on : OnNode n ((spots_of p (at_first p) lines).threads t) x = on_node_is n t _ x (sym ((s.nodes n).threads.shows t) ∙ h) in
-    ap (λ (g : Guest). g.solo.state) (sym on.guest) ∙ ap (λ (a : Alone). a.state) (spots_alone p lines t)
+pub runs_alone : (p : Program) (lines : List Entry) (net : Net) → Obey SoloRule p (at_first p) lines → Obey LifeRule p (at_first p) lines → Stands p (spots_of p (at_first p) lines) net → EachRunsAlone p net lines
+runs_alone p lines net solo life s t place g h =
+    let at : Found place ((spots_of p (at_first p) lines).threads t) g = found p _ net s place t g h in
+    ap (λ (z : Guest). z.solo) (sym at.guest) ∙ ap (λ (a : Alone). a.solo) (spots_alone p lines t solo life)

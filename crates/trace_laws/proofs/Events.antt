@@ -1,7 +1,8 @@
 -- Calls and runs, composed of their steps.
-use Rattle.std.proofs.Common.{◌≡◌, ℕ, List, [], ◌∷◌, Option, Some, None, true, refl, sym, ap, ◌∙◌, subst}
+use Rattle.std.proofs.Common.{◌≡◌, ℕ, ◌<◌, List, [], ◌∷◌, Option, Some, None, Bool, true, false, eqb, cond, refl, sym, ap, ◌∙◌, subst, arith}
 use Rattle.std.specs.Prelude.{nat_lt}
-use Rattle.std.proofs.lemmas.Bool.{eq-eqb}
+use Rattle.std.proofs.lemmas.Bool.{eq-eqb, eqb-false}
+use Rattle.std.proofs.lemmas.Bool.Decides.{nat_tests}
 use Rattle.slot_space.specs.Replies.{reply_code}
 use Rattle.slot_space.specs.declared.names.Tid.{Tid}
 use Rattle.slot_space.specs.declared.names.Reply.{Reply}
@@ -13,21 +14,25 @@ use Rattle.run_trace.specs.Names.{tid_of}
 use Rattle.run_trace.specs.Program.{Program, nodes_of}
 use Rattle.run_trace.specs.Guests.{Guest, Solo, Thread, Run, waits, with_state}
 use Rattle.run_trace.specs.declared.call.Call.{Call}
-use Rattle.run_trace.specs.declared.call.Call.TheVariants.{Exit, Name, Node, Nodes, Yield, Create, Join, Isomalloc, Isofree, Print, Halt, Unknown}
+use Rattle.run_trace.specs.declared.call.Call.TheVariants.{Exit, Name, Node, Nodes, Yield, Create, Join, Isomalloc, Isofree, MigrateSelf, Print, Halt, Unknown}
 use Rattle.run_trace.specs.Calls.{call_of, refusal, bytes_of, said_bytes}
 use Rattle.run_trace.specs.Local.{Doing}
 use Rattle.run_trace.specs.Steps.{at_found, at_thread, thread_at, ran, asks, asks_show, asks_join}
 use Rattle.run_trace.specs.Rules.{asked_causes}
-use Rattle.run_trace.specs.Machine.{answer, end_thread, creates, creates_in, free_slot, calls, stopped, run_thread}
+use Rattle.run_trace.specs.Machine.{answer, end_thread, creates, creates_in, free_slot, goes, migrates, calls, stopped, run_thread}
 use Rattle.run_trace.specs.Cluster.{Net}
-use Rattle.run_trace.specs.Spots.{Stage, Ready, Running, Due, Served, Ends, Halts, On, Spot, Spots, ran_stage, asked_stage, stage_of_call}
+use Rattle.run_trace.specs.Spots.{Stage, Ready, Running, Due, Served, Departs, Ends, Halts, On, Spot, Spots, ran_stage, asked_stage, stage_of_call}
 use Rattle.run_trace.specs.Stands.{Busy, busy, is_busy, thread_in_stage, row_in_stage, held_in_stage, holding_of}
 use Rattle.trace_laws.proofs.Parts.{is_home}
 use Rattle.trace_laws.proofs.Midst.{Links, Midst, Keeps, keeps, spots_at}
-use Rattle.trace_laws.proofs.Steps.{in_hand, on_node, ran_there, at_ok, answer_ok, refuse_ok, asks_ok, asks_show_ok, asks_join_ok, halts_ok, ran_ok, ran_guest, runs_out_ok, run_now, solo_at, bytes_at}
+use Rattle.trace_laws.proofs.Steps.{in_hand, on_node, ran_there, at_ok, answer_ok, answer_move_ok, answer_stay_ok, departs_ok, refuse_ok, asks_ok, asks_show_ok, asks_join_ok, halts_ok, ran_ok, ran_guest, runs_out_ok, run_now, solo_at, bytes_at}
 use Rattle.trace_laws.proofs.Lifetimes.{end_thread_ok, born_ok, lowest_is}
 use Rattle.trace_laws.proofs.HeapSteps.{allocates_ok, frees_ok}
 use Rattle.trace_laws.proofs.Heaps.{frees_well}
+
+-- the checks of a move refuse what is no node
+goes_inside : (p : Program) (t : Tid) (x : Solo) (to : ℕ) → refusal p t x (MigrateSelf to) ≡ None → to < nodes_of p
+goes_inside p t x to h = grind (arith, nat_tests, h)
 
 module _ (p : Program) (net : Net) (q n : ℕ) (w : Spots) (L : Links) (below : nat_lt n (nodes_of p) ≡ true) where
   abbrev Is : Doing → List Busy → Type 0
@@ -43,6 +48,17 @@ module _ (p : Program) (net : Net) (q n : ℕ) (w : Spots) (L : Links) (below : 
       by : (o : Option ℕ) → free_slot d.node.slots.own ≡ o → Is (creates_in n t e a k o d) []
       by None f = refuse_ok p net q n w L d t e a k [] m (lowest_is n 1 (spots_at p net q n w d) d.node _ m.here ∙ f)
       by (Some slot) f = answer_ok p net q n w L _ t _ [] (born_ok p net q n w L below d t e a k slot [] m f)
+
+  -- a thread that goes to another node is answered first, and one that asks for its own is answered alone
+  migrates_ok : (d : Doing) (t : Tid) (to : ℕ) → Is d (busy t (On n (Served (MigrateSelf to))) ∷ []) → to < nodes_of p → Is (migrates p n to t (answer t 0 d)) []
+  migrates_ok d t to m inside = by (eqb to n) refl
+    where
+      by : (v : Bool) → eqb to n ≡ v → Is (cond v (answer t 0 d) (at_thread t (goes p t to) (answer t 0 d))) []
+      by true e = answer_stay_ok p net q n w L d t to [] m e
+      by false e =
+          let k : Is (answer t 0 d) (busy t (On n (Departs to)) ∷ []) = answer_move_ok p net q n w L d t to [] m e in
+          at_ok p net q n w L (answer t 0 d) _ [] t (Departs to) (goes p t to) k (in_hand p net q n w L (answer t 0 d) t (On n (Departs to)) [] k) refl
+          (departs_ok p net q n w L (answer t 0 d) t to [] k inside (eqb-false to n e))
 
   -- a call, from the thread that runs
   pub calls_ok : (d : Doing) (t : Tid) → Is d (busy t (On n Running) ∷ []) → Is (stopped p n t stops.Call (waits wait.No (spot d t).guest) d) []
@@ -99,6 +115,9 @@ module _ (p : Program) (net : Net) (q n : ℕ) (w : Spots) (L : Links) (below : 
       by (Isofree address) e None f =
           let k = asked (Isofree address) None (Served (Isofree address)) e f refl refl refl refl (eq-eqb n n refl) refl refl (record { slots = refl; well = λ h. frees_well (spot d t).guest address h }) in
           then (Isofree address) (Served (Isofree address)) _ k refl (frees_ok p net q n w L (asks t (Isofree address) d) t address [] k)
+      by (MigrateSelf to) e None f = migrates_ok (asks t (MigrateSelf to) d) t to
+          (asked (MigrateSelf to) None (Served (MigrateSelf to)) e f refl refl refl refl (eq-eqb n n refl) refl refl (keeps _ _ refl))
+          (goes_inside p t s to (ap (refusal p t s) (sym e) ∙ f))
       by Halt e None f =
           let k = asked Halt None Halts e f refl refl refl refl (eq-eqb n n refl) refl refl (keeps _ _ refl) in
           then Halt Halts _ k refl (halts_ok p net q n w L (asks t Halt d) t [] k)

@@ -1,5 +1,6 @@
 -- The first label of an event stays its first: steps say theirs after it.
-use Rattle.std.proofs.Common.{ℕ, List, [], ◌∷◌, ◌++◌, Option, Some, None, refl}
+use Rattle.std.proofs.Common.{ℕ, List, [], ◌∷◌, ◌++◌, Option, Some, None, true, false, eqb, cond, refl}
+use Rattle.std.specs.Prelude.{nat_lt}
 use Rattle.slot_space.specs.declared.names.Tid.{Tid}
 use Rattle.slot_space.specs.declared.names.Reply.{Reply}
 use Rattle.marcel_core.specs.declared.end.End.{End}
@@ -8,14 +9,14 @@ use Rattle.rv_step.specs.declared.hart.Stop.TheVariants as stops
 use Rattle.run_trace.specs.declared.label.Label.{Label}
 use Rattle.run_trace.specs.declared.label.Label.TheVariants.{Ran}
 use Rattle.run_trace.specs.declared.label.Why.{Why}
-use Rattle.run_trace.specs.Program.{Program}
+use Rattle.run_trace.specs.Program.{Program, nodes_of}
 use Rattle.iso_blocks.specs.Heap.{emptied}
 use Rattle.run_trace.specs.Guests.{Guest, Thread, Run, heap_of}
 use Rattle.run_trace.specs.declared.call.Call.{Call}
-use Rattle.run_trace.specs.declared.call.Call.TheVariants.{Exit, Name, Node, Nodes, Yield, Create, Join, Isomalloc, Isofree, Print, Halt, Unknown}
+use Rattle.run_trace.specs.declared.call.Call.TheVariants.{Exit, Name, Node, Nodes, Yield, Create, Join, Isomalloc, Isofree, MigrateSelf, Print, Halt, Unknown}
 use Rattle.run_trace.specs.Local.{Local, Doing, nothing}
-use Rattle.run_trace.specs.Steps.{thread_at, at_found, at_thread, say, put, arrive, take_off, keep, thread_in, thread_out, slots_out, slots_in, name_in, halt, birth, ran, asks, asks_show, asks_join, halts, judge, tell, tell_found, settle, takes_run, returns, gives, ends}
-use Rattle.run_trace.specs.Machine.{answer, settles, places, allocates_with, returns_any, frees_block, frees, end_thread, creates_in, does, calls, stopped, run_thread}
+use Rattle.run_trace.specs.Steps.{thread_at, at_found, at_thread, say, put, arrive, take_off, keep, thread_in, thread_out, slots_out, slots_in, name_in, halt, birth, ran, asks, asks_show, asks_join, halts, judge, tell, tell_found, settle, takes_run, returns, gives, ends, leaves}
+use Rattle.run_trace.specs.Machine.{answer, settles, places, allocates_with, returns_any, frees_block, frees, end_thread, creates_in, goes, migrates, does, calls, stopped, run_thread}
 use Rattle.run_trace.specs.Rules.{RunsFirst}
 
 append-first : (t : Tid) (vp : ℕ) (ls more : List Label) → RunsFirst t vp ls → RunsFirst t vp (ls ++ more)
@@ -99,6 +100,16 @@ module _ (t : Tid) (vp : ℕ) where
   free-first : (u : Tid) (address : ℕ) (x : Thread) (d : Doing) → First d → First (frees u address x d)
   free-first u address x d h = at-first (frees_block u address) (frees-block-first u address) u (returns_any u (emptied (heap_of x.guest.solo) address) x.guest d) (return-first u (emptied (heap_of x.guest.solo) address) x.guest d h)
 
+  leave-first : (u : Tid) (to : ℕ) (x : Thread) (d : Doing) → First d → First (leaves u to x d)
+  unfolding leaves put say thread_out take_off
+  leave-first u to x d h = append-first t vp d.labels _ h
+
+  go-first : (p : Program) (u : Tid) (to : ℕ) (x : Thread) (d : Doing) → First d → First (goes p u to x d)
+  go-first p u to x d h = elim (nat_lt u.home (nodes_of p)) as (λ v. First (cond v (leaves u to x d) d)) [ true ↦ leave-first u to x d h | false ↦ h ]
+
+  migrate-first : (p : Program) (me to : ℕ) (u : Tid) (d : Doing) → First d → First (migrates p me to u d)
+  migrate-first p me to u d h = elim (eqb to me) as (λ v. First (cond v d (at_thread u (goes p u to) d))) [ true ↦ h | false ↦ at-first (goes p u to) (go-first p u to) u d h ]
+
   does-first : (p : Program) (me : ℕ) (u : Tid) (c : Call) (bytes : List ℕ) (d : Doing) → First d → First (does p me u c bytes d)
   does-first p me u (Exit value) bytes d h = at-first _ (λ x e k. end-first u x _ e k) u _ (asks-first u (Exit value) d h)
   does-first p me u Name bytes d h = answer-first u _ _ (asks-first u Name d h)
@@ -109,6 +120,7 @@ module _ (t : Tid) (vp : ℕ) where
   does-first p me u (Join name) bytes d h = at-first _ (λ x e k. join-first u (Join name) _ x e k) u d h
   does-first p me u (Isomalloc len) bytes d h = at-first _ (λ x e k. allocate-first u _ _ x e k) u _ (asks-first u (Isomalloc len) d h)
   does-first p me u (Isofree address) bytes d h = at-first _ (free-first u address) u _ (asks-first u (Isofree address) d h)
+  does-first p me u (MigrateSelf to) bytes d h = migrate-first p me to u _ (answer-first u 0 _ (asks-first u (MigrateSelf to) d h))
   does-first p me u (Print address len) bytes d h = at-first _ (λ x e k. show-first u (Print address len) _ x e k) u d h
   does-first p me u Halt bytes d h = at-first _ (λ x e k. halt-first u x e k) u _ (asks-first u Halt d h)
   does-first p me u (Unknown number) bytes d h = answer-first u _ _ (asks-first u (Unknown number) d h)

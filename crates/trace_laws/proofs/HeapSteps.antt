@@ -65,7 +65,7 @@ module _ (p : Program) (net : Net) (q n : ℕ) (w : Spots) (L : Links) where
       let g : Guest = (spot d t).guest in
       let x : (spot d t).life ≡ On n (Served (Isomalloc len)) = in_hand p net q n w L d t (On n (Served (Isomalloc len))) hs m in
       let address : Option ℕ = place (heap_of g.solo) (rounded len) in
-      settles_ok p net q n w L d t (place_code address) (with_placed (rounded len) address g) (Isomalloc len) hs m refl
+      settles_ok p net q n w L d t (place_code address) (with_placed (rounded len) address g) (Isomalloc len) hs m refl refl
       (record { solo = tt; holders = tt; life = rw x refl; replies = rw x (refl, refl); grants = rw x full })
       (record { slots = refl; well = λ h. placed_well g (rounded len) address refl h })
 
@@ -184,7 +184,7 @@ module _ (p : Program) (net : Net) (q n : ℕ) (w : Spots) (L : Links) where
   freed_ok d t address hs m none =
       let x : (spot d t).life ≡ On n (Served (Isofree address)) = in_hand p net q n w L d t (On n (Served (Isofree address))) hs m in
       at_ok p net q n w L d _ hs t (Served (Isofree address)) (frees_block t address) m x refl
-      (settles_ok p net q n w L d t 0 (without_block address (spot d t).guest) (Isofree address) hs m refl
+      (settles_ok p net q n w L d t 0 (without_block address (spot d t).guest) (Isofree address) hs m refl refl
       (record { solo = tt; holders = tt; life = rw x refl; replies = rw x ((refl, none), refl); grants = rw x tt })
       (keeps _ _ refl))
 

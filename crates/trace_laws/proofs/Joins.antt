@@ -21,6 +21,7 @@ use Rattle.run_trace.specs.Machine.{judges_join, tells_joiner}
 use Rattle.run_trace.specs.Cluster.{Net}
 use Rattle.run_trace.specs.Keyed.{StandsFor}
 use Rattle.run_trace.specs.Spots.{Stays, Asks, Awaits, Answers, Life, Unborn, On, Noting, Gone, Spot, Spots, update, at_node, heard_life, heard_at, joined_at, end_in, joiner_served}
+use Rattle.run_trace.specs.Rules.{JoinerAwaits}
 use Rattle.run_trace.specs.Stands.{Agrees, Busy, busy, busy_name, is_busy, busy_part, thread_part, thread_in_life, row_part, row_in_life, listed, listed_name, Joins, Ended_word, way_of, phase_of, phase_at, During, After, held, holding_of, slots_held, IsWellHeld, is_thread}
 use Rattle.trace_laws.proofs.Tids.{is-true, is-refl, is-false, is-other, same_name}
 use Rattle.trace_laws.proofs.KeyedLemmas.{kept, fronted, map_kept}
@@ -134,7 +135,7 @@ module _ (p : Program) (net : Net) (q n : ℕ) (w : Spots) (L : Links) where
       → heard_life from (tid n seq) (verdict (slice_get (w.births n) seq)) ≡ life
       → ((k : ℕ) → thread_in_life k life (w.threads by).guest ≡ thread_in_life k (On from (Asks (tid n seq))) (w.threads by).guest)
       → ((k : ℕ) → row_in_life k by life (w.threads by).guest.priority ≡ row_in_life k by (On from (Asks (tid n seq))) (w.threads by).guest.priority)
-      → way_of by life (w.threads by).verdict ≡ None
+      → way_of by life (w.threads by).verdict (w.threads by).guest ≡ None
       → ((k : ℕ) → eqb n k ≡ false → is_busy k life ≡ false)
       → StandsFor is_tid busy_name (busy_part n) more (update w.threads by (record (w.threads by) { life = life }))
       → Agrees p (spots_with (update w.threads by (record (w.threads by) { life = life })) w.slots (at_node w.births n (with_birth (w.births n) seq (joined by from))) w.halts)
@@ -163,7 +164,7 @@ module _ (p : Program) (net : Net) (q n : ℕ) (w : Spots) (L : Links) where
         busy = busy_none k by r life refl (idle k e) ∙ sym (busy_none k by o (On from (Asks (tid n seq))) x refl);
       })
       (rw e refl) (λ y. refl) refl)
-      (λ i j. nothing_sent n (Left p net q n w L from by) i j (update w.threads by r) (take_link from n (Joins by (tid n seq)) by r L w.threads (links_whole p net q n w L s m) (ap (λ z. way_of by z o.verdict) x) ways i j))
+      (λ i j. nothing_sent n (Left p net q n w L from by) i j (update w.threads by r) (take_link from n (Joins by (tid n seq)) by r L w.threads (links_whole p net q n w L s m) (ap (λ z. way_of by z o.verdict o.guest) x) ways i j))
       agrees
 
   -- the home answers the join
@@ -299,7 +300,7 @@ module _ (p : Program) (net : Net) (q n : ℕ) (w : Spots) (L : Links) where
       labelled p net q n w L (Left p net q n w L from t) (nothing s) [] [] (Known t) (spots_with (update w.threads t r) w.slots (at_node w.births n births) w.halts) _ [] [] m
       (ap (λ z. spots_with (update (joiner_served t (end_in z) (joiner (slice_get (w.births n) seq)) w.threads) t (record o { life = Gone (end_in z) })) w.slots (at_node w.births n (with_birth (w.births n) seq (ended (end_in z)))) w.halts) x
       ∙ ap (λ z. spots_with (update (joiner_served t end z w.threads) t r) w.slots (at_node w.births n births) w.halts) (ap joiner e ∙ none))
-      (record { solo = tt; holders = tt; life = (rw x tt, refl); replies = tt; grants = tt }) refl refl
+      (record { solo = tt; holders = tt; life = (rw x tt, refl, subst (λ z. JoinerAwaits t z w) (sym (ap joiner e ∙ none)) tt); replies = tt; grants = tt }) refl refl
       (record {
         threads = map_kept is_tid is-true is-refl (thread_part n) w.threads t r s.threads m.here.threads (sym (ap (λ z. thread_in_life n z o.guest) x));
         rows = kept is_tid is-true is-refl listed_name (row_part n) w.threads t r (map listed s.places.rows) m.here.rows (sym (ap (λ z. row_in_life n t z o.guest.priority) x));
@@ -315,7 +316,7 @@ module _ (p : Program) (net : Net) (q n : ℕ) (w : Spots) (L : Links) where
         busy = sym (busy_none k t o (Noting from end) x refl);
       })
       (rw f refl) (λ y. refl) refl)
-      (λ i j. nothing_sent n (Left p net q n w L from t) i j (update w.threads t r) (take_link from n (Ended_word t end) t r L w.threads (links_whole p net q n w L s m) (ap (λ z. way_of t z o.verdict) x) refl i j))
+      (λ i j. nothing_sent n (Left p net q n w L from t) i j (update w.threads t r) (take_link from n (Ended_word t end) t r L w.threads (links_whole p net q n w L s m) (ap (λ z. way_of t z o.verdict o.guest) x) refl i j))
       (ends_agree p n seq from end w w.threads r births (Some (ended end b)) (λ j. get-with (w.births n) seq j (ended end) b e) m.agrees x refl (λ u. refl) (λ u. refl) (λ u f. f) (λ u c at f g. g) (ended_phase end b) nobody
       (λ u c at g. (
         g,
@@ -348,7 +349,7 @@ module _ (p : Program) (net : Net) (q n : ℕ) (w : Spots) (L : Links) where
       labelled p net q n w L (Left p net q n w L from t) (nothing s) [] (busy by life ∷ []) (Known t) (spots_with (update f t r) w.slots (at_node w.births n births) w.halts) _ [] [] m
       (ap (λ z. spots_with (update (joiner_served t (end_in z) (joiner (slice_get (w.births n) seq)) w.threads) t (record o { life = Gone (end_in z) })) w.slots (at_node w.births n (with_birth (w.births n) seq (ended (end_in z)))) w.halts) x
       ∙ ap (λ z. spots_with (update (joiner_served t end z w.threads) t r) w.slots (at_node w.births n births) w.halts) (ap joiner e))
-      (record { solo = tt; holders = tt; life = (rw x tt, refl); replies = tt; grants = tt }) refl refl
+      (record { solo = tt; holders = tt; life = (rw x tt, refl, subst (λ z. JoinerAwaits t z w) (sym (ap joiner e)) y); replies = tt; grants = tt }) refl refl
       (record {
         threads = map_kept is_tid is-true is-refl (thread_part n) f t r s.threads
             (map_kept is_tid is-true is-refl (thread_part n) w.threads by r1 s.threads m.here.threads (sym (ap (λ z. thread_in_life n z c.guest) y))) (sym (ap (λ z. thread_in_life n z (f t).guest) x1));
@@ -375,7 +376,7 @@ module _ (p : Program) (net : Net) (q n : ℕ) (w : Spots) (L : Links) where
       })
       (rw g refl) (λ z. refl) refl)
       (λ i j. nothing_sent n (Left p net q n w L from t) i j (update f t r)
-      (take_link from n (Ended_word t end) t r L f (λ a b. links_kept by r1 w.threads L (links_whole p net q n w L s m) (sym (ap (λ z. way_of by z c.verdict) y)) a b) (ap (λ z. way_of t z (f t).verdict) x1) refl i j))
+      (take_link from n (Ended_word t end) t r L f (λ a b. links_kept by r1 w.threads L (links_whole p net q n w L s m) (sym (ap (λ z. way_of by z c.verdict c.guest) y)) a b) (ap (λ z. way_of t z (f t).verdict (f t).guest) x1) refl i j))
       (ends_agree p n seq from end w f r births (Some Over) (λ j. get-with (w.births n) seq j (ended end) (Awaited by at) e) m.agrees x refl
       (λ u. phase_same w.threads by r1 (sym (ap phase_of y)) u)
       (λ u. held_same w.threads by r1 (sym (ap (λ z. held z c.guest) y)) u)

@@ -24,3 +24,4 @@ pub mod Stillness
 pub mod Beginnings
 pub mod NoStrays
 pub mod NothingOutside
+pub mod RunLists

@@ -26,7 +26,7 @@ use Rattle.run_trace.specs.Steps.{say, put, arrive, thread_in, thread_out, slots
 use Rattle.run_trace.specs.Machine.{free_run, free_slot, end_thread}
 use Rattle.run_trace.specs.Cluster.{Net}
 use Rattle.run_trace.specs.Keyed.{StandsFor}
-use Rattle.run_trace.specs.Spots.{Stage, Stays, Ready, Due, Served, Ends, Leaves, Awaits, Life, Unborn, On, Noting, Gone, Response, Spot, Spots, Holder, Of_node, Of_thread, Nobody, update, at_node, after_label, gave_life, born_spot, asked_priority}
+use Rattle.run_trace.specs.Spots.{Stage, Stays, Ready, Due, Served, Ends, Leaves, Awaits, Life, Unborn, On, Moving, Noting, Gone, Response, Spot, Spots, Holder, Of_node, Of_thread, Nobody, update, at_node, after_label, gave_life, born_spot, asked_priority}
 use Rattle.run_trace.specs.Rules.{is_free, lowest_free, MayGive, causes}
 use Rattle.run_trace.specs.Console.{shown_by}
 use Rattle.run_trace.specs.Stands.{Here, Agrees, Busy, busy, busy_name, busy_part, thread_part, thread_in_life, row_part, row_in_life, listed, listed_name, way_of, phase_of, phase_at, Before, During, held, slots_held, IsWellHeld, is_thread}
@@ -52,6 +52,7 @@ node_holds n Nobody e = absurd (cc e)
 unborn_of : (life : Life) → Before ≡ phase_of life → life ≡ Unborn
 unborn_of Unborn e = refl
 unborn_of (On n stage) e = absurd (cc e)
+unborn_of (Moving n to) e = absurd (cc e)
 unborn_of (Noting n end) e = absurd (cc e)
 unborn_of (Gone end) e = absurd (cc e)
 
@@ -166,8 +167,8 @@ module _ (p : Program) (net : Net) (q n : ℕ) (w : Spots) (L : Links) where
   slots_step d hand more l t r now f a b m same ok sent shown x y home_a home_b ties names halted change well =
       let v : Spots = spots_at p net q n w d in
       let s : Spot = spot d t in
-      let before : way_of t s.life s.verdict ≡ None = ap (λ z. way_of t z s.verdict) x ∙ home_way t n a s.verdict home_a in
-      let after : way_of t r.life r.verdict ≡ None = ap (λ z. way_of t z r.verdict) y ∙ home_way t n b r.verdict home_b in
+      let before : way_of t s.life s.verdict s.guest ≡ None = ap (λ z. way_of t z s.verdict s.guest) x ∙ home_way t n a s.verdict s.guest home_a in
+      let after : way_of t r.life r.verdict r.guest ≡ None = ap (λ z. way_of t z r.verdict r.guest) y ∙ home_way t n b r.verdict r.guest home_b in
       labelled p net q n w L L d hand more l (spots_with (update v.threads t r) f v.births v.halts) now d.sends d.prints m same ok
       (sym (append-nil d.sends) ∙ ap (λ z. d.sends ++ z) (sym sent)) (sym (append-nil d.prints) ∙ ap (λ z. d.prints ++ z) (sym shown))
       (record { threads = ties.threads; rows = ties.rows; busy = ties.busy; names = names ∙ m.here.names; own = change.own; halted = halted ∙ m.here.halted })
@@ -205,7 +206,7 @@ module _ (p : Program) (net : Net) (q n : ℕ) (w : Spots) (L : Links) where
       let r : Spot = record s { life = Noting n end } in
       send_step p net q n w L d _ hs (Ended t end) t r d.node t.home (EndNote t.seq end) m refl
       (record { solo = tt; holders = tt; life = x; replies = tt; grants = tt }) refl refl
-      (ap (λ z. way_of t z s.verdict) x) refl refl
+      (ap (λ z. way_of t z s.verdict s.guest) x) refl refl
       (record {
         threads = map_kept is_tid is-true is-refl (thread_part n) v.threads t r d.node.threads m.here.threads (sym (thread_was p net q n w L s t (Leaves end) x));
         rows = kept is_tid is-true is-refl listed_name (row_part n) v.threads t r (map listed d.node.places.rows) m.here.rows (sym (row_was p net q n w L s t (Leaves end) x));
@@ -302,7 +303,7 @@ module _ (p : Program) (net : Net) (n : ℕ) (v : Spots) (M : Links) (s : Local)
               | false ↦ λ h. refl
             ] refl)
             refl;
-        links = λ i j. links_kept t new_spot v.threads M o.links (sym (ap (λ z. way_of t z old.verdict) x)) i j;
+        links = λ i j. links_kept t new_spot v.threads M o.links (sym (ap (λ z. way_of t z old.verdict old.guest) x)) i j;
         agrees = record {
           homes = λ u out. elim (is_tid t u) as (λ b. is_tid t u ≡ b → (cond b new_spot (v.threads u)).life ≡ Unborn) [
             | true ↦ λ e. let h : n ≡ u.home = ap (λ (z : Tid). z.home) (is-true t u e) in absurd (cc (below, out, ap (λ k. nat_lt k (nodes_of p)) h))
@@ -413,7 +414,7 @@ module _ (p : Program) (net : Net) (q n : ℕ) (w : Spots) (L : Links) (below : 
           halted = m.here.halted;
         };
         there = λ j f. here_kept j v by r v.slots v.births v.halts (net.nodes j) [] (m.there j f) (frame_home n j by s r (Served (Create e a k)) (Due (tid_value t)) x refl refl refl f) refl (λ y. refl) refl;
-        links = λ i j. links_kept by r v.threads M m.links (sym (ap (λ z. way_of by z s.verdict) x)) i j;
+        links = λ i j. links_kept by r v.threads M m.links (sym (ap (λ z. way_of by z s.verdict s.guest) x)) i j;
         agrees = agrees_kept p v by r v.halts m.agrees (sym (ap phase_of x)) (λ u j f. home_quiet n (Served (Create e a k)) refl u j (sym x ∙ f)) (keeps _ _ (ap (λ z. held z s.guest) (sym x))) (λ f. absurd (cc (f, x))) (λ u j f. absurd (cc f)) (λ j f. absurd (cc f)) (λ j f. f);
       } in
       let new : World p net n (born_spots p net n v1 M d.node hand below g none slot holder refl (new_well e a 0 (stack_end slot) slot k)) M (with_newborn n t (waits wait.No g) g.priority slot d.node) hand = newcomer p net n v1 M d.node hand below g none slot holder refl (new_well e a 0 (stack_end slot) slot k) served in

@@ -107,7 +107,7 @@ updated w t s = rw (is-refl t) refl
 
 -- ## Links
 
-pub links_kept : (t : Tid) (s : Spot) (w : Tid → Spot) (L : Links) → ((i j : ℕ) → LinkStands i j (L i j) w) → way_of t s.life s.verdict ≡ way_of t (w t).life (w t).verdict → (i j : ℕ) → LinkStands i j (L i j) (update w t s)
+pub links_kept : (t : Tid) (s : Spot) (w : Tid → Spot) (L : Links) → ((i j : ℕ) → LinkStands i j (L i j) w) → way_of t s.life s.verdict s.guest ≡ way_of t (w t).life (w t).verdict (w t).guest → (i j : ℕ) → LinkStands i j (L i j) (update w t s)
 links_kept t s w L h e i j = kept is_tid is-true is-refl word_name (link_part i j) w t s (L i j) (h i j) (ap (on_link i j) e)
 
 sent_append : (j : ℕ) (xs : List Send) (to : ℕ) (body : Body) → sent_words j (xs ++ send_to to body) ≡ cond (eqb to j) (sent_words j xs ++ word_of j body ∷ []) (sent_words j xs)
@@ -122,8 +122,8 @@ sent_append j (y ∷ xs) to body = elim (eqb y.to j) as (λ v. cond v (word_of j
 -- a packet is put on a link, and its thread comes to be shown there alone
 pub put_link : (n to : ℕ) (body : Body) (t : Tid) (s : Spot) (L : Links) (sends : List Send) (w : Tid → Spot) → ((i j : ℕ) → LinkStands i j (under n L sends i j) w)
     → word_name (word_of to body) ≡ t
-    → way_of t (w t).life (w t).verdict ≡ None
-    → way_of t s.life s.verdict ≡ way n to (word_of to body)
+    → way_of t (w t).life (w t).verdict (w t).guest ≡ None
+    → way_of t s.life s.verdict s.guest ≡ way n to (word_of to body)
     → (i j : ℕ) → LinkStands i j (under n L (sends ++ send_to to body) i j) (update w t s)
 put_link n to body t s L sends w h name old new i j = by_tests (eqb n i) (eqb to j) refl refl
   where
@@ -156,8 +156,8 @@ less_word t xs = without is_tid is-true is-refl word_name xs t
 
 -- a packet is taken off a link, and its thread is shown there no longer
 pub take_link : (a b : ℕ) (y : Word) (t : Tid) (s : Spot) (L : Links) (w : Tid → Spot) → ((i j : ℕ) → LinkStands i j (L i j) w)
-    → way_of t (w t).life (w t).verdict ≡ way a b y
-    → way_of t s.life s.verdict ≡ None
+    → way_of t (w t).life (w t).verdict (w t).guest ≡ way a b y
+    → way_of t s.life s.verdict s.guest ≡ None
     → (i j : ℕ) → LinkStands i j (at_link a b (less_word t) L i j) (update w t s)
 take_link a b y t s L w h old new i j = elim (eqb a i) as (λ v. eqb a i ≡ v → LinkStands i j (cond v (cond (eqb b j) (less_word t (L i j)) (L i j)) (L i j)) (update w t s)) [
   | true ↦ λ e. elim (eqb b j) as (λ v. eqb b j ≡ v → LinkStands i j (cond v (less_word t (L i j)) (L i j)) (update w t s)) [

@@ -1,5 +1,5 @@
 -- Nothing happens outside the cluster's nodes.
-use Rattle.std.proofs.Common.{◌≡◌, ℕ, ◌<◌, ◌≤◌, ◌/◌, ◌^◌, ◌⊎◌, inl, inr, List, [], ◌∷◌, ◌++◌, Option, Some, None, Bool, true, false, eqb, ltb, cond, refl, sym, ap, ◌∙◌, subst, arith}
+use Rattle.std.proofs.Common.{◌≡◌, ℕ, ◌<◌, ◌≤◌, ◌/◌, ◌^◌, ◌⊎◌, inl, inr, List, [], ◌∷◌, ◌++◌, Option, Some, None, Bool, true, false, eqb, ltb, cond, refl, sym, ap, subst, arith}
 use Rattle.std.specs.Prelude.{nat_lt, slice_get}
 use Rattle.std.specs.Map.{lookup}
 use Rattle.std.proofs.lemmas.Bool.{ne_eqb, ltb-true, ltb-false}
@@ -29,21 +29,20 @@ use Rattle.run_trace.specs.Local.{Local, fresh}
 use Rattle.run_trace.specs.Cluster.{Net, fresh_net, first_of, rest_of, left_after}
 use Rattle.run_trace.specs.Trace.{IsRun, net_after_trace}
 use Rattle.run_trace.specs.Holding.{IsOn}
-use Rattle.run_trace.specs.Outcome.{Lives}
-use Rattle.run_trace.specs.Spots.{Stage, Asks, Life, On, Spot, Spots, update, creator_served, joiner_served, heard_at, judged_life, gave_life, shown_life, ran_stage, stage_of_call, asked_stage, passed_stage, end_in, at_first, after_label, after_labels}
-use Rattle.run_trace.specs.Rules.{spots_of}
-use Rattle.run_trace.specs.Stands.{Stands, Word, Line, Line_shown, Joins, Reply as Reply_word, Ended_word}
+use Rattle.run_trace.specs.Spots.{Stage, Asks, Life, On, Moving, Spot, Spots, update, creator_served, joiner_served, heard_at, judged_life, told_stage, gave_life, shown_life, ran_stage, stage_of_call, asked_stage, passed_stage, end_in, at_first, after_label, after_labels}
+use Rattle.run_trace.specs.Rules.{LifeRule, ObeyEach, Obey, quantum_in, spots_of}
+use Rattle.run_trace.specs.Stands.{Stands, Word, Travels, Line, Line_shown, Joins, Reply as Reply_word, Ended_word}
 use Rattle.trace_laws.proofs.Parts.{Tells}
 use Rattle.trace_laws.proofs.Simulate.{event_below, first_tells}
-use Rattle.trace_laws.proofs.Wholes.{run_whole, starts}
-use Rattle.trace_laws.proofs.Consequences.{OnNode, on_node_is}
-use Rattle.trace_laws.proofs.Stillness.{is_somewhere}
+use Rattle.trace_laws.proofs.Wholes.{Whole, run_whole, starts}
+use Rattle.trace_laws.proofs.Stillness.{is_there}
 
--- ## A join names a thread of the cluster
+-- ## A join names a thread of the cluster, and a thread moves to a node of it
 
--- the home that a join is under way to; 0 where there is none
+-- the home that a join is under way to, or the node that a thread is; 0 where there is none
 abbrev asked_home : Life → ℕ
 asked_home (On m (Asks u)) = u.home
+asked_home (Moving from to) = to
 asked_home _ = 0
 
 abbrev AllAsk : Program → (Tid → Spot) → Type 0
@@ -81,6 +80,9 @@ heard_asks births life = grind arith
 judged_asks : (life : Life) → asked_home (judged_life life) ≤ asked_home life
 judged_asks life = grind arith
 
+told_asks : (n : ℕ) (life : Life) → asked_home (On n (told_stage life)) ≡ 0
+told_asks n life = grind arith
+
 gave_asks : (life : Life) → asked_home (gave_life life) ≤ asked_home life
 gave_asks life = grind arith
 
@@ -104,41 +106,41 @@ joiner_asks : (p : Program) (t : Tid) (end : End) (o : Option (Tid × ℕ)) (w :
 joiner_asks p t end None w h = h
 joiner_asks p t end (Some by) w h = asks_with p w by.0 _ h (first_node p)
 
-label_asks : (p : Program) (n : ℕ) (l : Label) (w : Spots) → AllAsk p w.threads → AllAsk p (after_label p n l w).threads
-label_asks p n (Born t why entry a0 a1 sp slot) w h = asks_with p (creator_served n t why w.threads) t _ (creator_asks p n t why w.threads h) (first_node p)
-label_asks p n (Ran t vp count stop) w h = asks_with p w.threads t _ h (subst (λ k. k < nodes_of p) (sym (ran_asks n stop _)) (first_node p))
-label_asks p n (Asked t call args bytes) w h = asks_with p w.threads t _ h (call_asks p n t (w.threads t).guest.solo)
-label_asks p n (Heard t) w h = asks_on p w.threads t _ h (heard_asks w.births (w.threads t).life)
-label_asks p n (Judged t reply extra) w h = asks_on p w.threads t _ h (judged_asks (w.threads t).life)
-label_asks p n (Told t) w h = asks_with p w.threads t _ h (first_node p)
-label_asks p n (Took t first count) w h = asks_with p w.threads t _ h (h t)
-label_asks p n (Gave t slots) w h = asks_on p w.threads t _ h (gave_asks (w.threads t).life)
-label_asks p n (Ended t end) w h = asks_with p w.threads t _ h (first_node p)
-label_asks p n (Known t) w h =
+label_asks : (p : Program) (q n : ℕ) (l : Label) (w : Spots) → LifeRule p q n l w → AllAsk p w.threads → AllAsk p (after_label p n l w).threads
+label_asks p q n (Born t why entry a0 a1 sp slot) w ok h = asks_with p (creator_served n t why w.threads) t _ (creator_asks p n t why w.threads h) (first_node p)
+label_asks p q n (Ran t vp count stop) w ok h = asks_with p w.threads t _ h (subst (λ k. k < nodes_of p) (sym (ran_asks n stop _)) (first_node p))
+label_asks p q n (Asked t call args bytes) w ok h = asks_with p w.threads t _ h (call_asks p n t (w.threads t).guest.solo)
+label_asks p q n (Heard t) w ok h = asks_on p w.threads t _ h (heard_asks w.births (w.threads t).life)
+label_asks p q n (Judged t reply extra) w ok h = asks_on p w.threads t _ h (judged_asks (w.threads t).life)
+label_asks p q n (Told t) w ok h = asks_with p w.threads t _ h (subst (λ k. k < nodes_of p) (sym (told_asks n (w.threads t).life)) (first_node p))
+label_asks p q n (Took t first count) w ok h = asks_with p w.threads t _ h (h t)
+label_asks p q n (Gave t slots) w ok h = asks_on p w.threads t _ h (gave_asks (w.threads t).life)
+label_asks p q n (Ended t end) w ok h = asks_with p w.threads t _ h (first_node p)
+label_asks p q n (Known t) w ok h =
     let end : End = end_in (w.threads t).life in
     let o : Option (Tid × ℕ) = joiner (slice_get (w.births t.home) t.seq) in
     asks_with p (joiner_served t end o w.threads) t _ (joiner_asks p t end o w.threads h) (first_node p)
-label_asks p n (Shown t) w h = asks_on p w.threads t _ h (shown_asks (w.threads t).life)
-label_asks p n (Halted t) w h = asks_with p w.threads t _ h (first_node p)
-label_asks p n (Left t to) w h = h
-label_asks p n (Came t) w h = h
-label_asks p n (Decided t count first) w h = h
-label_asks p n (Dropped t count reply) w h = h
-label_asks p n (Lent to slots) w h = h
-label_asks p n (InHand lender slots) w h = h
-label_asks p n (Returned to slots) w h = h
-label_asks p n (Home slots) w h = h
-label_asks p n (Down bubble list) w h = h
-label_asks p n (Burst bubble list) w h = h
-label_asks p n (Gathered bubble count) w h = h
+label_asks p q n (Shown t) w ok h = asks_on p w.threads t _ h (shown_asks (w.threads t).life)
+label_asks p q n (Halted t) w ok h = asks_with p w.threads t _ h (first_node p)
+label_asks p q n (Left t to) w ok h = asks_with p w.threads t _ h ok.1
+label_asks p q n (Came t) w ok h = asks_with p w.threads t _ h (first_node p)
+label_asks p q n (Decided t count first) w ok h = h
+label_asks p q n (Dropped t count reply) w ok h = h
+label_asks p q n (Lent to slots) w ok h = h
+label_asks p q n (InHand lender slots) w ok h = h
+label_asks p q n (Returned to slots) w ok h = h
+label_asks p q n (Home slots) w ok h = h
+label_asks p q n (Down bubble list) w ok h = h
+label_asks p q n (Burst bubble list) w ok h = h
+label_asks p q n (Gathered bubble count) w ok h = h
 
-labels_ask : (p : Program) (n : ℕ) (ls : List Label) (w : Spots) → AllAsk p w.threads → AllAsk p (after_labels p n ls w).threads
-labels_ask p n [] w h = h
-labels_ask p n (l ∷ ls) w h = labels_ask p n ls (after_label p n l w) (label_asks p n l w h)
+labels_ask : (p : Program) (q n : ℕ) (ls : List Label) (w : Spots) → ObeyEach LifeRule p q n ls w → AllAsk p w.threads → AllAsk p (after_labels p n ls w).threads
+labels_ask p q n [] w ok h = h
+labels_ask p q n (l ∷ ls) w ok h = labels_ask p q n ls (after_label p n l w) ok.1 (label_asks p q n l w ok.0 h)
 
-spots_ask : (p : Program) (lines : List Entry) → AllAsk p (spots_of p (at_first p) lines).threads
-spots_ask p [] t = first_node p
-spots_ask p (x ∷ xs) t = labels_ask p x.node x.labels (spots_of p (at_first p) xs) (spots_ask p xs) t
+spots_ask : (p : Program) (lines : List Entry) → Obey LifeRule p (at_first p) lines → AllAsk p (spots_of p (at_first p) lines).threads
+spots_ask p [] ok t = first_node p
+spots_ask p (x ∷ xs) ok t = labels_ask p (quantum_in x.act) x.node x.labels (spots_of p (at_first p) xs) ok.1 (spots_ask p xs ok.0) t
 
 -- ## What is no node has no event, and so sends nothing
 
@@ -182,14 +184,11 @@ module _ (p : Program) (w : Spots) (net : Net) (s : Stands p w net) (asks : AllA
           absurd (cc (none, h))
 
   on_inside : (t : Tid) (n : ℕ) (stage : Stage) → (w.threads t).life ≡ On n stage → n < nodes_of p
-  on_inside t n stage e =
-      let k : (m : ℕ) × (x : Thread) × IsOn net m t x = is_somewhere p w net s t (subst (λ z. Lives z) (sym e) tt) in
-      let on : OnNode k.0 (w.threads t) k.1 = on_node_is k.0 t (w.threads t) k.1 (sym ((s.nodes k.0).threads.shows t) ∙ k.2) in
-      let same : k.0 ≡ n = cc (e, on.life) in
-      subst (λ m. m < nodes_of p) same (there_inside t k.0 k.1 k.2)
+  on_inside t n stage e = let k : (x : Thread) × IsOn net n t x = is_there p w net s t n stage e in there_inside t n k.0 k.1
 
   -- what is said of a thread goes to a node
-  to_node : (t : Tid) (i j : ℕ) (word : Word) → Tells t i j word (w.threads t).life (w.threads t).verdict → j < nodes_of p
+  to_node : (t : Tid) (i j : ℕ) (word : Word) → Tells t i j word (w.threads t).life (w.threads t).verdict (w.threads t).guest → j < nodes_of p
+  to_node t i j (Travels x) k = subst (λ z. asked_home z < nodes_of p) k.0 (asks t)
   to_node t i j (Line u bytes) k = subst (λ z. z < nodes_of p) (sym k.2) (first_node p)
   to_node t i j (Line_shown u code second) k = on_inside t j _ k.1
   to_node t i j (Joins u target) k = subst (λ z. z < nodes_of p) (sym k.2) (subst (λ z. asked_home z < nodes_of p) k.1 (asks t))
@@ -221,6 +220,7 @@ pub run_inside : (p : Program) (lines : List Entry) → IsRun p (fresh_net p) li
 run_inside p lines r =
     let w : Spots = spots_of p (at_first p) lines in
     let net : Net = net_after_trace p (fresh_net p) lines in
-    let s : Stands p w net = (run_whole p (at_first p) (fresh_net p) (starts p) lines r).stands in
+    let all : Whole p (at_first p) (fresh_net p) lines = run_whole p (at_first p) (fresh_net p) (starts p) lines r in
+    let asks : AllAsk p w.threads = spots_ask p lines all.obeys.life in
     let out : Untouched p net = untouched p lines r in
-    record { nodes = out.nodes; links = links_inside p w net s (spots_ask p lines) out; lives = on_inside p w net s (spots_ask p lines) out }
+    record { nodes = out.nodes; links = links_inside p w net all.stands asks out; lives = on_inside p w net all.stands asks out }

@@ -1,49 +1,64 @@
 -- What the lists tell of a life, and where a life doesn't show.
 use Rattle.std.proofs.Common.{◌≡◌, ℕ, List, [], ◌∷◌, ◌++◌, Option, Some, None, Bool, true, false, eqb, cond, refl, sym, ap, ◌∙◌, subst, map, inl, inr}
-use Rattle.std.specs.Prelude.{◌&&◌}
-use Rattle.std.proofs.lemmas.Bool.{eqb-true}
+use Rattle.std.specs.Prelude.{◌&&◌, is_some}
+use Rattle.std.proofs.lemmas.Bool.{eq-eqb, eqb-true}
 use Rattle.std.proofs.lemmas.List.{map-append}
 use Rattle.slot_space.specs.declared.names.Tid.{Tid}
 use Rattle.run_trace.specs.declared.node.Row.{Row}
 use Rattle.run_trace.specs.Names.{is_tid}
-use Rattle.run_trace.specs.Places.{Places, arrived, without_row, IsIn}
+use Rattle.run_trace.specs.Guests.{Guest, packed}
+use Rattle.run_trace.specs.Places.{Places, arrived, without_row, is_listed, IsIn}
 use Rattle.run_trace.specs.Keyed.{AreApart, item_of}
-use Rattle.run_trace.specs.Spots.{Stage, Ready, Running, Due, Served, Told_next, Ends, Leaves, Halts, Stays, Shows, Showing, Shown_there, Asks, Awaits, Answers, Answered, Life, Unborn, On, Noting, Gone, Response, Spot}
-use Rattle.run_trace.specs.Stands.{Listed, listed, listed_name, Busy, busy, is_busy, busy_part, thread_part, thread_in_life, row_part, row_in_life, row_in_stage, Word, Line, Line_shown, Joins, Reply, Ended_word, Way, way, way_of, on_link}
+use Rattle.run_trace.specs.Spots.{Stage, Ready, Running, Due, Served, Told_next, Told_then, Departs, Ends, Leaves, Halts, Stays, Shows, Showing, Shown_there, Asks, Awaits, Answers, Answered, Life, Unborn, On, Moving, Noting, Gone, Response, Spot}
+use Rattle.run_trace.specs.Stands.{Listed, listed, listed_name, Busy, busy, is_busy, busy_part, thread_part, thread_in_life, row_part, row_in_life, row_in_stage, Word, Travels, Line, Line_shown, Joins, Reply, Ended_word, Way, way, way_of, on_link}
 use Rattle.trace_laws.proofs.Tids.{is-true, is-refl}
 use Rattle.trace_laws.proofs.KeyedLemmas.{without}
 use Rattle.trace_laws.proofs.Midst.{Frame, Plain}
 
 -- ## Rows
 
-row_ready : (t : Tid) (stage : Stage) (priority : ℕ) (y : Listed) → row_in_stage t stage priority ≡ Some y → (stage ≡ Ready) × (priority ≡ y.priority)
-row_ready t Ready priority y h = let e : record { tid = t; priority = priority } ≡ y = cc h in (refl, ap (λ (x : Listed). x.priority) e)
-row_ready t Running priority y h = absurd (cc h)
-row_ready t (Due code) priority y h = absurd (cc h)
-row_ready t (Served c) priority y h = absurd (cc h)
-row_ready t Told_next priority y h = absurd (cc h)
-row_ready t (Ends end) priority y h = absurd (cc h)
-row_ready t (Leaves end) priority y h = absurd (cc h)
-row_ready t Halts priority y h = absurd (cc h)
-row_ready t Stays priority y h = absurd (cc h)
-row_ready t (Shows bytes) priority y h = absurd (cc h)
-row_ready t Showing priority y h = absurd (cc h)
-row_ready t Shown_there priority y h = absurd (cc h)
-row_ready t (Asks u) priority y h = absurd (cc h)
-row_ready t (Awaits u) priority y h = absurd (cc h)
-row_ready t (Answers h reply second) priority y e = absurd (cc e)
-row_ready t (Answered h) priority y e = absurd (cc e)
+row_ready : (n : ℕ) (t : Tid) (stage : Stage) (priority : ℕ) (y : Listed) → is_busy n (On n stage) ≡ false → row_in_stage t stage priority ≡ Some y → (stage ≡ Ready) × (priority ≡ y.priority)
+row_ready n t Ready priority y i h = let e : record { tid = t; priority = priority } ≡ y = cc h in (refl, ap (λ (x : Listed). x.priority) e)
+row_ready n t Running priority y i h = absurd (cc h)
+row_ready n t (Due code) priority y i h = absurd (cc h)
+row_ready n t (Served c) priority y i h = absurd (cc h)
+row_ready n t Told_next priority y i h = absurd (cc h)
+row_ready n t (Told_then to) priority y i h = absurd (cc h)
+row_ready n t (Departs to) priority y i h = absurd (cc (i, eq-eqb n n refl))
+row_ready n t (Ends end) priority y i h = absurd (cc h)
+row_ready n t (Leaves end) priority y i h = absurd (cc h)
+row_ready n t Halts priority y i h = absurd (cc h)
+row_ready n t Stays priority y i h = absurd (cc h)
+row_ready n t (Shows bytes) priority y i h = absurd (cc h)
+row_ready n t Showing priority y i h = absurd (cc h)
+row_ready n t Shown_there priority y i h = absurd (cc h)
+row_ready n t (Asks u) priority y i h = absurd (cc h)
+row_ready n t (Awaits u) priority y i h = absurd (cc h)
+row_ready n t (Answers h reply second) priority y i e = absurd (cc e)
+row_ready n t (Answered h) priority y i e = absurd (cc e)
 
--- a thread on the run list is ready
-pub at_row : (n : ℕ) (t : Tid) (life : Life) (priority : ℕ) (y : Listed) → row_in_life n t life priority ≡ Some y → (life ≡ On n Ready) × (priority ≡ y.priority)
-at_row n t Unborn priority y h = absurd (cc h)
-at_row n t (Noting m end) priority y h = absurd (cc h)
-at_row n t (Gone end) priority y h = absurd (cc h)
-at_row n t (On m stage) priority y h = by (eqb m n) refl h
+-- a thread on the run list is ready, but for one that leaves in this event
+pub at_row : (n : ℕ) (t : Tid) (life : Life) (priority : ℕ) (y : Listed) → is_busy n life ≡ false → row_in_life n t life priority ≡ Some y → (life ≡ On n Ready) × (priority ≡ y.priority)
+at_row n t Unborn priority y i h = absurd (cc h)
+at_row n t (Moving m to) priority y i h = absurd (cc h)
+at_row n t (Noting m end) priority y i h = absurd (cc h)
+at_row n t (Gone end) priority y i h = absurd (cc h)
+at_row n t (On m stage) priority y i h = by (eqb m n) refl h
   where
     by : (v : Bool) → eqb m n ≡ v → cond v (row_in_stage t stage priority) None ≡ Some y → (On m stage ≡ On n Ready) × (priority ≡ y.priority)
-    by true e g = let r = row_ready t stage priority y g in let same : m ≡ n = eqb-true m n e in (cc (same, r.0), r.1)
+    by true e g =
+        let same : m ≡ n = eqb-true m n e in
+        let r = row_ready n t stage priority y (subst (λ k. is_busy n (On k stage) ≡ false) same i) g in
+        (cc (same, r.0), r.1)
     by false e g = absurd (cc g)
+
+-- node n is busy with no thread that shows on its list of those
+pub not_busy : (n : ℕ) (t : Tid) (s : Spot) → None ≡ busy_part n t s → is_busy n s.life ≡ false
+not_busy n t s h = by (is_busy n s.life) refl h
+  where
+    by : (v : Bool) → is_busy n s.life ≡ v → None ≡ cond v (Some (busy t s.life)) None → v ≡ false
+    by true e g = absurd (cc g)
+    by false e g = refl
 
 pub row_found : (rows : List Row) (r : Row) → AreApart is_tid listed_name (map listed rows) → IsIn r rows → item_of is_tid listed_name (map listed rows) r.tid ≡ Some (listed r)
 row_found [] r a i = absurd i
@@ -55,6 +70,11 @@ row_found (x ∷ xs) r a i = elim i as (λ v. item_of is_tid listed_name (map li
     by : (v : Bool) → is_tid r.tid x.tid ≡ v → item_of is_tid listed_name (map listed xs) r.tid ≡ Some (listed r) → cond v (Some (listed x)) (item_of is_tid listed_name (map listed xs) r.tid) ≡ Some (listed r)
     by true e g = let same : r.tid ≡ x.tid = is-true r.tid x.tid e in let n : item_of is_tid listed_name (map listed xs) x.tid ≡ None = a.0 in absurd (cc (g, n, ap (λ u. item_of is_tid listed_name (map listed xs) u) same))
     by false e g = g
+
+-- whether a thread is on the list, by its item
+pub listed_found : (rows : List Row) (t : Tid) → is_listed t rows ≡ is_some (item_of is_tid listed_name (map listed rows) t)
+listed_found [] t = refl
+listed_found (r ∷ rs) t = elim (is_tid t r.tid) as (λ v. cond v true (is_listed t rs) ≡ is_some (cond v (Some (listed r)) (item_of is_tid listed_name (map listed rs) t))) [ true ↦ refl | false ↦ listed_found rs t ]
 
 pub listed_without : (t : Tid) (rows : List Row) → map listed (without_row t rows) ≡ without is_tid is-true is-refl listed_name (map listed rows) t
 listed_without t [] = refl
@@ -87,33 +107,37 @@ on_way i j (Some x) y h = by (eqb x.from i) (eqb x.to j) refl refl h
     by false v e f g = absurd (cc g)
 
 -- what a word on the link from i to j tells of its thread
-abbrev pub Tells : Tid → ℕ → ℕ → Word → Life → Response → Type 0
-Tells t i j (Line u bytes) life v = (u ≡ t) × (life ≡ On i (Shows bytes)) × (j ≡ 0)
-Tells t i j (Line_shown u code second) life v = (u ≡ t) × (life ≡ On j Shown_there) × (i ≡ 0) × (v.code ≡ code) × (v.second ≡ second)
-Tells t i j (Joins u target) life v = (u ≡ t) × (life ≡ On i (Asks target)) × (j ≡ target.home)
-Tells t i j (Reply u code second) life v = (u ≡ t) × (life ≡ On j (Answered i)) × (v.code ≡ code) × (v.second ≡ second)
-Tells t i j (Ended_word u end) life v = (u ≡ t) × (life ≡ Noting i end) × (j ≡ t.home)
+abbrev pub Tells : Tid → ℕ → ℕ → Word → Life → Response → Guest → Type 0
+Tells t i j (Travels x) life v g = (life ≡ Moving i j) × (x ≡ packed t g)
+Tells t i j (Line u bytes) life v g = (u ≡ t) × (life ≡ On i (Shows bytes)) × (j ≡ 0)
+Tells t i j (Line_shown u code second) life v g = (u ≡ t) × (life ≡ On j Shown_there) × (i ≡ 0) × (v.code ≡ code) × (v.second ≡ second)
+Tells t i j (Joins u target) life v g = (u ≡ t) × (life ≡ On i (Asks target)) × (j ≡ target.home)
+Tells t i j (Reply u code second) life v g = (u ≡ t) × (life ≡ On j (Answered i)) × (v.code ≡ code) × (v.second ≡ second)
+Tells t i j (Ended_word u end) life v g = (u ≡ t) × (life ≡ Noting i end) × (j ≡ t.home)
 
-pub at_way : (t : Tid) (life : Life) (v : Response) (x : Way) → way_of t life v ≡ Some x → Tells t x.from x.to x.word life v
-at_way t Unborn v x h = absurd (cc h)
-at_way t (Noting m end) v x h = let e : record { from = m; to = t.home; word = Ended_word t end } ≡ x = cc h in subst (λ (y : Way). Tells t y.from y.to y.word (Noting m end) v) e (refl, refl, refl)
-at_way t (Gone end) v x h = absurd (cc h)
-at_way t (On m (Shows bytes)) v x h = let e : record { from = m; to = 0; word = Line t bytes } ≡ x = cc h in subst (λ (y : Way). Tells t y.from y.to y.word (On m (Shows bytes)) v) e (refl, refl, refl)
-at_way t (On m Shown_there) v x h = let e : record { from = 0; to = m; word = Line_shown t v.code v.second } ≡ x = cc h in subst (λ (y : Way). Tells t y.from y.to y.word (On m Shown_there) v) e (refl, refl, refl, refl, refl)
-at_way t (On m (Asks u)) v x h = let e : record { from = m; to = u.home; word = Joins t u } ≡ x = cc h in subst (λ (y : Way). Tells t y.from y.to y.word (On m (Asks u)) v) e (refl, refl, refl)
-at_way t (On m (Answered k)) v x h = let e : record { from = k; to = m; word = Reply t v.code v.second } ≡ x = cc h in subst (λ (y : Way). Tells t y.from y.to y.word (On m (Answered k)) v) e (refl, refl, refl, refl)
-at_way t (On m Ready) v x h = absurd (cc h)
-at_way t (On m Running) v x h = absurd (cc h)
-at_way t (On m (Due code)) v x h = absurd (cc h)
-at_way t (On m (Served c)) v x h = absurd (cc h)
-at_way t (On m Told_next) v x h = absurd (cc h)
-at_way t (On m (Ends end)) v x h = absurd (cc h)
-at_way t (On m (Leaves end)) v x h = absurd (cc h)
-at_way t (On m Halts) v x h = absurd (cc h)
-at_way t (On m Stays) v x h = absurd (cc h)
-at_way t (On m Showing) v x h = absurd (cc h)
-at_way t (On m (Awaits u)) v x h = absurd (cc h)
-at_way t (On m (Answers k reply second)) v x h = absurd (cc h)
+pub at_way : (t : Tid) (life : Life) (v : Response) (g : Guest) (x : Way) → way_of t life v g ≡ Some x → Tells t x.from x.to x.word life v g
+at_way t Unborn v g x h = absurd (cc h)
+at_way t (Moving m to) v g x h = let e : record { from = m; to = to; word = Travels (packed t g) } ≡ x = cc h in subst (λ (y : Way). Tells t y.from y.to y.word (Moving m to) v g) e (refl, refl)
+at_way t (Noting m end) v g x h = let e : record { from = m; to = t.home; word = Ended_word t end } ≡ x = cc h in subst (λ (y : Way). Tells t y.from y.to y.word (Noting m end) v g) e (refl, refl, refl)
+at_way t (Gone end) v g x h = absurd (cc h)
+at_way t (On m (Shows bytes)) v g x h = let e : record { from = m; to = 0; word = Line t bytes } ≡ x = cc h in subst (λ (y : Way). Tells t y.from y.to y.word (On m (Shows bytes)) v g) e (refl, refl, refl)
+at_way t (On m Shown_there) v g x h = let e : record { from = 0; to = m; word = Line_shown t v.code v.second } ≡ x = cc h in subst (λ (y : Way). Tells t y.from y.to y.word (On m Shown_there) v g) e (refl, refl, refl, refl, refl)
+at_way t (On m (Asks u)) v g x h = let e : record { from = m; to = u.home; word = Joins t u } ≡ x = cc h in subst (λ (y : Way). Tells t y.from y.to y.word (On m (Asks u)) v g) e (refl, refl, refl)
+at_way t (On m (Answered k)) v g x h = let e : record { from = k; to = m; word = Reply t v.code v.second } ≡ x = cc h in subst (λ (y : Way). Tells t y.from y.to y.word (On m (Answered k)) v g) e (refl, refl, refl, refl)
+at_way t (On m Ready) v g x h = absurd (cc h)
+at_way t (On m Running) v g x h = absurd (cc h)
+at_way t (On m (Due code)) v g x h = absurd (cc h)
+at_way t (On m (Served c)) v g x h = absurd (cc h)
+at_way t (On m Told_next) v g x h = absurd (cc h)
+at_way t (On m (Told_then to)) v g x h = absurd (cc h)
+at_way t (On m (Departs to)) v g x h = absurd (cc h)
+at_way t (On m (Ends end)) v g x h = absurd (cc h)
+at_way t (On m (Leaves end)) v g x h = absurd (cc h)
+at_way t (On m Halts) v g x h = absurd (cc h)
+at_way t (On m Stays) v g x h = absurd (cc h)
+at_way t (On m Showing) v g x h = absurd (cc h)
+at_way t (On m (Awaits u)) v g x h = absurd (cc h)
+at_way t (On m (Answers k reply second)) v g x h = absurd (cc h)
 
 -- ## Stages that show on the thread's own node alone
 
@@ -123,28 +147,32 @@ is_home Running = true
 is_home (Due code) = true
 is_home (Served c) = true
 is_home Told_next = true
+is_home (Told_then to) = true
+is_home (Departs to) = true
 is_home (Ends end) = true
 is_home (Leaves end) = true
 is_home Halts = true
 is_home _ = false
 
-pub home_way : (t : Tid) (n : ℕ) (stage : Stage) (v : Response) → is_home stage ≡ true → way_of t (On n stage) v ≡ None
-home_way t n Ready v h = refl
-home_way t n Running v h = refl
-home_way t n (Due code) v h = refl
-home_way t n (Served c) v h = refl
-home_way t n Told_next v h = refl
-home_way t n (Ends end) v h = refl
-home_way t n (Leaves end) v h = refl
-home_way t n Halts v h = refl
-home_way t n Stays v h = absurd (cc h)
-home_way t n (Shows bytes) v h = absurd (cc h)
-home_way t n Showing v h = absurd (cc h)
-home_way t n Shown_there v h = absurd (cc h)
-home_way t n (Asks u) v h = absurd (cc h)
-home_way t n (Awaits u) v h = absurd (cc h)
-home_way t n (Answers k reply second) v h = absurd (cc h)
-home_way t n (Answered k) v h = absurd (cc h)
+pub home_way : (t : Tid) (n : ℕ) (stage : Stage) (v : Response) (g : Guest) → is_home stage ≡ true → way_of t (On n stage) v g ≡ None
+home_way t n Ready v g h = refl
+home_way t n Running v g h = refl
+home_way t n (Due code) v g h = refl
+home_way t n (Served c) v g h = refl
+home_way t n Told_next v g h = refl
+home_way t n (Told_then to) v g h = refl
+home_way t n (Departs to) v g h = refl
+home_way t n (Ends end) v g h = refl
+home_way t n (Leaves end) v g h = refl
+home_way t n Halts v g h = refl
+home_way t n Stays v g h = absurd (cc h)
+home_way t n (Shows bytes) v g h = absurd (cc h)
+home_way t n Showing v g h = absurd (cc h)
+home_way t n Shown_there v g h = absurd (cc h)
+home_way t n (Asks u) v g h = absurd (cc h)
+home_way t n (Awaits u) v g h = absurd (cc h)
+home_way t n (Answers k reply second) v g h = absurd (cc h)
+home_way t n (Answered k) v g h = absurd (cc h)
 
 pub home_quiet : (n : ℕ) (stage : Stage) → is_home stage ≡ true → (u : Tid) (m : ℕ) → On n stage ≡ On m (Awaits u) → ⊥
 home_quiet n stage h u m e = let same : stage ≡ Awaits u = cc e in absurd (cc (ap is_home same, h))
@@ -155,12 +183,14 @@ home_plain n stage h = record {
   stays = λ m e. (let same : stage ≡ Stays = cc e in absurd (cc (ap is_home same, h)));
 }
 
-home_busy : (n k : ℕ) (stage : Stage) → is_home stage ≡ true → eqb n k ≡ false → is_busy k (On n stage) ≡ false
+pub home_busy : (n k : ℕ) (stage : Stage) → is_home stage ≡ true → eqb n k ≡ false → is_busy k (On n stage) ≡ false
 home_busy n k Ready h e = refl
 home_busy n k Running h e = e
 home_busy n k (Due code) h e = e
 home_busy n k (Served c) h e = e
 home_busy n k Told_next h e = e
+home_busy n k (Told_then to) h e = e
+home_busy n k (Departs to) h e = e
 home_busy n k (Ends end) h e = e
 home_busy n k (Leaves end) h e = e
 home_busy n k Halts h e = e

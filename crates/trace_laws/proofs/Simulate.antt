@@ -1,42 +1,42 @@
 -- An event of the cluster, from its start through its midst to its end.
-use Rattle.std.proofs.Common.{◌≡◌, ℕ, List, [], ◌∷◌, ◌++◌, Option, Some, None, Bool, true, false, eqb, cond, refl, sym, ap, ◌∙◌, subst}
+use Rattle.std.proofs.Common.{◌≡◌, ℕ, ◌<◌, List, [], ◌∷◌, ◌++◌, Option, Some, None, Bool, true, false, eqb, cond, refl, sym, ap, ◌∙◌, subst}
 use Rattle.std.specs.Prelude.{nat_lt, not, slice_get, map}
 use Rattle.std.specs.Map.{lookup}
-use Rattle.std.proofs.lemmas.Bool.{eqb-true, and_parts}
+use Rattle.std.proofs.lemmas.Bool.{eq-eqb, eqb-true, ltb-true, and_parts}
 use Rattle.std.proofs.lemmas.List.{append-nil}
 use Rattle.slot_space.specs.declared.names.Tid.{Tid}
 use Rattle.marcel_core.specs.declared.birth.Birth.{Birth}
-use Rattle.marcel_core.specs.declared.birth.Birth.TheVariants.{Lives, Awaited, Detached, Ended, Over}
 use Rattle.marcel_core.specs.Homes.{is_open}
 use Rattle.run_trace.specs.declared.entry.Act.{Act}
 use Rattle.run_trace.specs.declared.entry.Act.TheVariants.{Boot, Run as RunThread, Take, Move}
+use Rattle.run_trace.specs.declared.label.Label.TheVariants.{Left}
 use Rattle.run_trace.specs.declared.packet.Body.{Body}
-use Rattle.run_trace.specs.declared.packet.Body.TheVariants.{Show, ShowDone, JoinAsk, Answer, EndNote}
+use Rattle.run_trace.specs.declared.packet.Body.TheVariants.{Mover, Show, ShowDone, JoinAsk, Answer, EndNote}
 use Rattle.run_trace.specs.declared.packet.Packet.{Packet}
 use Rattle.run_trace.specs.declared.packet.Send.{Send}
 use Rattle.run_trace.specs.declared.node.Row.{Row}
 use Rattle.run_trace.specs.declared.node.Wait.TheVariants as wait
 use Rattle.run_trace.specs.Names.{is_tid, tid}
 use Rattle.run_trace.specs.Program.{Program, nodes_of}
-use Rattle.run_trace.specs.Guests.{Thread, waits}
-use Rattle.run_trace.specs.Places.{best}
+use Rattle.run_trace.specs.Guests.{Guest, Thread, waits}
+use Rattle.run_trace.specs.Places.{best, is_listed}
 use Rattle.run_trace.specs.Local.{Local, Doing, nothing, with_booted}
-use Rattle.run_trace.specs.Steps.{tell}
-use Rattle.run_trace.specs.Machine.{local_event, acts, is_range, boots, boots_in, free_slot, run_picked, run_found, run_thread, takes, accepts, is_stray}
+use Rattle.run_trace.specs.Steps.{tell, leaves, put, say, thread_out, take_off}
+use Rattle.run_trace.specs.Machine.{local_event, acts, is_range, boots, boots_in, free_slot, run_picked, run_found, run_thread, goes, moves_found, takes, accepts, is_stray}
 use Rattle.run_trace.specs.Cluster.{Event, Net, net_after, next_packet, first_of, rest_of, left_after, packets_to, after_or}
 use Rattle.run_trace.specs.Keyed.{item_of}
 use Rattle.run_trace.specs.Rules.{quantum_in, all_causes, PicksBest, RunsFirst}
 use Rattle.run_trace.specs.Console.{shown_by_all}
 use Rattle.run_trace.specs.Spots.{Ready, Shown_there, Answered, Unborn, On, Noting, Response, Spots, after_labels}
-use Rattle.run_trace.specs.Stands.{Here, Stands, Line_shown, Reply, word_name, word_of, words_of, way, way_of, link_part, listed, listed_name, phase_of, phase_at, During}
+use Rattle.run_trace.specs.Stands.{Here, Stands, Line_shown, Reply, word_name, word_of, words_of, way, way_of, link_part, Listed, listed, listed_name, phase_of}
 use Rattle.trace_laws.proofs.Tids.{is-refl}
 use Rattle.trace_laws.proofs.Midst.{Links, Midst, Obeyed, LinkStands, sent_words, at_link, less_word, nothing_sent}
-use Rattle.trace_laws.proofs.Parts.{at_row, row_found, on_way, at_way, Tells}
+use Rattle.trace_laws.proofs.Parts.{at_row, not_busy, row_found, listed_found, on_way, at_way, Tells}
 use Rattle.trace_laws.proofs.Picking.{best_is}
 use Rattle.trace_laws.proofs.Firsts.{run-first}
-use Rattle.trace_laws.proofs.Steps.{on_node}
+use Rattle.trace_laws.proofs.Steps.{on_node, sent_ok}
 use Rattle.trace_laws.proofs.Lifetimes.{main_born_ok}
-use Rattle.trace_laws.proofs.Takes.{shows_ok, acknowledges_ok, tell_taken_ok}
+use Rattle.trace_laws.proofs.Takes.{shows_ok, acknowledges_ok, tell_taken_ok, open_birth, may_come_ok, comes_ok}
 use Rattle.trace_laws.proofs.Joins.{hears_ok, knows_ok}
 use Rattle.trace_laws.proofs.Events.{run_ok}
 
@@ -126,23 +126,20 @@ none_left net n a h i j = elim (eqb n j) as (λ v. words_of j (net.links i j) �
 
 -- what the first packet of a link tells of its thread
 pub first_tells : (p : Program) (w : Spots) (net : Net) → Stands p w net → (f n : ℕ) (x : Packet) → Some x ≡ first_of (net.links f n)
-    → Tells (word_name (word_of n x.body)) f n (word_of n x.body) (w.threads (word_name (word_of n x.body))).life (w.threads (word_name (word_of n x.body))).verdict
+    → Tells (word_name (word_of n x.body)) f n (word_of n x.body) (w.threads (word_name (word_of n x.body))).life (w.threads (word_name (word_of n x.body))).verdict (w.threads (word_name (word_of n x.body))).guest
 first_tells p w net s f n x h =
     let t : Tid = word_name (word_of n x.body) in
     let part : link_part f n t (w.threads t) ≡ Some (word_of n x.body) = sym ((s.links f n).shows t) ∙ head_of (net.links f n) h in
-    at_way t (w.threads t).life (w.threads t).verdict _ (on_way f n (way_of t (w.threads t).life (w.threads t).verdict) (word_of n x.body) part)
+    at_way t (w.threads t).life (w.threads t).verdict (w.threads t).guest _ (on_way f n (way_of t (w.threads t).life (w.threads t).verdict (w.threads t).guest) (word_of n x.body) part)
   where
     head_of : (ps : List Packet) → Some x ≡ first_of ps → item_of is_tid word_name (words_of n ps) (word_name (word_of n x.body)) ≡ Some (word_of n x.body)
     head_of [] h = absurd (cc h)
     head_of (y ∷ ps) h = let e : x ≡ y = cc h in subst (λ (z : Packet). item_of is_tid word_name (word_of n z.body ∷ words_of n ps) (word_name (word_of n x.body)) ≡ Some (word_of n x.body)) e (rw (is-refl (word_name (word_of n x.body))) refl)
 
-open_birth : (b : Option Birth) → phase_at b ≡ During → is_open b ≡ true
-open_birth None e = absurd (cc e)
-open_birth (Some Lives) e = refl
-open_birth (Some (Awaited by at)) e = refl
-open_birth (Some Detached) e = refl
-open_birth (Some (Ended end)) e = absurd (cc e)
-open_birth (Some Over) e = absurd (cc e)
+-- a thread that is sent away says one label
+leaves_labels : (t : Tid) (to : ℕ) (x : Thread) (s : Local) → (leaves t to x (nothing s)).labels ≡ Left t to ∷ []
+unfolding leaves put say thread_out take_off
+leaves_labels t to x s = refl
 
 module _ (p : Program) (w : Spots) (net : Net) (s : Stands p w net) (q n : ℕ) where
   here : Midst p net q n w (under_way net) (nothing (net.nodes n)) []
@@ -158,7 +155,15 @@ module _ (p : Program) (w : Spots) (net : Net) (s : Stands p w net) (q n : ℕ) 
   taken : (i : ℕ) (x : Packet) → Some x ≡ first_of (net.links i n) → Taken i x.body
   taken i x h = by x.body (first_tells p w net s i n x h)
     where
-      by : (body : Body) → Tells (word_name (word_of n body)) i n (word_of n body) (w.threads (word_name (word_of n body))).life (w.threads (word_name (word_of n body))).verdict → Taken i body
+      by : (body : Body) → Tells (word_name (word_of n body)) i n (word_of n body) (w.threads (word_name (word_of n body))).life (w.threads (word_name (word_of n body))).verdict (w.threads (word_name (word_of n body))).guest → Taken i body
+      by (Mover z) k =
+          let t : Tid = z.tid in
+          let g : Guest = (w.threads t).guest in
+          subst (λ y. Taken i (Mover y)) (sym k.1)
+          (record {
+            expected = ap not (may_come_ok p net q n w (under_way net) (net.nodes n) i t here k.0 (in_cluster t (λ e. absurd (cc (e, k.0)))));
+            comes = comes_ok p net q n w (under_way net) (net.nodes n) i t here k.0;
+          })
       by (Show t bytes) k = record {
         expected = rw (k.2, in_cluster t (λ e. absurd (cc (e, k.1)))) refl;
         comes = acknowledges_ok p net q n w (at_link i n (less_word t) (under_way net)) _ t i [] (shows_ok p net q n w (under_way net) (net.nodes n) i t bytes here k.1 k.2);
@@ -169,7 +174,7 @@ module _ (p : Program) (w : Spots) (net : Net) (s : Stands p w net) (q n : ℕ) 
             expected = rw (on_node p net q n w (under_way net) (nothing (net.nodes n)) [] t Shown_there here k.1, in_cluster t (λ e. absurd (cc (e, k.1)))) refl;
             comes = subst (λ z. Midst p net q n w (at_link i n (less_word t) (under_way net)) (tell t z None (nothing (net.nodes n))) []) k.3
                 (subst (λ z. Midst p net q n w (at_link i n (less_word t) (under_way net)) (tell t v.code z (nothing (net.nodes n))) []) k.4
-                (tell_taken_ok p net q n w (under_way net) (net.nodes n) i t Shown_there wait.ForShow (Line_shown t v.code v.second) here k.1 refl (ap (λ z. way z n (Line_shown t v.code v.second)) (sym k.2)) refl refl (λ j. refl) (λ u j e. absurd (cc e)) refl));
+                (tell_taken_ok p net q n w (under_way net) (net.nodes n) i t Shown_there wait.ForShow (Line_shown t v.code v.second) here k.1 refl refl (ap (λ z. way z n (Line_shown t v.code v.second)) (sym k.2)) refl refl (λ j. refl) (λ u j e. absurd (cc e)) refl));
           }
       by (JoinAsk t seq) k = record {
         expected = rw (in_cluster t (λ e. absurd (cc (e, k.1)))) refl;
@@ -181,7 +186,7 @@ module _ (p : Program) (w : Spots) (net : Net) (s : Stands p w net) (q n : ℕ) 
             expected = rw (on_node p net q n w (under_way net) (nothing (net.nodes n)) [] t (Answered i) here k.1, in_cluster t (λ e. absurd (cc (e, k.1)))) refl;
             comes = subst (λ z. Midst p net q n w (at_link i n (less_word t) (under_way net)) (tell t z second (nothing (net.nodes n))) []) k.2
                 (subst (λ z. Midst p net q n w (at_link i n (less_word t) (under_way net)) (tell t v.code z (nothing (net.nodes n))) []) k.3
-                (tell_taken_ok p net q n w (under_way net) (net.nodes n) i t (Answered i) wait.ForAnswer (Reply t v.code v.second) here k.1 refl refl refl refl (λ j. refl) (λ u j e. absurd (cc e)) refl));
+                (tell_taken_ok p net q n w (under_way net) (net.nodes n) i t (Answered i) wait.ForAnswer (Reply t v.code v.second) here k.1 refl refl refl refl refl (λ j. refl) (λ u j e. absurd (cc e)) refl));
           }
       by (EndNote seq end) k =
           let x : (w.threads (tid n seq)).life ≡ Noting i end = k.1 in
@@ -191,14 +196,42 @@ module _ (p : Program) (w : Spots) (net : Net) (s : Stands p w net) (q n : ℕ) 
             comes = knows_ok p net q n w (under_way net) (net.nodes n) i seq end here x;
           }
 
-  -- ## A run
+  -- ## The run list
+
+  -- between events a thread on the run list is ready
+  row_ready : (t : Tid) (y : Listed) → item_of is_tid listed_name (map listed (net.nodes n).places.rows) t ≡ Some y → (w.threads t).life ≡ On n Ready
+  row_ready t y found =
+      (at_row n t (w.threads t).life (w.threads t).guest.priority y (not_busy n t (w.threads t) ((s.nodes n).busy.shows t)) (sym ((s.nodes n).rows.shows t) ∙ found)).0
 
   -- the thread that is picked is ready
   pub picked_ready : (r : Row) → best (net.nodes n).places.rows ≡ Some r → (w.threads r.tid).life ≡ On n Ready
-  picked_ready r picked =
-      let t : Tid = r.tid in
-      let found : item_of is_tid listed_name (map listed (net.nodes n).places.rows) t ≡ Some (listed r) = row_found (net.nodes n).places.rows r (s.nodes n).rows.apart (best_is (net.nodes n).places.rows r picked).0 in
-      (at_row n t (w.threads t).life (w.threads t).guest.priority (listed r) (sym ((s.nodes n).rows.shows t) ∙ found)).0
+  picked_ready r picked = row_ready r.tid (listed r) (row_found (net.nodes n).places.rows r (s.nodes n).rows.apart (best_is (net.nodes n).places.rows r picked).0)
+
+  -- and so is each that is on it
+  pub listed_ready : (t : Tid) → is_listed t (net.nodes n).places.rows ≡ true → (w.threads t).life ≡ On n Ready
+  listed_ready t h = by (item_of is_tid listed_name (map listed (net.nodes n).places.rows) t) refl
+    where
+      by : (o : Option Listed) → item_of is_tid listed_name (map listed (net.nodes n).places.rows) t ≡ o → (w.threads t).life ≡ On n Ready
+      by None e = absurd (cc (e, h, listed_found (net.nodes n).places.rows t))
+      by (Some y) e = row_ready t y e
+
+  -- ## A move
+
+  record Sent (t : Tid) (to : ℕ) (x : Thread) : Type 0 where
+    left : Midst p net q n w (under_way net) (goes p t to x (nothing (net.nodes n))) []
+    labels : (goes p t to x (nothing (net.nodes n))).labels ≡ Left t to ∷ []
+
+  sent : (t : Tid) (to : ℕ) (x : Thread) → is_listed t (net.nodes n).places.rows ≡ true → lookup (is_tid t) (net.nodes n).threads ≡ Some x → to < nodes_of p → (to ≡ n → ⊥) → Sent t to x
+  sent t to x listed f inside other =
+      let ready : (w.threads t).life ≡ On n Ready = listed_ready t listed in
+      let same : Some (waits wait.No (w.threads t).guest) ≡ Some x = sym (on_node p net q n w (under_way net) (nothing (net.nodes n)) [] t Ready here ready) ∙ f in
+      let one : waits wait.No (w.threads t).guest ≡ x = cc same in
+      record {
+        left = subst (λ z. Midst p net q n w (under_way net) (goes p t to z (nothing (net.nodes n))) []) one (sent_ok p net q n w (under_way net) (nothing (net.nodes n)) t to here ready inside other);
+        labels = ap (λ z. (cond z (leaves t to x (nothing (net.nodes n))) (nothing (net.nodes n))).labels) (in_cluster t (λ e. absurd (cc (e, ready)))) ∙ leaves_labels t to x (net.nodes n);
+      }
+
+  -- ## A run of the thread that is picked
 
   ran_midst : nat_lt n (nodes_of p) ≡ true → (vp : ℕ) (r : Row) (x : Thread) → best (net.nodes n).places.rows ≡ Some r → lookup (is_tid r.tid) (net.nodes n).threads ≡ Some x
       → Midst p net q n w (under_way net) (run_thread p n vp q r.tid x (nothing (net.nodes n))) []
@@ -244,51 +277,73 @@ unfolding is_range
 range_below p n s Boot h = (and_parts (nat_lt n (nodes_of p)) _ h).0
 range_below p n s (RunThread vp quantum) h = (and_parts (nat_lt n (nodes_of p)) _ h).0
 range_below p n s (Take from) h = (and_parts (nat_lt n (nodes_of p)) _ h).0
-range_below p n s (Move t to) h = absurd (cc h)
+range_below p n s (Move t to) h = (and_parts (nat_lt n (nodes_of p)) _ h).0
+
+-- a thread is sent to another node of the cluster
+range_to : (p : Program) (n : ℕ) (s : Local) (t : Tid) (to : ℕ) → is_range p n s (Move t to) ≡ true → (to < nodes_of p) × (to ≡ n → ⊥)
+unfolding is_range
+range_to p n s t to h =
+    let a = and_parts (nat_lt n (nodes_of p)) _ h in
+    let b = and_parts s.booted _ a.1 in
+    let c = and_parts (nat_lt to (nodes_of p)) _ b.1 in
+    (ltb-true to (nodes_of p) c.0, λ e. (let same : eqb to n ≡ true = eq-eqb to n e in absurd (cc (same, c.1))))
 
 opened : (p : Program) (n : ℕ) (s : Local) (a : Act) (o : Option Packet) (d : Doing) → local_event p n s a o ≡ Some d → cond (is_range p n s a) (acts p n s a o) None ≡ Some d
 unfolding local_event
 opened p n s a o d h = h
 
 -- an event in range, case by case
-acts_simulate : (p : Program) (w : Spots) (net : Net) (stamp n round : ℕ) (a : Act) (o : Option Packet) (d : Doing) → Stands p w net → nat_lt n (nodes_of p) ≡ true → local_event p n (net.nodes n) a o ≡ Some d → acts p n (net.nodes n) a o ≡ Some d → o ≡ next_packet net n a
+acts_simulate : (p : Program) (w : Spots) (net : Net) (stamp n round : ℕ) (a : Act) (o : Option Packet) (d : Doing) → Stands p w net → is_range p n (net.nodes n) a ≡ true → local_event p n (net.nodes n) a o ≡ Some d → acts p n (net.nodes n) a o ≡ Some d → o ≡ next_packet net n a
     → Simulates p w net (event stamp n round a o d)
-acts_simulate p w net stamp n round Boot None d s below is i h =
+acts_simulate p w net stamp n round Boot None d s range is i h =
     let same : boots p n (nothing (net.nodes n)) ≡ d = cc i in
-    simulated p w net stamp n round Boot None d _ is (subst (λ z. Midst p net 0 n w (under_way net) z []) same (boots_midst p w net s 0 n below)) (none_left net n Boot (λ i ps. refl)) tt
-acts_simulate p w net stamp n round (RunThread vp q) None d s below is i h = by_row (best (net.nodes n).places.rows) refl i
+    simulated p w net stamp n round Boot None d _ is (subst (λ z. Midst p net 0 n w (under_way net) z []) same (boots_midst p w net s 0 n (range_below p n (net.nodes n) Boot range))) (none_left net n Boot (λ i ps. refl)) tt
+acts_simulate p w net stamp n round (RunThread vp q) None d s range is i h = by_row (best (net.nodes n).places.rows) refl i
   where
     by_thread : (r : Row) → best (net.nodes n).places.rows ≡ Some r → (x : Option Thread) → lookup (is_tid r.tid) (net.nodes n).threads ≡ x → run_found p n vp q r.tid x (net.nodes n) ≡ Some d → Simulates p w net (event stamp n round (RunThread vp q) None d)
     by_thread r e None f g = absurd (cc g)
     by_thread r e (Some x) f g =
         let same : run_thread p n vp q r.tid x (nothing (net.nodes n)) ≡ d = cc g in
-        simulated p w net stamp n round (RunThread vp q) None d _ is (subst (λ z. Midst p net q n w (under_way net) z []) same (ran_midst p w net s q n below vp r x e f)) (none_left net n (RunThread vp q) (λ i ps. refl))
+        simulated p w net stamp n round (RunThread vp q) None d _ is (subst (λ z. Midst p net q n w (under_way net) z []) same (ran_midst p w net s q n (range_below p n (net.nodes n) (RunThread vp q) range) vp r x e f)) (none_left net n (RunThread vp q) (λ i ps. refl))
         (r, best_is (net.nodes n).places.rows r e, subst (λ (z : Doing). RunsFirst r.tid vp z.labels) same (run-first r.tid vp p n q x (net.nodes n)))
 
     by_row : (r : Option Row) → best (net.nodes n).places.rows ≡ r → run_picked p n vp q r (net.nodes n) ≡ Some d → Simulates p w net (event stamp n round (RunThread vp q) None d)
     by_row None e g = absurd (cc g)
     by_row (Some r) e g = by_thread r e (lookup (is_tid r.tid) (net.nodes n).threads) refl g
-acts_simulate p w net stamp n round (Take from) (Some x) d s below is i h =
+acts_simulate p w net stamp n round (Take from) (Some x) d s range is i h =
     let k : Taken p w net s 0 n from x.body = taken p w net s 0 n from x h in
     let same : takes p n from x.body (net.nodes n) ≡ d = cc i in
     let accepted : accepts n from x.body (net.nodes n) ≡ d = sym (ap (λ z. cond z (nothing (net.nodes n)) (accepts n from x.body (net.nodes n))) k.expected) ∙ same in
     simulated p w net stamp n round (Take from) (Some x) d _ is (subst (λ z. Midst p net 0 n w (at_link from n (less_word (word_name (word_of n x.body))) (under_way net)) z []) accepted k.comes) (words_left net n from x h) tt
-acts_simulate p w net stamp n round (Move t to) None d s below is i h = absurd (cc i)
-acts_simulate p w net stamp n round Boot (Some x) d s below is i h = absurd (cc i)
-acts_simulate p w net stamp n round (RunThread vp q) (Some x) d s below is i h = absurd (cc i)
-acts_simulate p w net stamp n round (Take from) None d s below is i h = absurd (cc i)
-acts_simulate p w net stamp n round (Move t to) (Some x) d s below is i h = absurd (cc i)
+acts_simulate p w net stamp n round (Move t to) None d s range is i h = by_listed (is_listed t (net.nodes n).places.rows) refl i
+  where
+    by_thread : is_listed t (net.nodes n).places.rows ≡ true → (x : Option Thread) → lookup (is_tid t) (net.nodes n).threads ≡ x → moves_found p t to x (net.nodes n) ≡ Some d → Simulates p w net (event stamp n round (Move t to) None d)
+    by_thread e None f g = absurd (cc g)
+    by_thread e (Some x) f g =
+        let same : goes p t to x (nothing (net.nodes n)) ≡ d = cc g in
+        let inside = range_to p n (net.nodes n) t to range in
+        let k : Sent p w net s 0 n t to x = sent p w net s 0 n t to x e f inside.0 inside.1 in
+        simulated p w net stamp n round (Move t to) None d _ is (subst (λ z. Midst p net 0 n w (under_way net) z []) same k.left) (none_left net n (Move t to) (λ i ps. refl))
+        (e, subst (λ (z : Doing). z.labels ≡ Left t to ∷ []) same k.labels)
 
--- an event is of a node of the cluster, and is what its act does
-possible : (p : Program) (n : ℕ) (s : Local) (a : Act) (o : Option Packet) (d : Doing) → local_event p n s a o ≡ Some d → (nat_lt n (nodes_of p) ≡ true) × (acts p n s a o ≡ Some d)
+    by_listed : (v : Bool) → is_listed t (net.nodes n).places.rows ≡ v → cond v (moves_found p t to (lookup (is_tid t) (net.nodes n).threads) (net.nodes n)) None ≡ Some d → Simulates p w net (event stamp n round (Move t to) None d)
+    by_listed true e g = by_thread e (lookup (is_tid t) (net.nodes n).threads) refl g
+    by_listed false e g = absurd (cc g)
+acts_simulate p w net stamp n round Boot (Some x) d s range is i h = absurd (cc i)
+acts_simulate p w net stamp n round (RunThread vp q) (Some x) d s range is i h = absurd (cc i)
+acts_simulate p w net stamp n round (Take from) None d s range is i h = absurd (cc i)
+acts_simulate p w net stamp n round (Move t to) (Some x) d s range is i h = absurd (cc i)
+
+-- an event is in range, and is what its act does
+possible : (p : Program) (n : ℕ) (s : Local) (a : Act) (o : Option Packet) (d : Doing) → local_event p n s a o ≡ Some d → (is_range p n s a ≡ true) × (acts p n s a o ≡ Some d)
 possible p n s a o d is = by (is_range p n s a) refl (opened p n s a o d is)
   where
-    by : (v : Bool) → is_range p n s a ≡ v → cond v (acts p n s a o) None ≡ Some d → (nat_lt n (nodes_of p) ≡ true) × (acts p n s a o ≡ Some d)
-    by true e g = (range_below p n s a e, g)
+    by : (v : Bool) → is_range p n s a ≡ v → cond v (acts p n s a o) None ≡ Some d → (is_range p n s a ≡ true) × (acts p n s a o ≡ Some d)
+    by true e g = (e, g)
     by false e g = absurd (cc g)
 
 pub event_below : (p : Program) (n : ℕ) (s : Local) (a : Act) (o : Option Packet) (d : Doing) → local_event p n s a o ≡ Some d → nat_lt n (nodes_of p) ≡ true
-event_below p n s a o d is = (possible p n s a o d is).0
+event_below p n s a o d is = range_below p n s a (possible p n s a o d is).0
 
 pub simulates : (p : Program) (w : Spots) (net : Net) (stamp n round : ℕ) (a : Act) (o : Option Packet) (d : Doing) → Stands p w net → local_event p n (net.nodes n) a o ≡ Some d → o ≡ next_packet net n a
     → Simulates p w net (event stamp n round a o d)

@@ -1,5 +1,6 @@
 -- The small steps of calls, runs and replies, each on an event in its midst. What the event is busy with says all that a step needs.
-use Rattle.std.proofs.Common.{◌≡◌, ℕ, List, [], ◌∷◌, ◌++◌, Option, Some, None, true, false, eqb, cond, refl, sym, ap, ◌∙◌, subst, map}
+use Rattle.std.proofs.Common.{◌≡◌, ℕ, ◌<◌, List, [], ◌∷◌, ◌++◌, Option, Some, None, true, false, eqb, cond, refl, sym, ap, ◌∙◌, subst, map}
+use Rattle.std.specs.Prelude.{nat_lt}
 use Rattle.std.specs.Map.{lookup}
 use Rattle.std.proofs.lemmas.Bool.{eq-eqb}
 use Rattle.std.proofs.lemmas.List.{append-nil}
@@ -10,34 +11,34 @@ use Rattle.slot_space.specs.declared.names.Reply.TheVariants as replies
 use Rattle.rv_step.specs.Step.{State}
 use Rattle.rv_step.specs.Run.{after, StopsBy}
 use Rattle.run_trace.specs.declared.label.Label.{Label}
-use Rattle.run_trace.specs.declared.label.Label.TheVariants.{Ran, Asked, Judged, Told, Halted}
+use Rattle.run_trace.specs.declared.label.Label.TheVariants.{Ran, Asked, Judged, Told, Left, Halted}
 use Rattle.run_trace.specs.declared.label.Extra.TheVariants.{Nothing}
 use Rattle.run_trace.specs.declared.packet.Body.{Body}
-use Rattle.run_trace.specs.declared.packet.Body.TheVariants.{Show, JoinAsk}
+use Rattle.run_trace.specs.declared.packet.Body.TheVariants.{Mover, Show, JoinAsk}
 use Rattle.run_trace.specs.declared.packet.Send.{Send}
 use Rattle.run_trace.specs.declared.node.Wait.{Wait}
 use Rattle.run_trace.specs.declared.node.Wait.TheVariants as wait
 use Rattle.run_trace.specs.Names.{is_tid}
-use Rattle.run_trace.specs.Program.{Program, code_of}
-use Rattle.run_trace.specs.Guests.{Guest, Thread, Run, run_of, waits, with_state, told, Solo}
+use Rattle.run_trace.specs.Program.{Program, nodes_of, code_of}
+use Rattle.run_trace.specs.Guests.{Guest, Thread, Run, run_of, waits, with_state, told, packed, Solo}
 use Rattle.run_trace.specs.declared.call.Call.{Call}
-use Rattle.run_trace.specs.declared.call.Call.TheVariants.{Create}
+use Rattle.run_trace.specs.declared.call.Call.TheVariants.{Create, MigrateSelf}
 use Rattle.run_trace.specs.Calls.{call_of, number_of, args_of, refusal, said_bytes}
 use Rattle.run_trace.specs.Places.{Places, taken_off}
 use Rattle.run_trace.specs.Local.{Local, Doing}
-use Rattle.run_trace.specs.Steps.{say, put, arrive, take_off, thread_at, at_found, at_thread, keep, halt, ran, asks, asks_show, asks_join, halts, judge, tell, tell_found, settle, extra_of}
-use Rattle.run_trace.specs.Machine.{answer, settles}
+use Rattle.run_trace.specs.Steps.{say, put, arrive, take_off, thread_at, at_found, at_thread, keep, halt, ran, asks, asks_show, asks_join, halts, judge, tell, tell_found, settle, leaves, thread_out, extra_of}
+use Rattle.run_trace.specs.Machine.{answer, settles, goes}
 use Rattle.run_trace.specs.Cluster.{Net}
 use Rattle.run_trace.specs.Keyed.{StandsFor, MapStandsFor}
-use Rattle.run_trace.specs.Spots.{Stage, Ready, Running, Due, Served, Told_next, Halts, Stays, Shows, Asks, Awaits, Life, Unborn, On, Response, Spot, Spots, update, after_label, ran_stage, stage_of_call, second_of, judged_life, judged_guest, at_node}
-use Rattle.run_trace.specs.Rules.{causes, send_to, asked_causes, judged_causes, lowest_free}
+use Rattle.run_trace.specs.Spots.{Stage, Ready, Running, Due, Served, Told_next, Told_then, Departs, Halts, Stays, Shows, Asks, Awaits, Life, Unborn, On, Moving, Response, Spot, Spots, update, after_label, ran_stage, stage_of_call, second_of, judged_stage, judged_life, judged_guest, told_stage, at_node}
+use Rattle.run_trace.specs.Rules.{MayTell, MayLeave, causes, send_to, asked_causes, judged_causes, lowest_free}
 use Rattle.run_trace.specs.Console.{shown_by}
 use Rattle.run_trace.specs.Stands.{Busy, busy, busy_name, is_busy, busy_part, thread_part, thread_in_life, thread_in_stage, row_part, row_in_life, row_in_stage, listed, listed_name, word_name, word_of, way, way_of, phase_of, held, held_in_stage, holding_of}
 use Rattle.trace_laws.proofs.Tids.{is-true, is-refl}
-use Rattle.trace_laws.proofs.KeyedLemmas.{lookup-set_same, kept, removed, added, replaced, fronted, unfronted, refronted, map_kept, map_set}
+use Rattle.trace_laws.proofs.KeyedLemmas.{lookup-set_same, kept, removed, added, replaced, fronted, unfronted, refronted, map_kept, map_removed, map_set}
 use Rattle.trace_laws.proofs.RunLemmas.{run_does, run_stepped, run_slots}
 use Rattle.trace_laws.proofs.Midst.{Links, Midst, under, LinkStands, Allowed, Frame, spots_with, spots_at, labelled, here_kept, agrees_kept, Plain, plain, is_plain, links_kept, Keeps, keeps, put_link, spot_then, updated}
-use Rattle.trace_laws.proofs.Parts.{at_hand, listed_without, listed_arrived, is_home, home_way, home_quiet, home_plain, frame_home, away_thread, away_row, busy_none}
+use Rattle.trace_laws.proofs.Parts.{at_hand, listed_without, listed_arrived, is_home, home_way, home_quiet, home_plain, home_busy, frame_home, away_thread, away_row, busy_none}
 
 -- a thread that has run is still here
 pub ran_there : (t : Tid) (vp : ℕ) (r : Run) (x : Thread) (d : Doing) → thread_at t d ≡ Some x → thread_at t (ran t vp r x d) ≡ Some (record x { guest = with_state r.state x.guest })
@@ -99,8 +100,8 @@ module _ (p : Program) (net : Net) (q n : ℕ) (w : Spots) (L : Links) where
       → Is (record { node = now; labels = d.labels ++ l ∷ []; sends = d.sends; prints = d.prints }) more
   home_step d hand more l t r now a b m same ok sent shown x y home_a home_b slots ties names own halted =
       let s : Spot = spot d t in
-      let old : way_of t s.life s.verdict ≡ None = ap (λ z. way_of t z s.verdict) x ∙ home_way t n a s.verdict home_a in
-      let new : way_of t r.life r.verdict ≡ None = ap (λ z. way_of t z r.verdict) y ∙ home_way t n b r.verdict home_b in
+      let old : way_of t s.life s.verdict s.guest ≡ None = ap (λ z. way_of t z s.verdict s.guest) x ∙ home_way t n a s.verdict s.guest home_a in
+      let new : way_of t r.life r.verdict r.guest ≡ None = ap (λ z. way_of t z r.verdict r.guest) y ∙ home_way t n b r.verdict r.guest home_b in
       moved L d hand more l t r now d.sends d.prints m same ok
       (sym (append-nil d.sends) ∙ ap (λ z. d.sends ++ z) (sym sent)) (sym (append-nil d.prints) ∙ ap (λ z. d.prints ++ z) (sym shown))
       ties names own halted
@@ -118,8 +119,8 @@ module _ (p : Program) (net : Net) (q n : ℕ) (w : Spots) (L : Links) where
       → after_label p n l (spots_at p net q n w d) ≡ spots_with (update (spots_at p net q n w d).threads t r) (spots_at p net q n w d).slots (spots_at p net q n w d).births (spots_at p net q n w d).halts
       → Allowed p q n l (spots_at p net q n w d)
       → causes p n l (spots_at p net q n w d) ≡ send_to to body → shown_by l (spots_at p net q n w d) ≡ []
-      → way_of t (spot d t).life (spot d t).verdict ≡ None
-      → way_of t r.life r.verdict ≡ way n to (word_of to body)
+      → way_of t (spot d t).life (spot d t).verdict (spot d t).guest ≡ None
+      → way_of t r.life r.verdict r.guest ≡ way n to (word_of to body)
       → word_name (word_of to body) ≡ t
       → Ties (spots_at p net q n w d) t r now more
       → now.names ≡ d.node.names → now.slots.own ≡ d.node.slots.own → now.halted ≡ d.node.halted
@@ -171,41 +172,71 @@ module _ (p : Program) (net : Net) (q n : ℕ) (w : Spots) (L : Links) where
 
   -- ## Replies
 
-  pub judge_ok : (d : Doing) (t : Tid) (code : ℕ) (second : Option ℕ) (a : Stage) (hs : List Busy) → Is d (busy t (On n a) ∷ hs)
+  pub judge_ok : (d : Doing) (t : Tid) (code : ℕ) (second : Option ℕ) (a b : Stage) (hs : List Busy) → Is d (busy t (On n a) ∷ hs)
       → Allowed p q n (Judged t code (extra_of second)) (spots_at p net q n w d)
-      → after_label p n (Judged t code (extra_of second)) (spots_at p net q n w d) ≡ spots_with (update (spots_at p net q n w d).threads t (record (spot d t) { life = On n Told_next; verdict = record { code = code; second = second_of (extra_of second) } })) (spots_at p net q n w d).slots (spots_at p net q n w d).births (spots_at p net q n w d).halts
+      → after_label p n (Judged t code (extra_of second)) (spots_at p net q n w d) ≡ spots_with (update (spots_at p net q n w d).threads t (record (spot d t) { life = On n b; verdict = record { code = code; second = second_of (extra_of second) } })) (spots_at p net q n w d).slots (spots_at p net q n w d).births (spots_at p net q n w d).halts
       → causes p n (Judged t code (extra_of second)) (spots_at p net q n w d) ≡ []
       → is_home a ≡ true → thread_in_stage a (spot d t).guest ≡ Some (waits wait.No (spot d t).guest) → row_in_stage t a (spot d t).guest.priority ≡ None → held_in_stage a (spot d t).guest ≡ Some (holding_of (spot d t).guest)
-      → Is (judge t code second d) (busy t (On n Told_next) ∷ hs)
+      → is_home b ≡ true → is_busy n (On n b) ≡ true → thread_in_stage b (spot d t).guest ≡ Some (waits wait.No (spot d t).guest) → row_in_stage t b (spot d t).guest.priority ≡ None → held_in_stage b (spot d t).guest ≡ Some (holding_of (spot d t).guest)
+      → Is (judge t code second d) (busy t (On n b) ∷ hs)
   unfolding judge say
-  judge_ok d t code second a hs m ok same sent home there row slots =
+  judge_ok d t code second a b hs m ok same sent home there row slots home_b busied there_b row_b slots_b =
       let v : Spots = spots_at p net q n w d in
       let s : Spot = spot d t in
       let x : s.life ≡ On n a = in_hand d t (On n a) hs m in
-      let r : Spot = record s { life = On n Told_next; verdict = record { code = code; second = second_of (extra_of second) } } in
-      home_step d _ (busy t (On n Told_next) ∷ hs) (Judged t code (extra_of second)) t r d.node a Told_next m same ok sent refl x refl home refl (keeps _ _ (sym slots))
+      let r : Spot = record s { life = On n b; verdict = record { code = code; second = second_of (extra_of second) } } in
+      home_step d _ (busy t (On n b) ∷ hs) (Judged t code (extra_of second)) t r d.node a b m same ok sent refl x refl home home_b (keeps _ _ (slots_b ∙ sym slots))
       (record {
-        threads = map_kept is_tid is-true is-refl (thread_part n) v.threads t r d.node.threads m.here.threads (thread_was r t Told_next refl ∙ sym (thread_was s t a x ∙ there));
-        rows = kept is_tid is-true is-refl listed_name (row_part n) v.threads t r (map listed d.node.places.rows) m.here.rows (row_was r t Told_next refl ∙ sym (row_was s t a x ∙ row));
-        busy = refronted is_tid is-true is-refl busy_name (busy_part n) v.threads t r hs (busy t (On n a)) (busy t (On n Told_next)) m.here.busy refl refl (busy_was r t (On n Told_next) refl (eq-eqb n n refl));
+        threads = map_kept is_tid is-true is-refl (thread_part n) v.threads t r d.node.threads m.here.threads (thread_was r t b refl ∙ there_b ∙ sym (thread_was s t a x ∙ there));
+        rows = kept is_tid is-true is-refl listed_name (row_part n) v.threads t r (map listed d.node.places.rows) m.here.rows (row_was r t b refl ∙ row_b ∙ sym (row_was s t a x ∙ row));
+        busy = refronted is_tid is-true is-refl busy_name (busy_part n) v.threads t r hs (busy t (On n a)) (busy t (On n b)) m.here.busy refl refl (busy_was r t (On n b) refl busied);
       }) refl refl refl
 
-  pub tell_ok : (d : Doing) (t : Tid) (hs : List Busy) → Is d (busy t (On n Told_next) ∷ hs) → Is (tell t (spot d t).verdict.code (spot d t).verdict.second d) hs
+  -- what a thread that is told is then
+  abbrev told_with : Doing → Tid → Stage → Spot
+  told_with d t b = record (spot d t) { life = On n b; guest = told (spot d t).verdict.code (spot d t).verdict.second (spot d t).guest }
+
+  -- a thread in this stage is told, and goes on in that one
+  tells_ok : (d : Doing) (t : Tid) (a b : Stage) (hs more : List Busy) → Is d (busy t (On n a) ∷ hs)
+      → MayTell n (On n a) → told_stage (On n a) ≡ b → is_home a ≡ true → is_home b ≡ true
+      → ((g : Guest) → thread_in_stage a g ≡ Some (waits wait.No g)) → ((g : Guest) → thread_in_stage b g ≡ Some (waits wait.No g))
+      → ((k : ℕ) → row_in_stage t a k ≡ None) → ((k : ℕ) → row_in_stage t b k ≡ Some (record { tid = t; priority = k }))
+      → ((g : Guest) → held_in_stage a g ≡ Some (holding_of g)) → ((g : Guest) → held_in_stage b g ≡ Some (holding_of g))
+      → StandsFor is_tid busy_name (busy_part n) more (update (spots_at p net q n w d).threads t (told_with d t b))
+      → Is (tell t (spot d t).verdict.code (spot d t).verdict.second d) more
   unfolding tell arrive say keep
-  tell_ok d t hs m =
+  tells_ok d t a b hs more m may next home_a home_b there_a there_b row_a row_b held_a held_b hand =
       let v : Spots = spots_at p net q n w d in
       let s : Spot = spot d t in
-      let x : s.life ≡ On n Told_next = in_hand d t (On n Told_next) hs m in
+      let x : s.life ≡ On n a = in_hand d t (On n a) hs m in
       let y : Guest = told s.verdict.code s.verdict.second s.guest in
-      let r : Spot = record s { life = On n Ready; guest = y } in
-      subst (λ o. Is (tell_found t s.verdict.code s.verdict.second o d) hs) (sym (on_node d _ t Told_next m x))
-      (home_step d _ hs (Told t) t r _ Told_next Ready m refl (record { solo = tt; holders = tt; life = rw x refl; replies = tt; grants = tt }) refl refl x refl refl refl (keeps _ _ refl)
+      let r : Spot = told_with d t b in
+      let stage : told_stage s.life ≡ b = ap told_stage x ∙ next in
+      subst (λ o. Is (tell_found t s.verdict.code s.verdict.second o d) more) (sym (on_node d _ t a m x ∙ there_a s.guest))
+      (home_step d _ more (Told t) t r _ a b m (ap (λ z. spots_with (update v.threads t (record s { life = On n z; guest = y })) v.slots v.births v.halts) stage)
+      (record { solo = tt; holders = tt; life = subst (λ z. MayTell n z) (sym x) may; replies = tt; grants = tt }) refl refl x refl home_a home_b (keeps _ _ (held_b y ∙ sym (held_a s.guest)))
       (record {
-        threads = map_set is_tid is-true is-refl (thread_part n) v.threads t r d.node.threads (waits wait.No s.guest) (waits wait.No y) m.here.threads (thread_was s t Told_next x) (thread_was r t Ready refl);
+        threads = map_set is_tid is-true is-refl (thread_part n) v.threads t r d.node.threads (waits wait.No s.guest) (waits wait.No y) m.here.threads (thread_was s t a x ∙ there_a s.guest) (thread_was r t b refl ∙ there_b y);
         rows = subst (λ rows. StandsFor is_tid listed_name (row_part n) rows (update v.threads t r)) (sym (listed_arrived t s.guest.priority d.node.places))
-            (added is_tid is-true is-refl listed_name (row_part n) v.threads t r (map listed d.node.places.rows) _ m.here.rows refl (row_was s t Told_next x) (row_was r t Ready refl));
-        busy = unfronted is_tid is-true is-refl busy_name (busy_part n) v.threads t r hs (busy t (On n Told_next)) m.here.busy refl (idle_was r t (On n Ready) refl refl);
+            (added is_tid is-true is-refl listed_name (row_part n) v.threads t r (map listed d.node.places.rows) _ m.here.rows refl (row_was s t a x ∙ row_a s.guest.priority) (row_was r t b refl ∙ row_b s.guest.priority));
+        busy = hand;
       }) refl refl refl)
+
+  -- it is told, and is ready
+  pub tell_ok : (d : Doing) (t : Tid) (hs : List Busy) → Is d (busy t (On n Told_next) ∷ hs) → Is (tell t (spot d t).verdict.code (spot d t).verdict.second d) hs
+  tell_ok d t hs m =
+      let v : Spots = spots_at p net q n w d in
+      let r : Spot = told_with d t Ready in
+      tells_ok d t Told_next Ready hs hs m refl refl refl refl (λ g. refl) (λ g. refl) (λ k. refl) (λ k. refl) (λ g. refl) (λ g. refl)
+      (unfronted is_tid is-true is-refl busy_name (busy_part n) v.threads t r hs (busy t (On n Told_next)) m.here.busy refl (idle_was r t (On n Ready) refl refl))
+
+  -- it is told, and leaves next
+  tell_then_ok : (d : Doing) (t : Tid) (to : ℕ) (hs : List Busy) → Is d (busy t (On n (Told_then to)) ∷ hs) → Is (tell t (spot d t).verdict.code (spot d t).verdict.second d) (busy t (On n (Departs to)) ∷ hs)
+  tell_then_ok d t to hs m =
+      let v : Spots = spots_at p net q n w d in
+      let r : Spot = told_with d t (Departs to) in
+      tells_ok d t (Told_then to) (Departs to) hs (busy t (On n (Departs to)) ∷ hs) m refl refl refl refl (λ g. refl) (λ g. refl) (λ k. refl) (λ k. refl) (λ g. refl) (λ g. refl)
+      (refronted is_tid is-true is-refl busy_name (busy_part n) v.threads t r hs (busy t (On n (Told_then to))) (busy t (On n (Departs to))) m.here.busy refl refl (busy_was r t (On n (Departs to)) refl (eq-eqb n n refl)))
 
   -- the judged reply is what is told next
   judged_verdict : (d : Doing) (t : Tid) (code : ℕ) (second : Option ℕ) (s : Spot)
@@ -228,7 +259,7 @@ module _ (p : Program) (net : Net) (q n : ℕ) (w : Spots) (L : Links) where
       let same = judged_same d t code None (On n (Due code)) x in
       subst (λ (z : Response). Is (tell t z.code z.second (judge t code None d)) hs) (judged_verdict d t code None _ same)
       (tell_ok (judge t code None d) t hs
-      (judge_ok d t code None (Due code) hs m (record { solo = tt; holders = tt; life = rw x refl; replies = rw x (refl, refl); grants = rw x tt }) same (ap (judged_causes t) x) refl refl refl refl))
+      (judge_ok d t code None (Due code) Told_next hs m (record { solo = tt; holders = tt; life = rw x refl; replies = rw x (refl, refl); grants = rw x tt }) same (ap (judged_causes t) x) refl refl refl refl refl (eq-eqb n n refl) refl refl refl))
 
   -- Full, where the node has no slot
   pub refuse_ok : (d : Doing) (t : Tid) (e a k : ℕ) (hs : List Busy) → Is d (busy t (On n (Served (Create e a k))) ∷ hs) → lowest_free n 1 (spots_at p net q n w d) ≡ None → Is (answer t (reply_code replies.Full) d) hs
@@ -239,21 +270,47 @@ module _ (p : Program) (net : Net) (q n : ℕ) (w : Spots) (L : Links) where
       let same = judged_same d t code None (On n stage) x in
       subst (λ (z : Response). Is (tell t z.code z.second (judge t code None d)) hs) (judged_verdict d t code None _ same)
       (tell_ok (judge t code None d) t hs
-      (judge_ok d t code None stage hs m (record { solo = tt; holders = tt; life = rw x refl; replies = rw x (refl, refl); grants = rw x none }) same (ap (judged_causes t) x) refl refl refl refl))
+      (judge_ok d t code None stage Told_next hs m (record { solo = tt; holders = tt; life = rw x refl; replies = rw x (refl, refl); grants = rw x none }) same (ap (judged_causes t) x) refl refl refl refl refl (eq-eqb n n refl) refl refl refl))
+
+  -- a move to another node is answered, and leaves next
+  pub answer_move_ok : (d : Doing) (t : Tid) (to : ℕ) (hs : List Busy) → Is d (busy t (On n (Served (MigrateSelf to))) ∷ hs) → eqb to n ≡ false → Is (answer t 0 d) (busy t (On n (Departs to)) ∷ hs)
+  answer_move_ok d t to hs m away =
+      let v : Spots = spots_at p net q n w d in
+      let stage : Stage = Served (MigrateSelf to) in
+      let x : (spot d t).life ≡ On n stage = in_hand d t (On n stage) hs m in
+      let same = judged_same d t 0 None (On n stage) x
+      ∙ ap (λ z. spots_with (update v.threads t (record { life = On n (cond z Told_next (Told_then to)); guest = (spot d t).guest; verdict = record { code = 0; second = None } })) v.slots v.births v.halts) away in
+      subst (λ (z : Response). Is (tell t z.code z.second (judge t 0 None d)) (busy t (On n (Departs to)) ∷ hs)) (judged_verdict d t 0 None _ same)
+      (tell_then_ok (judge t 0 None d) t to hs
+      (judge_ok d t 0 None stage (Told_then to) hs m (record { solo = tt; holders = tt; life = rw x refl; replies = rw x (refl, refl); grants = rw x tt }) same (ap (judged_causes t) x) refl refl refl refl refl (eq-eqb n n refl) refl refl refl))
+
+  -- a move to the thread's own node is answered, and it is ready
+  pub answer_stay_ok : (d : Doing) (t : Tid) (to : ℕ) (hs : List Busy) → Is d (busy t (On n (Served (MigrateSelf to))) ∷ hs) → eqb to n ≡ true → Is (answer t 0 d) hs
+  answer_stay_ok d t to hs m stays =
+      let v : Spots = spots_at p net q n w d in
+      let stage : Stage = Served (MigrateSelf to) in
+      let x : (spot d t).life ≡ On n stage = in_hand d t (On n stage) hs m in
+      let same = judged_same d t 0 None (On n stage) x
+      ∙ ap (λ z. spots_with (update v.threads t (record { life = On n (cond z Told_next (Told_then to)); guest = (spot d t).guest; verdict = record { code = 0; second = None } })) v.slots v.births v.halts) stays in
+      subst (λ (z : Response). Is (tell t z.code z.second (judge t 0 None d)) hs) (judged_verdict d t 0 None _ same)
+      (tell_ok (judge t 0 None d) t hs
+      (judge_ok d t 0 None stage Told_next hs m (record { solo = tt; holders = tt; life = rw x refl; replies = rw x (refl, refl); grants = rw x tt }) same (ap (judged_causes t) x) refl refl refl refl refl (eq-eqb n n refl) refl refl refl))
 
   -- a reply that changes its thread
   pub settle_ok : (d : Doing) (t : Tid) (code : ℕ) (g : Guest) (c : Call) (hs : List Busy) → Is d (busy t (On n (Served c)) ∷ hs)
-      → judged_guest (On n (Served c)) (spot d t).guest ≡ g
+      → judged_stage n c ≡ Told_next → judged_guest (On n (Served c)) (spot d t).guest ≡ g
       → Allowed p q n (Judged t code Nothing) (spots_at p net q n w d)
       → Keeps (held_in_stage (Served c) (spot d t).guest) (Some (holding_of g))
       → Is (settle t code g d) (busy t (On n Told_next) ∷ hs)
   unfolding settle keep say
-  settle_ok d t code g c hs m becomes ok holds =
+  settle_ok d t code g c hs m next becomes ok holds =
       let v : Spots = spots_at p net q n w d in
       let s : Spot = spot d t in
       let x : s.life ≡ On n (Served c) = in_hand d t (On n (Served c)) hs m in
       let r : Spot = record { life = On n Told_next; guest = g; verdict = record { code = code; second = None } } in
-      let same = judged_same d t code None (On n (Served c)) x ∙ ap (λ (z : Guest). spots_with (update v.threads t (record { life = On n Told_next; guest = z; verdict = record { code = code; second = None } })) v.slots v.births v.halts) becomes in
+      let same = judged_same d t code None (On n (Served c)) x
+      ∙ ap (λ z. spots_with (update v.threads t (record { life = On n z; guest = judged_guest (On n (Served c)) s.guest; verdict = record { code = code; second = None } })) v.slots v.births v.halts) next
+      ∙ ap (λ (z : Guest). spots_with (update v.threads t (record { life = On n Told_next; guest = z; verdict = record { code = code; second = None } })) v.slots v.births v.halts) becomes in
       home_step d _ (busy t (On n Told_next) ∷ hs) (Judged t code Nothing) t r _ (Served c) Told_next m same ok (ap (judged_causes t) x) refl x refl refl refl holds
       (record {
         threads = map_set is_tid is-true is-refl (thread_part n) v.threads t r d.node.threads (waits wait.No s.guest) (waits wait.No g) m.here.threads (thread_was s t (Served c) x) (thread_was r t Told_next refl);
@@ -267,13 +324,13 @@ module _ (p : Program) (net : Net) (q n : ℕ) (w : Spots) (L : Links) where
 
   -- and is told at once
   pub settles_ok : (d : Doing) (t : Tid) (code : ℕ) (g : Guest) (c : Call) (hs : List Busy) → Is d (busy t (On n (Served c)) ∷ hs)
-      → judged_guest (On n (Served c)) (spot d t).guest ≡ g
+      → judged_stage n c ≡ Told_next → judged_guest (On n (Served c)) (spot d t).guest ≡ g
       → Allowed p q n (Judged t code Nothing) (spots_at p net q n w d)
       → Keeps (held_in_stage (Served c) (spot d t).guest) (Some (holding_of g))
       → Is (settles t code g d) hs
-  settles_ok d t code g c hs m becomes ok holds =
+  settles_ok d t code g c hs m next becomes ok holds =
       subst (λ (z : Response). Is (tell t z.code z.second (settle t code g d)) hs) (settled_verdict d t code g)
-      (tell_ok (settle t code g d) t hs (settle_ok d t code g c hs m becomes ok holds))
+      (tell_ok (settle t code g d) t hs (settle_ok d t code g c hs m next becomes ok holds))
 
   -- ## Runs
 
@@ -397,7 +454,7 @@ module _ (p : Program) (net : Net) (q n : ℕ) (w : Spots) (L : Links) where
   -- a call that sends a packet
   asks_out_ok : (d : Doing) (t : Tid) (bytes : List ℕ) (b : Stage) (waiting : Wait) (to : ℕ) (body : Body) (hs : List Busy) → Is d (busy t (On n Running) ∷ hs)
       → stage_of_call p n t (solo_at d t) ≡ b → bytes ≡ bytes_at d t → asked_causes t b ≡ send_to to body
-      → way_of t (On n b) (spot d t).verdict ≡ way n to (word_of to body) → word_name (word_of to body) ≡ t
+      → way_of t (On n b) (spot d t).verdict (spot d t).guest ≡ way n to (word_of to body) → word_name (word_of to body) ≡ t
       → ((k : ℕ) → is_busy k (On n b) ≡ false) → thread_in_stage b (spot d t).guest ≡ Some (waits waiting (spot d t).guest) → row_in_stage t b (spot d t).guest.priority ≡ None
       → held_in_stage b (spot d t).guest ≡ Some (holding_of (spot d t).guest) → is_plain (On n b) ≡ true
       → Is (put to body (say (Asked t (number_of (call_at d t)) (args_of (call_at d t)) bytes) (keep t (waits waiting (spot d t).guest) d))) hs
@@ -409,7 +466,7 @@ module _ (p : Program) (net : Net) (q n : ℕ) (w : Spots) (L : Links) where
       let r : Spot = record s { life = On n b } in
       send_step d _ hs (Asked t (number_of (call_at d t)) (args_of (call_at d t)) bytes) t r _ to body m (asked_same d t bytes b st)
       (record { solo = (refl, refl, said); holders = tt; life = x; replies = tt; grants = tt }) (ap (asked_causes t) st ∙ sent) refl
-      (ap (λ z. way_of t z s.verdict) x) ways name
+      (ap (λ z. way_of t z s.verdict s.guest) x) ways name
       (record {
         threads = map_set is_tid is-true is-refl (thread_part n) v.threads t r d.node.threads (waits wait.No s.guest) (waits waiting s.guest) m.here.threads (thread_was s t Running x) (thread_was r t b refl ∙ there);
         rows = kept is_tid is-true is-refl listed_name (row_part n) v.threads t r (map listed d.node.places.rows) m.here.rows (row_was r t b refl ∙ row ∙ sym (row_was s t Running x));
@@ -456,6 +513,65 @@ module _ (p : Program) (net : Net) (q n : ℕ) (w : Spots) (L : Links) where
         halted = rw (eq-eqb n n refl) refl;
       })
       (λ k e. here_kept k v t r v.slots v.births (at_node v.halts n true) (net.nodes k) [] (m.there k e) (record { thread = away_thread n k t r Stays refl e ∙ sym (away_thread n k t s Halts x e); row = away_row n k t r Stays refl e ∙ sym (away_row n k t s Halts x e); busy = busy_none k t r (On n Stays) refl refl ∙ sym (busy_none k t s (On n Halts) x e) }) refl (λ y. refl) (rw e refl))
-      (λ i j. links_kept t r v.threads (under n L d.sends) m.links (sym (ap (λ z. way_of t z s.verdict) x)) i j)
+      (λ i j. links_kept t r v.threads (under n L d.sends) m.links (sym (ap (λ z. way_of t z s.verdict s.guest) x)) i j)
       (agrees_kept p v t r (at_node v.halts n true) m.agrees (sym (ap phase_of x)) (λ u k e. home_quiet n Halts refl u k (sym x ∙ e)) (keeps _ _ (ap (λ z. held z s.guest) (sym x))) (λ e. absurd (cc (e, x))) (λ u k e. absurd (cc e))
       (λ k e. (let same : n ≡ k = cc e in rw (eq-eqb n k same) refl)) (λ k e. elim (eqb n k) as (λ v. cond v true ((spots_at p net q n w d).halts k) ≡ true) [ true ↦ refl | false ↦ e ]))
+
+  -- ## Moves
+
+  -- a thread on the run list goes to another node of the cluster
+  pub leaves_ok : (d : Doing) (t : Tid) (to : ℕ) (a : Stage) (hand hs : List Busy) → Is d hand → (spot d t).life ≡ On n a
+      → MayLeave n to (On n a) → to < nodes_of p → (to ≡ n → ⊥)
+      → is_home a ≡ true → held_in_stage a (spot d t).guest ≡ Some (holding_of (spot d t).guest)
+      → StandsFor is_tid busy_name (busy_part n) hs (update (spots_at p net q n w d).threads t (record (spot d t) { life = Moving n to }))
+      → Is (leaves t to (waits wait.No (spot d t).guest) d) hs
+  unfolding leaves put say thread_out take_off
+  leaves_ok d t to a hand hs m x may below other home slots hands =
+      let v : Spots = spots_at p net q n w d in
+      let s : Spot = spot d t in
+      let r : Spot = record s { life = Moving n to } in
+      send_step d hand hs (Left t to) t r _ to (Mover (packed t s.guest)) m refl
+      (record { solo = tt; holders = tt; life = (subst (λ z. MayLeave n to z) (sym x) may, below, other); replies = tt; grants = tt }) refl refl
+      (ap (λ z. way_of t z s.verdict s.guest) x ∙ home_way t n a s.verdict s.guest home) refl refl
+      (record {
+        threads = map_removed is_tid is-true is-refl (thread_part n) v.threads t r d.node.threads m.here.threads refl;
+        rows = subst (λ rows. StandsFor is_tid listed_name (row_part n) rows (update v.threads t r)) (sym (listed_without t d.node.places.rows))
+            (removed is_tid is-true is-refl listed_name (row_part n) v.threads t r (map listed d.node.places.rows) m.here.rows refl);
+        busy = hands;
+      }) refl refl refl
+      (λ k e. record {
+        thread = sym (away_thread n k t s a x e);
+        row = sym (away_row n k t s a x e);
+        busy = sym (busy_none k t s (On n a) x (home_busy n k a home e));
+      })
+      (sym (ap phase_of x))
+      (λ u k e. home_quiet n a home u k (sym x ∙ e))
+      (keeps _ _ (sym (ap (λ z. held z s.guest) x ∙ slots)))
+      (λ e. absurd (cc (e, x)))
+      (plain _ refl)
+
+  -- its home is a node, as each thread's is
+  pub home_of : (d : Doing) (hand : List Busy) (t : Tid) (a : Stage) → Is d hand → (spot d t).life ≡ On n a → nat_lt t.home (nodes_of p) ≡ true
+  home_of d hand t a m x = elim (nat_lt t.home (nodes_of p)) as (λ v. nat_lt t.home (nodes_of p) ≡ v → v ≡ true) [
+    | true ↦ λ e. refl
+    | false ↦ λ e. (let none : (spot d t).life ≡ Unborn = m.agrees.homes t e in absurd (cc (none, x)))
+  ] refl
+
+  -- by its own call
+  pub departs_ok : (d : Doing) (t : Tid) (to : ℕ) (hs : List Busy) → Is d (busy t (On n (Departs to)) ∷ hs) → to < nodes_of p → (to ≡ n → ⊥) → Is (goes p t to (waits wait.No (spot d t).guest) d) hs
+  departs_ok d t to hs m below other =
+      let v : Spots = spots_at p net q n w d in
+      let x : (spot d t).life ≡ On n (Departs to) = in_hand d t (On n (Departs to)) hs m in
+      let r : Spot = record (spot d t) { life = Moving n to } in
+      subst (λ b. Is (cond b (leaves t to (waits wait.No (spot d t).guest) d) d) hs) (sym (home_of d _ t (Departs to) m x))
+      (leaves_ok d t to (Departs to) _ hs m x (refl, refl) below other refl refl
+      (unfronted is_tid is-true is-refl busy_name (busy_part n) v.threads t r hs (busy t (On n (Departs to))) m.here.busy refl refl))
+
+  -- or because it is sent away
+  pub sent_ok : (d : Doing) (t : Tid) (to : ℕ) → Is d [] → (spot d t).life ≡ On n Ready → to < nodes_of p → (to ≡ n → ⊥) → Is (goes p t to (waits wait.No (spot d t).guest) d) []
+  sent_ok d t to m x below other =
+      let v : Spots = spots_at p net q n w d in
+      let r : Spot = record (spot d t) { life = Moving n to } in
+      subst (λ b. Is (cond b (leaves t to (waits wait.No (spot d t).guest) d) d) []) (sym (home_of d _ t Ready m x))
+      (leaves_ok d t to Ready [] [] m x refl below other refl refl
+      (kept is_tid is-true is-refl busy_name (busy_part n) v.threads t r [] m.here.busy (sym (idle_was (spot d t) t (On n Ready) x refl))))

@@ -12,7 +12,7 @@ use Rattle.run_trace.specs.Keyed.{item_of}
 use Rattle.run_trace.specs.Places.{best}
 use Rattle.run_trace.specs.Outcome.{Lives, AllLinksEmpty, WaitsByItsRule, IsStuck}
 use Rattle.run_trace.specs.Rules.{IsSettled}
-use Rattle.run_trace.specs.Spots.{Stage, Ready, Running, Due, Served, Told_next, Ends, Leaves, Halts, Stays, Shows, Showing, Shown_there, Asks, Awaits, Answers, Answered, Life, Unborn, On, Noting, Gone, Response, Spots}
+use Rattle.run_trace.specs.Spots.{Stage, Ready, Running, Due, Served, Told_next, Told_then, Departs, Ends, Leaves, Halts, Stays, Shows, Showing, Shown_there, Asks, Awaits, Answers, Answered, Life, Unborn, On, Moving, Noting, Gone, Response, Spots}
 use Rattle.run_trace.specs.Stands.{Stands, listed, listed_name, row_part, row_in_life, link_part, on_link, way_of, Way, word_name, words_of, phase_of, phase_at, During, thread_in_life, thread_in_stage, wait_of}
 use Rattle.trace_laws.proofs.Simulate.{picked_ready}
 use Rattle.trace_laws.proofs.Wholes.{settled_at}
@@ -20,7 +20,7 @@ use Rattle.trace_laws.proofs.Consequences.{OnNode, on_node_is}
 
 module _ (p : Program) (w : Spots) (net : Net) (s : Stands p w net) where
   -- no link holds a packet of a thread
-  no_way : AllLinksEmpty net → (t : Tid) (x : Way) → way_of t (w.threads t).life (w.threads t).verdict ≡ Some x → ⊥
+  no_way : AllLinksEmpty net → (t : Tid) (x : Way) → way_of t (w.threads t).life (w.threads t).verdict (w.threads t).guest ≡ Some x → ⊥
   no_way empty t x h =
       let shown : link_part x.from x.to t (w.threads t) ≡ Some x.word = ap (on_link x.from x.to) h ∙ (rw (eq-eqb x.from x.from refl, eq-eqb x.to x.to refl) refl) in
       let held : item_of is_tid word_name (words_of x.to (net.links x.from x.to)) t ≡ Some x.word = (s.links x.from x.to).shows t ∙ shown in
@@ -33,8 +33,8 @@ module _ (p : Program) (w : Spots) (net : Net) (s : Stands p w net) where
       v : Response
       v = (w.threads t).verdict
 
-      sent : (life : Life) (x : Way) → (w.threads t).life ≡ life → way_of t life v ≡ Some x → WaitsByItsRule w life
-      sent life x e h = absurd (no_way empty t x (ap (λ z. way_of t z v) e ∙ h))
+      sent : (life : Life) (x : Way) → (w.threads t).life ≡ life → way_of t life v (w.threads t).guest ≡ Some x → WaitsByItsRule w life
+      sent life x e h = absurd (no_way empty t x (ap (λ z. way_of t z v (w.threads t).guest) e ∙ h))
 
       awaited : (m : ℕ) (u : Tid) → (w.threads t).life ≡ On m (Awaits u) → Lives (w.threads u).life
       awaited m u e = by_life (w.threads u).life refl (sym (ap phase_at (s.agrees.waits u t m e)) ∙ s.agrees.named u)
@@ -42,7 +42,8 @@ module _ (p : Program) (w : Spots) (net : Net) (s : Stands p w net) where
           by_life : (life : Life) → (w.threads u).life ≡ life → During ≡ phase_of (w.threads u).life → Lives life
           by_life Unborn f h = absurd (cc (h ∙ ap phase_of f))
           by_life (On k stage) f h = tt
-          by_life (Noting k end) f h = absurd (no_way empty u _ (ap (λ z. way_of u z (w.threads u).verdict) f))
+          by_life (Moving k to) f h = tt
+          by_life (Noting k end) f h = absurd (no_way empty u _ (ap (λ z. way_of u z (w.threads u).verdict (w.threads u).guest) f))
           by_life (Gone end) f h = absurd (cc (h ∙ ap phase_of f))
 
       ready : (m : ℕ) → (w.threads t).life ≡ On m Ready → ⊥
@@ -53,6 +54,7 @@ module _ (p : Program) (w : Spots) (net : Net) (s : Stands p w net) where
 
       by : (life : Life) → (w.threads t).life ≡ life → IsSettled (w.threads t).life → WaitsByItsRule w life
       by Unborn e k = tt
+      by (Moving m to) e k = sent (Moving m to) _ e refl
       by (Noting m end) e k = tt
       by (Gone end) e k = tt
       by (On m (Awaits u)) e k = awaited m u e
@@ -66,6 +68,8 @@ module _ (p : Program) (w : Spots) (net : Net) (s : Stands p w net) where
       by (On m (Due code)) e k = absurd (subst (λ z. IsSettled z) e k)
       by (On m (Served c)) e k = absurd (subst (λ z. IsSettled z) e k)
       by (On m Told_next) e k = absurd (subst (λ z. IsSettled z) e k)
+      by (On m (Told_then to)) e k = absurd (subst (λ z. IsSettled z) e k)
+      by (On m (Departs to)) e k = absurd (subst (λ z. IsSettled z) e k)
       by (On m (Ends end)) e k = absurd (subst (λ z. IsSettled z) e k)
       by (On m (Leaves end)) e k = absurd (subst (λ z. IsSettled z) e k)
       by (On m Halts) e k = absurd (subst (λ z. IsSettled z) e k)
@@ -86,32 +90,43 @@ module _ (p : Program) (w : Spots) (net : Net) (s : Stands p w net) where
 
   -- ## Who lives is on a node
 
-  pub is_somewhere : (t : Tid) → Lives (w.threads t).life → (n : ℕ) × (x : Thread) × IsOn net n t x
-  is_somewhere t lives = by (w.threads t).life refl lives (settled_at p w net s t)
+  -- between events a thread at any stage is on its node
+  pub is_there : (t : Tid) (m : ℕ) (stage : Stage) → (w.threads t).life ≡ On m stage → (x : Thread) × IsOn net m t x
+  is_there t m stage e = by stage e (subst (λ z. IsSettled z) e (settled_at p w net s t))
     where
-      here : (m : ℕ) (stage : Stage) (x : Thread) → (w.threads t).life ≡ On m stage → thread_in_stage stage (w.threads t).guest ≡ Some x → (n : ℕ) × (y : Thread) × IsOn net n t y
-      here m stage x e h = (m, x, (s.nodes m).threads.shows t ∙ ap (λ z. thread_in_life m z (w.threads t).guest) e ∙ (rw (eq-eqb m m refl) h))
+      here : (stage : Stage) (x : Thread) → (w.threads t).life ≡ On m stage → thread_in_stage stage (w.threads t).guest ≡ Some x → (y : Thread) × IsOn net m t y
+      here stage x e h = (x, (s.nodes m).threads.shows t ∙ ap (λ z. thread_in_life m z (w.threads t).guest) e ∙ (rw (eq-eqb m m refl) h))
 
-      by : (life : Life) → (w.threads t).life ≡ life → Lives life → IsSettled (w.threads t).life → (n : ℕ) × (x : Thread) × IsOn net n t x
-      by Unborn e l k = absurd l
-      by (Noting m end) e l k = absurd l
-      by (Gone end) e l k = absurd l
-      by (On m (Awaits u)) e l k = here m (Awaits u) _ e refl
-      by (On m Ready) e l k = here m Ready _ e refl
-      by (On m Stays) e l k = here m Stays _ e refl
-      by (On m (Shows bytes)) e l k = here m (Shows bytes) _ e refl
-      by (On m Shown_there) e l k = here m Shown_there _ e refl
-      by (On m (Asks u)) e l k = here m (Asks u) _ e refl
-      by (On m (Answered h)) e l k = here m (Answered h) _ e refl
-      by (On m Running) e l k = absurd (subst (λ z. IsSettled z) e k)
-      by (On m (Due code)) e l k = absurd (subst (λ z. IsSettled z) e k)
-      by (On m (Served c)) e l k = absurd (subst (λ z. IsSettled z) e k)
-      by (On m Told_next) e l k = absurd (subst (λ z. IsSettled z) e k)
-      by (On m (Ends end)) e l k = absurd (subst (λ z. IsSettled z) e k)
-      by (On m (Leaves end)) e l k = absurd (subst (λ z. IsSettled z) e k)
-      by (On m Halts) e l k = absurd (subst (λ z. IsSettled z) e k)
-      by (On m Showing) e l k = absurd (subst (λ z. IsSettled z) e k)
-      by (On m (Answers h reply second)) e l k = absurd (subst (λ z. IsSettled z) e k)
+      by : (stage : Stage) → (w.threads t).life ≡ On m stage → IsSettled (On m stage) → (x : Thread) × IsOn net m t x
+      by (Awaits u) e k = here (Awaits u) _ e refl
+      by Ready e k = here Ready _ e refl
+      by Stays e k = here Stays _ e refl
+      by (Shows bytes) e k = here (Shows bytes) _ e refl
+      by Shown_there e k = here Shown_there _ e refl
+      by (Asks u) e k = here (Asks u) _ e refl
+      by (Answered h) e k = here (Answered h) _ e refl
+      by Running e k = absurd k
+      by (Due code) e k = absurd k
+      by (Served c) e k = absurd k
+      by Told_next e k = absurd k
+      by (Told_then to) e k = absurd k
+      by (Departs to) e k = absurd k
+      by (Ends end) e k = absurd k
+      by (Leaves end) e k = absurd k
+      by Halts e k = absurd k
+      by Showing e k = absurd k
+      by (Answers h reply second) e k = absurd k
+
+  -- where nothing is under way each that lives is on a node
+  pub is_somewhere : AllLinksEmpty net → (t : Tid) → Lives (w.threads t).life → (n : ℕ) × (x : Thread) × IsOn net n t x
+  is_somewhere empty t lives = by (w.threads t).life refl lives
+    where
+      by : (life : Life) → (w.threads t).life ≡ life → Lives life → (n : ℕ) × (x : Thread) × IsOn net n t x
+      by Unborn e l = absurd l
+      by (On m stage) e l = let k = is_there t m stage e in (m, k.0, k.1)
+      by (Moving m to) e l = absurd (no_way empty t _ (ap (λ z. way_of t z (w.threads t).verdict (w.threads t).guest) e))
+      by (Noting m end) e l = absurd l
+      by (Gone end) e l = absurd l
 
   pub lives_there : (t : Tid) (n : ℕ) (x : Thread) → IsOn net n t x → Lives (w.threads t).life
   lives_there t n x h =

@@ -1,30 +1,69 @@
 -- What a packet brings, on an event in its midst. L are the links before the packet is taken.
-use Rattle.std.proofs.Common.{◌≡◌, ℕ, List, [], ◌∷◌, Option, Some, None, true, false, eqb, refl, sym, ap, ◌∙◌, subst, map}
+use Rattle.std.proofs.Common.{◌≡◌, ℕ, List, [], ◌∷◌, Option, Some, None, Bool, true, false, eqb, cond, refl, sym, ap, ◌∙◌, subst, map}
+use Rattle.std.specs.Prelude.{slice_get, nat_lt, not}
+use Rattle.std.specs.List.{list_all}
+use Rattle.std.specs.Map.{lookup}
 use Rattle.std.proofs.lemmas.Bool.{eq-eqb, eqb-true}
+use Rattle.slot_space.specs.Sets.{has, meets}
+use Rattle.slot_space.proofs.Sets.{meets-some}
 use Rattle.slot_space.specs.Replies.{reply_code}
 use Rattle.slot_space.specs.declared.names.Tid.{Tid}
 use Rattle.slot_space.specs.declared.names.Reply.{Reply as TheReply}
-use Rattle.run_trace.specs.declared.label.Label.TheVariants.{Judged, Told, Shown}
+use Rattle.marcel_core.specs.declared.birth.Birth.{Birth}
+use Rattle.marcel_core.specs.declared.birth.Birth.TheVariants.{Lives, Awaited, Detached, Ended, Over}
+use Rattle.marcel_core.specs.Homes.{is_open}
+use Rattle.run_trace.specs.declared.label.Label.TheVariants.{Judged, Told, Came, Shown}
 use Rattle.run_trace.specs.declared.label.Extra.TheVariants.{Nothing}
 use Rattle.run_trace.specs.declared.packet.Body.TheVariants.{ShowDone, Answer}
 use Rattle.run_trace.specs.declared.node.Wait.{Wait}
 use Rattle.run_trace.specs.declared.node.Wait.TheVariants as wait
-use Rattle.run_trace.specs.Names.{is_tid}
-use Rattle.run_trace.specs.Program.{Program}
-use Rattle.run_trace.specs.Guests.{Guest, waits, told}
+use Rattle.run_trace.specs.Names.{is_tid, tid_cmp}
+use Rattle.run_trace.specs.Program.{Program, nodes_of}
+use Rattle.run_trace.specs.Guests.{Guest, waits, told, guest_slots, packed}
 use Rattle.run_trace.specs.Local.{Local, Doing, nothing}
-use Rattle.run_trace.specs.Steps.{say, put, print, arrive, keep, tell, tell_found, reply_by_link, shows, acknowledges, extra_of, line_of}
+use Rattle.run_trace.specs.Steps.{say, put, print, arrive, keep, thread_in, comes, tell, tell_found, reply_by_link, shows, acknowledges, extra_of, line_of}
+use Rattle.run_trace.specs.Machine.{may_come, lives_yet, are_away}
 use Rattle.run_trace.specs.Cluster.{Net}
-use Rattle.run_trace.specs.Keyed.{StandsFor}
-use Rattle.run_trace.specs.Spots.{Stage, Ready, Shows, Showing, Shown_there, Awaits, Answers, Answered, On, Spot, Spots, update, shown_life, judged_life, judged_guest, second_of}
-use Rattle.run_trace.specs.Rules.{judged_causes, MayTell}
+use Rattle.run_trace.specs.Keyed.{StandsFor, AreDistinct}
+use Rattle.run_trace.specs.Spots.{Stage, Ready, Shows, Showing, Shown_there, Awaits, Answers, Answered, On, Moving, Spot, Spots, Of_thread, update, shown_life, judged_life, judged_guest, told_stage, second_of}
+use Rattle.run_trace.specs.Rules.{judged_causes, MayTell, is_free}
 use Rattle.run_trace.specs.Console.{asked_bytes}
-use Rattle.run_trace.specs.Stands.{Busy, busy, busy_name, is_busy, busy_part, thread_part, thread_in_life, thread_in_stage, row_part, row_in_life, row_in_stage, listed, listed_name, Word, Line, Line_shown, Reply, way, way_of, phase_of, held, holding_of}
+use Rattle.run_trace.specs.Stands.{Busy, busy, busy_name, is_busy, busy_part, thread_part, thread_in_life, thread_in_stage, row_part, row_in_life, row_in_stage, listed, listed_name, Word, Travels, Line, Line_shown, Reply, way, way_of, phase_of, phase_at, During, held, holding_of, slots_held, is_thread}
 use Rattle.trace_laws.proofs.Tids.{is-true, is-refl}
-use Rattle.trace_laws.proofs.KeyedLemmas.{kept, added, fronted, unfronted, map_kept, map_set}
+use Rattle.trace_laws.proofs.KeyedLemmas.{kept, added, fronted, unfronted, map_kept, map_set, map_added}
 use Rattle.trace_laws.proofs.Midst.{Links, Midst, plain, keeps, LinkStands, at_link, less_word, spots_with, spots_at, take_link, nothing_sent, nothing_sent_from}
 use Rattle.trace_laws.proofs.Parts.{listed_arrived, away_thread, away_row, busy_none}
+use Rattle.trace_laws.proofs.Consequences.{OnNode, on_node_is}
+use Rattle.trace_laws.proofs.Lifetimes.{thread_holds}
 use Rattle.trace_laws.proofs.Steps.{moved, send_step, in_hand, is_in_hand, on_node, thread_was, row_was, idle_was, second-extra}
+
+-- ## What a home and a map have
+
+pub open_birth : (b : Option Birth) → phase_at b ≡ During → is_open b ≡ true
+open_birth None e = absurd (cc e)
+open_birth (Some Lives) e = refl
+open_birth (Some (Awaited by at)) e = refl
+open_birth (Some Detached) e = refl
+open_birth (Some (Ended end)) e = absurd (cc e)
+open_birth (Some Over) e = absurd (cc e)
+
+meets_none : (xs ys : List ℕ) → ((y : ℕ) → has y xs ≡ true → has y ys ≡ true → ⊥) → meets xs ys ≡ false
+meets_none xs ys none = elim (meets xs ys) as (λ b. meets xs ys ≡ b → b ≡ false) [
+  | true ↦ λ e. (let k = meets-some xs ys e in absurd (none k.0 k.1 k.2))
+  | false ↦ λ e. refl
+] refl
+
+-- what holds of each entry that is found holds of all
+all_entries : {A K : Type 0} (same : K → K → Bool) (same-true : (a b : K) → same a b ≡ true → a ≡ b) (same-refl : (a : K) → same a a ≡ true) (test : K × A → Bool) (es : List (K × A)) → AreDistinct same es
+    → ((u : K) (x : A) → lookup (same u) es ≡ Some x → test (u, x) ≡ true) → list_all test es ≡ true
+all_entries same same-true same-refl test [] a each = refl
+all_entries same same-true same-refl test (e ∷ es) a each =
+    let first : test e ≡ true = each e.0 e.1 (rw (same-refl e.0) refl) in
+    let rest : list_all test es ≡ true = all_entries same same-true same-refl test es a.1 (λ u x h. elim (same u e.0) as (λ v. same u e.0 ≡ v → test (u, x) ≡ true) [
+      | true ↦ λ f. (let none : lookup (same u) es ≡ None = ap (λ z. lookup (same z) es) (same-true u e.0 f) ∙ a.0 in absurd (cc (none, h)))
+      | false ↦ λ f. each u x (rw f h)
+    ] refl) in
+    rw (first, rest) refl
 
 module _ (p : Program) (net : Net) (q n : ℕ) (w : Spots) (L : Links) where
   -- the links without t's packet
@@ -56,7 +95,7 @@ module _ (p : Program) (net : Net) (q n : ℕ) (w : Spots) (L : Links) where
         row = sym (ap (λ z. row_in_life k t z o.guest.priority) x);
         busy = busy_none k t r (On from Showing) refl (ap (λ z. eqb z k) (sym zero) ∙ e) ∙ sym (busy_none k t o (On from (Shows bytes)) x refl);
       })
-      (λ i j. nothing_sent n (Left from t) i j (update w.threads t r) (take_link from n (Line t bytes) t r L w.threads (links_whole s m) (ap (λ z. way_of t z o.verdict) x ∙ ap (λ z. way from z (Line t bytes)) (sym zero)) refl i j))
+      (λ i j. nothing_sent n (Left from t) i j (update w.threads t r) (take_link from n (Line t bytes) t r L w.threads (links_whole s m) (ap (λ z. way_of t z o.verdict o.guest) x ∙ ap (λ z. way from z (Line t bytes)) (sym zero)) refl i j))
       (sym (ap phase_of x))
       (λ u k e. absurd (cc (e, x)))
       (keeps _ _ (sym (ap (λ z. held z o.guest) x)))
@@ -65,17 +104,17 @@ module _ (p : Program) (net : Net) (q n : ℕ) (w : Spots) (L : Links) where
   -- ## Told by a packet
 
   pub tell_taken_ok : (s : Local) (from : ℕ) (t : Tid) (a : Stage) (waiting : Wait) (y : Word) → Midst p net q n w L (nothing s) [] → (w.threads t).life ≡ On n a
-      → MayTell n (On n a) → way_of t (On n a) (w.threads t).verdict ≡ way from n y
+      → MayTell n (On n a) → told_stage (On n a) ≡ Ready → way_of t (On n a) (w.threads t).verdict (w.threads t).guest ≡ way from n y
       → thread_in_stage a (w.threads t).guest ≡ Some (waits waiting (w.threads t).guest) → row_in_stage t a (w.threads t).guest.priority ≡ None
       → ((k : ℕ) → is_busy k (On n a) ≡ false) → ((u : Tid) (m : ℕ) → On n a ≡ On m (Awaits u) → ⊥) → Some (holding_of (w.threads t).guest) ≡ held (On n a) (w.threads t).guest
       → Midst p net q n w (Left from t) (tell t (w.threads t).verdict.code (w.threads t).verdict.second (nothing s)) []
   unfolding tell arrive say keep
-  tell_taken_ok s from t a waiting y m x may ways there row idle quiet slots =
+  tell_taken_ok s from t a waiting y m x may next ways there row idle quiet slots =
       let o : Spot = w.threads t in
       let g : Guest = told o.verdict.code o.verdict.second o.guest in
       let r : Spot = record o { life = On n Ready; guest = g } in
       subst (λ f. Midst p net q n w (Left from t) (tell_found t o.verdict.code o.verdict.second f (nothing s)) []) (sym (on_node p net q n w L (nothing s) [] t a m x ∙ there))
-      (moved p net q n w L (Left from t) (nothing s) [] [] (Told t) t r _ [] [] m refl
+      (moved p net q n w L (Left from t) (nothing s) [] [] (Told t) t r _ [] [] m (ap (λ z. spots_with (update w.threads t (record o { life = On n z; guest = g })) w.slots w.births w.halts) (ap told_stage x ∙ next))
       (record { solo = tt; holders = tt; life = subst (λ z. MayTell n z) (sym x) may; replies = tt; grants = tt }) refl refl
       (record {
         threads = map_set is_tid is-true is-refl (thread_part n) w.threads t r s.threads (waits waiting o.guest) (waits wait.No g) m.here.threads (thread_was p net q n w L o t a x ∙ there) (thread_was p net q n w L r t Ready refl);
@@ -88,7 +127,7 @@ module _ (p : Program) (net : Net) (q n : ℕ) (w : Spots) (L : Links) where
         row = away_row n k t r Ready refl e ∙ sym (away_row n k t o a x e);
         busy = busy_none k t r (On n Ready) refl refl ∙ sym (busy_none k t o (On n a) x (idle k));
       })
-      (λ i j. nothing_sent n (Left from t) i j (update w.threads t r) (take_link from n y t r L w.threads (links_whole s m) (ap (λ z. way_of t z o.verdict) x ∙ ways) refl i j))
+      (λ i j. nothing_sent n (Left from t) i j (update w.threads t r) (take_link from n y t r L w.threads (links_whole s m) (ap (λ z. way_of t z o.verdict o.guest) x ∙ ways) refl i j))
       (sym (ap phase_of x))
       (λ u k e. quiet u k (sym x ∙ e))
       (keeps _ _ (slots ∙ sym (ap (λ z. held z o.guest) x)))
@@ -107,7 +146,7 @@ module _ (p : Program) (net : Net) (q n : ℕ) (w : Spots) (L : Links) where
       send_step p net q n w L d _ hs (Judged t 0 Nothing) t r d.node at (ShowDone t) m
       (ap (λ z. spots_with (update v.threads t (record { life = judged_life z; guest = judged_guest z o.guest; verdict = record { code = 0; second = None } })) v.slots v.births v.halts) x)
       (record { solo = tt; holders = tt; life = rw x (sym zero); replies = rw x (refl, refl); grants = rw x tt }) (ap (judged_causes t) x) refl
-      (ap (λ z. way_of t z o.verdict) x) (ap (λ z. way z at (Line_shown t 0 None)) zero) refl
+      (ap (λ z. way_of t z o.verdict o.guest) x) (ap (λ z. way z at (Line_shown t 0 None)) zero) refl
       (record {
         threads = map_kept is_tid is-true is-refl (thread_part n) v.threads t r d.node.threads m.here.threads (sym (ap (λ z. thread_in_life n z o.guest) x));
         rows = kept is_tid is-true is-refl listed_name (row_part n) v.threads t r (map listed d.node.places.rows) m.here.rows (sym (ap (λ z. row_in_life n t z o.guest.priority) x));
@@ -133,7 +172,7 @@ module _ (p : Program) (net : Net) (q n : ℕ) (w : Spots) (L : Links) where
       send_step p net q n w L d _ hs (Judged t (reply_code reply) (extra_of second)) t r d.node at (Answer t reply second) m
       (ap (λ z. spots_with (update v.threads t (record { life = judged_life z; guest = judged_guest z o.guest; verdict = record { code = reply_code reply; second = second_of (extra_of second) } })) v.slots v.births v.halts) x)
       (record { solo = tt; holders = tt; life = rw x refl; replies = rw x (refl, refl); grants = rw x tt }) (ap (judged_causes t) x) refl
-      (ap (λ z. way_of t z o.verdict) x) (ap (λ z. way n at (Reply t (reply_code reply) z)) (second-extra second)) refl
+      (ap (λ z. way_of t z o.verdict o.guest) x) (ap (λ z. way n at (Reply t (reply_code reply) z)) (second-extra second)) refl
       (record {
         threads = map_kept is_tid is-true is-refl (thread_part n) v.threads t r d.node.threads m.here.threads (sym (ap (λ z. thread_in_life n z o.guest) x));
         rows = kept is_tid is-true is-refl listed_name (row_part n) v.threads t r (map listed d.node.places.rows) m.here.rows (sym (ap (λ z. row_in_life n t z o.guest.priority) x));
@@ -144,6 +183,66 @@ module _ (p : Program) (net : Net) (q n : ℕ) (w : Spots) (L : Links) where
         row = sym (ap (λ z. row_in_life k t z o.guest.priority) x);
         busy = sym (busy_none k t o (On at (Answers n reply second)) x e);
       })
+      (sym (ap phase_of x))
+      (λ u k e. absurd (cc (e, x)))
+      (keeps _ _ (sym (ap (λ z. held z o.guest) x)))
+      (λ e. absurd (cc (e, x))) (plain _ refl)
+
+  -- ## A thread comes
+
+  -- it is one that the node expects
+  pub may_come_ok : (s : Local) (from : ℕ) (t : Tid) → Midst p net q n w L (nothing s) [] → (w.threads t).life ≡ Moving from n → nat_lt t.home (nodes_of p) ≡ true → may_come p n s (packed t (w.threads t).guest) ≡ true
+  may_come_ok s from t m x home =
+      let o : Spot = w.threads t in
+      let away : lookup (is_tid t) s.threads ≡ None = m.here.threads.shows t ∙ ap (λ z. thread_in_life n z o.guest) x in
+      let slots : are_away (guest_slots o.guest) s ≡ true = rw (no_own, no_others) refl in
+      rw (home, away, lives, slots) refl
+    where
+      g : Guest
+      g = (w.threads t).guest
+
+      mine : (y : ℕ) → has y (guest_slots g) ≡ true → w.slots y ≡ Of_thread t
+      mine y h = thread_holds t (w.slots y) (sym (m.agrees.slots t y) ∙ ap (λ z. has y (slots_held (held z g))) x ∙ h)
+
+      no_own : meets (guest_slots g) s.slots.own ≡ false
+      no_own = meets_none (guest_slots g) s.slots.own (λ y h k. let free : is_free n (w.slots y) ≡ true = sym (m.here.own y) ∙ k in let none : is_free n (w.slots y) ≡ false = ap (is_free n) (mine y h) in absurd (cc (free, none)))
+
+      no_others : list_all (λ e. not (meets (guest_slots g) (guest_slots e.1.guest))) s.threads ≡ true
+      no_others = all_entries is_tid is-true is-refl (λ e. not (meets (guest_slots g) (guest_slots e.1.guest))) s.threads m.here.threads.apart (λ u z f.
+          let on : OnNode n (w.threads u) z = on_node_is n u (w.threads u) z (sym (m.here.threads.shows u) ∙ f) in
+          ap not (meets_none (guest_slots g) (guest_slots z.guest) (λ y h k.
+          let his : is_thread u (w.slots y) ≡ true = sym (m.agrees.slots u y) ∙ ap (has y) on.slots ∙ k in
+          let one : is_tid u t ≡ true = sym (ap (is_thread u) (mine y h)) ∙ his in
+          let same : (w.threads u).life ≡ (w.threads t).life = ap (λ v. (w.threads v).life) (is-true u t one) in
+          absurd (cc (on.life, same, x)))))
+
+      lives : lives_yet n s t ≡ true
+      lives = elim (eqb t.home n) as (λ v. eqb t.home n ≡ v → cond v (is_open (slice_get s.names t.seq)) true ≡ true) [
+        | true ↦ λ e.
+            let names : s.names ≡ w.births t.home = m.here.names ∙ ap w.births (sym (eqb-true t.home n e)) in
+            open_birth (slice_get s.names t.seq) (ap (λ (bs : List Birth). phase_at (slice_get bs t.seq)) names ∙ m.agrees.named t ∙ ap phase_of x)
+        | false ↦ λ e. refl
+      ] refl
+
+  pub comes_ok : (s : Local) (from : ℕ) (t : Tid) → Midst p net q n w L (nothing s) [] → (w.threads t).life ≡ Moving from n → Midst p net q n w (Left from t) (comes (packed t (w.threads t).guest) (nothing s)) []
+  unfolding comes arrive thread_in say
+  comes_ok s from t m x =
+      let o : Spot = w.threads t in
+      let r : Spot = record o { life = On n Ready } in
+      moved p net q n w L (Left from t) (nothing s) [] [] (Came t) t r _ [] [] m refl
+      (record { solo = tt; holders = tt; life = rw x refl; replies = tt; grants = tt }) refl refl
+      (record {
+        threads = map_added is_tid is-true is-refl tid_cmp (λ a b. refl) (thread_part n) w.threads t r s.threads (waits wait.No o.guest) m.here.threads (ap (λ z. thread_in_life n z o.guest) x) (thread_was p net q n w L r t Ready refl);
+        rows = subst (λ rows. StandsFor is_tid listed_name (row_part n) rows (update w.threads t r)) (sym (listed_arrived t o.guest.priority s.places))
+            (added is_tid is-true is-refl listed_name (row_part n) w.threads t r (map listed s.places.rows) _ m.here.rows refl (ap (λ z. row_in_life n t z o.guest.priority) x) (row_was p net q n w L r t Ready refl));
+        busy = kept is_tid is-true is-refl busy_name (busy_part n) w.threads t r [] m.here.busy (idle_was p net q n w L r t (On n Ready) refl refl ∙ sym (idle_was p net q n w L o t (Moving from n) x refl));
+      }) refl refl refl
+      (λ k e. record {
+        thread = away_thread n k t r Ready refl e ∙ sym (ap (λ z. thread_in_life k z o.guest) x);
+        row = away_row n k t r Ready refl e ∙ sym (ap (λ z. row_in_life k t z o.guest.priority) x);
+        busy = busy_none k t r (On n Ready) refl refl ∙ sym (busy_none k t o (Moving from n) x refl);
+      })
+      (λ i j. nothing_sent n (Left from t) i j (update w.threads t r) (take_link from n (Travels (packed t o.guest)) t r L w.threads (links_whole s m) (ap (λ z. way_of t z o.verdict o.guest) x) refl i j))
       (sym (ap phase_of x))
       (λ u k e. absurd (cc (e, x)))
       (keeps _ _ (sym (ap (λ z. held z o.guest) x)))

@@ -13,11 +13,14 @@ use Rattle.run_trace.specs.Local.{Doing}
 use Rattle.run_trace.specs.Cluster.{Event, Net, net_after, fresh_net, next_packet}
 use Rattle.run_trace.specs.Trace.{IsRun, event_of, events_of, net_after_trace, sends_or, done_for}
 use Rattle.run_trace.specs.Histories.{IsInOrder, Joins}
-use Rattle.run_trace.specs.Spots.{Ready, Running, Due, Served, Told_next, Ends, Leaves, Halts, Stays, Shows, Showing, Shown_there, Asks, Awaits, Answers, Answered, Life, Unborn, On, Noting, Gone, Spots, Of_node, Nobody, at_first, first_holder}
+use Rattle.run_trace.specs.Spots.{Ready, Running, Due, Served, Told_next, Told_then, Departs, Ends, Leaves, Halts, Stays, Shows, Showing, Shown_there, Asks, Awaits, Answers, Answered, Life, Unborn, On, Moving, Noting, Gone, Spots, Of_node, Nobody, at_first, first_holder}
 use Rattle.run_trace.specs.Rules.{IsSettled, is_free, spots_of}
 use Rattle.run_trace.specs.Console.{console_of, printed}
 use Rattle.run_trace.specs.Stands.{Stands, is_busy, busy_part, busy, is_thread}
-use Rattle.run_trace.specs.Legality.{Begins, AreRising, ObeysFrom, Legal}
+use Rattle.run_trace.specs.Holding.{EachHeldOnce}
+use Rattle.run_trace.specs.Alone.{EachRunsAlone}
+use Rattle.run_trace.specs.Legality.{Begins, AreRising, AfterEach, ObeysFrom, Legal}
+use Rattle.trace_laws.proofs.Consequences.{one_holder, runs_alone}
 use Rattle.trace_laws.proofs.Simulate.{Simulates, simulates, event}
 use Rattle.trace_laws.proofs.Weave.{joined}
 
@@ -70,6 +73,8 @@ settled_at p w net s t = by (w.threads t).life refl
     by (On m (Due code)) e = nobody m (On m (Due code)) e (eq-eqb m m refl)
     by (On m (Served c)) e = nobody m (On m (Served c)) e (eq-eqb m m refl)
     by (On m Told_next) e = nobody m (On m Told_next) e (eq-eqb m m refl)
+    by (On m (Told_then to)) e = nobody m (On m (Told_then to)) e (eq-eqb m m refl)
+    by (On m (Departs to)) e = nobody m (On m (Departs to)) e (eq-eqb m m refl)
     by (On m (Ends end)) e = nobody m (On m (Ends end)) e (eq-eqb m m refl)
     by (On m (Leaves end)) e = nobody m (On m (Leaves end)) e (eq-eqb m m refl)
     by (On m Halts) e = nobody m (On m Halts) e (eq-eqb m m refl)
@@ -83,6 +88,7 @@ settled_at p w net s t = by (w.threads t).life refl
     by (On m (Awaits u)) e = tt
     by (On m (Answered h)) e = tt
     by Unborn e = tt
+    by (Moving m to) e = tt
     by (Noting m end) e = tt
     by (Gone end) e = tt
 
@@ -128,6 +134,19 @@ run_whole p old base s (x ∷ xs) r =
       stands = now.stands;
     }
 
+-- what holds after each run holds after each entry of a run
+after_each : (P : Net → List Entry → Type 0) (p : Program) → ((lines : List Entry) → IsRun p (fresh_net p) lines → P (net_after_trace p (fresh_net p) lines) lines) → (lines : List Entry) → IsRun p (fresh_net p) lines → AfterEach P p lines
+after_each P p f [] r = tt
+after_each P p f (x ∷ xs) r = (after_each P p f xs r.0, f (x ∷ xs) r)
+
+pub alone_after_run : (p : Program) (lines : List Entry) → IsRun p (fresh_net p) lines → EachRunsAlone p (net_after_trace p (fresh_net p) lines) lines
+alone_after_run p lines r =
+    let all : Whole p (at_first p) (fresh_net p) lines = run_whole p (at_first p) (fresh_net p) (starts p) lines r in
+    runs_alone p lines (net_after_trace p (fresh_net p) lines) all.obeys.solo all.obeys.life all.stands
+
+pub held_once_after_run : (p : Program) (lines : List Entry) → IsRun p (fresh_net p) lines → EachHeldOnce (net_after_trace p (fresh_net p) lines)
+held_once_after_run p lines r = one_holder p (spots_of p (at_first p) lines) (net_after_trace p (fresh_net p) lines) (run_whole p (at_first p) (fresh_net p) (starts p) lines r).stands
+
 pub whole : (p : Program) (lines : List Entry) → IsInOrder lines → Begins p lines → AreRising lines → IsRun p (fresh_net p) lines → Legal p lines
 whole p lines order begins rounds runs =
     let all : ObeysFrom p (at_first p) (fresh_net p) lines = (run_whole p (at_first p) (fresh_net p) (starts p) lines runs).obeys in
@@ -137,6 +156,8 @@ whole p lines order begins rounds runs =
       rounds = rounds;
       runs = runs;
       solo = all.solo;
+      alone = after_each (EachRunsAlone p) p (alone_after_run p) lines runs;
+      one_holder = after_each (λ net xs. EachHeldOnce net) p (held_once_after_run p) lines runs;
       holders = all.holders;
       life = all.life;
       replies = all.replies;

@@ -1,6 +1,6 @@
 //! The laws, each as a contract.
 
-ghost use Rattle.std.specs.Prelude.{◌≡◌, ◌<◌, ◌≤◌, ◌⊎◌, ℕ, List, map, ◌++◌, ◌∷◌, ◌↔◌, Some, [], false};
+ghost use Rattle.std.specs.Prelude.{◌≡◌, ◌<◌, ◌≤◌, ◌⊎◌, ℕ, List, map, ◌++◌, ◌∷◌, ◌↔◌, Some, [], false, true};
 ghost use Rattle.rv_step.specs.Run.{after, StopsBy};
 ghost use Rattle.rv_step.specs.Step.{State};
 ghost use Rattle.rv_step.specs.declared.hart.Stop.{Stop};
@@ -11,18 +11,18 @@ ghost use Rattle.run_trace.specs.Program.{Program, nodes_of};
 ghost use Rattle.trace_laws.specs.Beginnings.{BeginsSo};
 ghost use Rattle.trace_laws.specs.Gathers.{events_in, Gathers};
 ghost use Rattle.trace_laws.specs.Strays.{AllExpected};
-ghost use Rattle.run_trace.specs.Alone.{alone_of};
+ghost use Rattle.run_trace.specs.Alone.{EachRunsAlone};
 ghost use Rattle.run_trace.specs.Cluster.{Event, Net, Merges, Runs, fresh_net, state};
 ghost use Rattle.run_trace.specs.Console.{console_of, printed};
-ghost use Rattle.run_trace.specs.Guests.{Run, Thread, run_of};
+ghost use Rattle.run_trace.specs.Guests.{Guest, Run, Thread, is_unwaiting, run_of};
 ghost use Rattle.run_trace.specs.Histories.{IsInOrder, Joins, taken_from, sent_to, Turn};
-ghost use Rattle.run_trace.specs.Holding.{IsOn, Has};
+ghost use Rattle.run_trace.specs.Holding.{EachHeldOnce, IsAt, IsOn, Place};
 ghost use Rattle.run_trace.specs.Legality.{AreRising, Begins, boot_entries, Legal, ObeysFrom};
 ghost use Rattle.run_trace.specs.Local.{fresh};
 ghost use Rattle.run_trace.specs.Outcome.{AllLinksEmpty, IsStuck, Lives};
-ghost use Rattle.run_trace.specs.Places.{best};
+ghost use Rattle.run_trace.specs.Places.{best, is_listed};
 ghost use Rattle.run_trace.specs.Rules.{spots_of};
-ghost use Rattle.run_trace.specs.Spots.{Holder, On, Spots, Stage, at_first};
+ghost use Rattle.run_trace.specs.Spots.{On, Spots, Stage, at_first};
 ghost use Rattle.run_trace.specs.Stands.{Stands};
 ghost use Rattle.run_trace.specs.Trace.{IsRun, entry_of, events_of, Fits, net_after_trace};
 
@@ -69,15 +69,16 @@ pub fn whole()
     ensures side_by_side { (p : Program) (lines : List Entry) (histories : ℕ → List Event) → Begins p lines → AreRising lines → Joins p (fresh_net p) lines histories → Legal p lines }
 {}
 
-/// After a legal trace no slot has two holders, and no thread is on two nodes.
+/// After a legal trace no slot has two holders, and no thread is at two places.
 pub fn one_holder()
-    ensures slots { (p : Program) (lines : List Entry) → Legal p lines → (slot : ℕ) (a b : Holder) → Has (net_after_trace p (fresh_net p) lines) slot a → Has (net_after_trace p (fresh_net p) lines) slot b → a ≡ b }
-    ensures places { (p : Program) (lines : List Entry) → Legal p lines → (t : Tid) (n m : ℕ) (x y : Thread) → IsOn (net_after_trace p (fresh_net p) lines) n t x → IsOn (net_after_trace p (fresh_net p) lines) m t y → n ≡ m }
+    ensures slots { (p : Program) (lines : List Entry) → Legal p lines → EachHeldOnce (net_after_trace p (fresh_net p) lines) }
+    ensures places { (p : Program) (lines : List Entry) → Legal p lines → (t : Tid) (a b : Place) (g h : Guest) → IsAt (net_after_trace p (fresh_net p) lines) a t g → IsAt (net_after_trace p (fresh_net p) lines) b t h → (a ≡ b) × (g ≡ h) }
 {}
 
-/// After a legal trace a thread's registers and memory are those of its code run alone with the replies that it was told.
+/// After a legal trace a thread's registers, memory and blocks are, wherever it is, those of its code run alone with the
+/// replies that it was told.
 pub fn alone()
-    ensures { (p : Program) (lines : List Entry) → Legal p lines → (t : Tid) (n : ℕ) (x : Thread) → IsOn (net_after_trace p (fresh_net p) lines) n t x → x.guest.solo.state ≡ (alone_of p t lines).state }
+    ensures { (p : Program) (lines : List Entry) → Legal p lines → EachRunsAlone p (net_after_trace p (fresh_net p) lines) lines }
 {}
 
 /// What does a run's steps and stops by a run's reason is the run that the machine makes.
@@ -97,10 +98,11 @@ pub fn expected()
 {}
 
 /// Where no thread is on a run list, nothing is under way and no node has halted, a thread that lives makes the trace stuck:
-/// each that lives joins one that hasn't ended. A thread lives exactly where it is on a node.
+/// each that lives joins one that hasn't ended. A thread that is on a node lives, and where nothing is under
+/// way each that lives is on one.
 pub fn quiet()
     ensures stuck { (p : Program) (w : Spots) (net : Net) → Stands p w net → ((n : ℕ) → (net.nodes n).places.rows ≡ []) → AllLinksEmpty net → ((n : ℕ) → (net.nodes n).halted ≡ false) → (t : Tid) → Lives (w.threads t).life → IsStuck w net }
-    ensures somewhere { (p : Program) (w : Spots) (net : Net) → Stands p w net → (t : Tid) → Lives (w.threads t).life → (n : ℕ) × (x : Thread) × IsOn net n t x }
+    ensures somewhere { (p : Program) (w : Spots) (net : Net) → Stands p w net → AllLinksEmpty net → (t : Tid) → Lives (w.threads t).life → (n : ℕ) × (x : Thread) × IsOn net n t x }
     ensures lives { (p : Program) (w : Spots) (net : Net) → Stands p w net → (t : Tid) (n : ℕ) (x : Thread) → IsOn net n t x → Lives (w.threads t).life }
 {}
 
@@ -115,4 +117,10 @@ pub fn inside()
 /// The thread that a node picks from its run list is on that node.
 pub fn picked()
     ensures { (p : Program) (w : Spots) (net : Net) → Stands p w net → (n : ℕ) (r : Row) → best (net.nodes n).places.rows ≡ Some r → (x : Thread) × IsOn net n r.tid x }
+{}
+
+/// A thread that is on a node is on its run list exactly where it waits for nothing, and each on the run list is on the node.
+pub fn ready()
+    ensures unwaiting { (p : Program) (w : Spots) (net : Net) → Stands p w net → (n : ℕ) (t : Tid) (x : Thread) → IsOn net n t x → is_listed t (net.nodes n).places.rows ≡ is_unwaiting x }
+    ensures there { (p : Program) (w : Spots) (net : Net) → Stands p w net → (n : ℕ) (t : Tid) → is_listed t (net.nodes n).places.rows ≡ true → (x : Thread) × IsOn net n t x }
 {}

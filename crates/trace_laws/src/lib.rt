@@ -6,5 +6,5 @@ mod laws;
 
 pub use laws::{
     alone, begun, expected, gathered, inside, joined, judged, legal, merged, one_holder, picked,
-    quiet, ran, started, whole,
+    quiet, ran, ready, started, whole,
 };

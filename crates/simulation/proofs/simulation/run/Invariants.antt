@@ -4,6 +4,6 @@ use Rattle.simulation.proofs.simulation.run.Given as goal
 
 abbrev pub invariant-loop-done : goal.invariant-loop-done
 invariant-loop-done g l = record {
-  underway : IsUnderway l.fn.seed l.fn.cluster (g.K.Sink.written l.fn.out) l.done l.cluster l.words (g.K.Sink.written l.out);
+  underway : IsUnderway l.fn.moves l.fn.seed l.fn.cluster (g.K.Sink.written l.fn.out) l.done l.cluster l.words (g.K.Sink.written l.out);
   later : g.K.Sink.faults l.fn.out ≤ g.K.Sink.faults l.out;
 }

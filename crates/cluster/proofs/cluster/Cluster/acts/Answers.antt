@@ -1,9 +1,12 @@
-use Rattle.std.proofs.Common.{rules}
-use Rattle.cluster.proofs.Listing.{acts_are, each_possible}
+use Rattle.std.proofs.Common.{◌∙◌, ◌≤◌, ap, subst, length}
+use Rattle.std.specs.List.{flat_map}
+use Rattle.cluster.specs.Between.{acts_by}
+use Rattle.cluster.specs.View.{ClusterView}
+use Rattle.cluster.proofs.Lists.{take_all}
+use Rattle.cluster.proofs.Listings.{all_acts}
 use Rattle.cluster.proofs.cluster.Cluster.acts.Goals as goal
 
-pub returns-clause-all : goal.returns-clause-all
-returns-clause-all c = λ s. let e = acts_are c.args.self.now s.alone in search (rules, e)
-
-pub returns-clause-each : goal.returns-clause-each
-returns-clause-each c = λ s. let e = each_possible c.args.self.now s in search (rules, e)
+pub returns : goal.returns
+returns c = λ lines s.
+    let past = subst (λ vs. length vs ≤ c.loop-node.node-index) (c.deref-node-items.ensures.value ∙ ap (λ (z : ClusterView). z.nodes) c.self.view_is) c.loop-node-test.false in
+    c.loop-node.invariant ∙ ap (λ vs. flat_map (λ v. acts_by c.args.moves v) vs) (take_all c.args.self.now.nodes c.loop-node.node-index past) ∙ all_acts c.args.self.now lines s c.args.moves

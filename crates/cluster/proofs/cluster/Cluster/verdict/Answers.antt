@@ -1,16 +1,15 @@
-use Rattle.std.proofs.Common.{◌≡◌, length, subst}
-use Rattle.cluster.specs.Acts.{holds}
-use Rattle.cluster.specs.Outcomes.{IsAt, decided}
-use Rattle.cluster.specs.Standing.{trace_of}
-use Rattle.cluster.proofs.Deciding.{decided_right}
-use Rattle.cluster.proofs.Listing.{packet_is}
+use Rattle.std.proofs.Common.{◌∙◌, ap, subst}
+use Rattle.cluster.specs.Outcomes.{IsAt}
+use Rattle.cluster.specs.View.{ClusterView}
+use Rattle.cluster.proofs.Decisions.{decided_right, told_same}
 use Rattle.cluster.proofs.cluster.Cluster.verdict.Goals as goal
 
 pub returns : goal.returns
-returns c = λ s.
-    let v = c.args.self.now in
-    let h = decided_right v s.alone (record { nodes = c.inside.ensures.nodes v.program (trace_of v) s.alone.legal.runs; links = c.inside.ensures.links v.program (trace_of v) s.alone.legal.runs }) in
-    let k = packet_is v s.alone in
-    let e : decided v.state.halted (holds v.link) (length v.state.threads) (length v.state.places.rows) ≡ c.decided.result =
-    cc (c.decided.ensures, c.halted.ensures, c.threads.ensures, c.ready.ensures, k, c.has_packet-packet.ensures, c.self.view_is) in
-    subst (λ z. IsAt v.program (trace_of v) z) e h
+returns c = λ lines s.
+    let now = ap (λ (z : ClusterView). z.nodes) c.self.view_is in
+    subst (λ z. IsAt c.args.self.now.program lines z)
+    (told_same c.args.self.now.nodes c.deref.result.now c.deref-2.result.now c.deref-3.result.now c.deref-4.result.now
+    c.any_halted.result c.any_packet.result c.any_thread.result c.any_ready.result c.decided.result c.decided.ensures
+    c.any_halted.ensures c.any_packet.ensures c.any_thread.ensures c.any_ready.ensures
+    (c.deref.ensures.value ∙ now) (c.deref-2.ensures.value ∙ now) (c.deref-3.ensures.value ∙ now) (c.deref-4.ensures.value ∙ now))
+    (decided_right c.args.self.now lines s)

@@ -1,16 +1,13 @@
 use Rattle.node_state.specs.Events.{program}
-use Rattle.node_loop.proofs.Beginning.{begins_somehow, has_begun, begun_booted, begun_alone}
+use Rattle.node_loop.proofs.Stepping.{begins_somehow, has_begun, begun_booted}
 use Rattle.node_loop.proofs.node.Node.boot.Goals as goal
 
 pub unreachable-requires : goal.unreachable-requires
-unreachable-requires c = begins_somehow (program c.args.setup.now c.args.image.now) c.args.me c.requires c.fresh-state.result c.event.new.self c.in_ok-done.field-0 c.fresh-state.ensures c.in_ok-done.ensures c.in_default.is
+unreachable-requires c = begins_somehow (program c.args.setup.now c.args.image.now) c.args.me c.requires.me c.fresh-state.result c.event.new.self c.in_ok-done.field-0 c.fresh-state.ensures c.in_ok-done.ensures c.in_default.is
 
 pub returns-clause-booted : goal.returns-clause-booted
-returns-clause-booted c = has_begun (program c.args.setup.now c.args.image.now) c.args.me c.fresh-state.result c.event.new.self c.in_ok-done.field-0 c.in-Some.done _ c.record.new.self
+returns-clause-booted c = has_begun (program c.args.setup.now c.args.image.now) c.args.me c.args.ends c.fresh-state.result c.event.new.self c.in_ok-done.field-0 c.in-Some.done _ c.record.new.self
     c.fresh-state.ensures c.in_ok-done.ensures c.in-Some.is c.in_ok-node.ensures c.in_ok-record.ensures.ok
 
 pub returns-clause-begun : goal.returns-clause-begun
-returns-clause-begun c = begun_booted (program c.args.setup.now c.args.image.now) c.args.me c.record.new.self (returns-clause-booted c)
-
-pub returns-clause-alone : goal.returns-clause-alone
-returns-clause-alone c = begun_alone (program c.args.setup.now c.args.image.now) c.args.me c.record.new.self c.requires (returns-clause-booted c)
+returns-clause-begun c = begun_booted (program c.args.setup.now c.args.image.now) c.args.me c.args.ends c.record.new.self (returns-clause-booted c)

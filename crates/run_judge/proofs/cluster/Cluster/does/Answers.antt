@@ -40,7 +40,7 @@ returns-clause-fits c =
 pub returns-clause-after : goal.returns-clause-after
 returns-clause-after c = λ _.
     advances (p c) (nodes c) (old c) (x c) c.take-took.result (event c).0 c.in-Some.done c.do_event.new.nodes.items c.take-took.new.self.all.items c.send.new.self.all.items
-    c.requires c.take-took.ensures.first (event c).1 (event c).2 c.take-took.ensures.rest c.in_ok-send.ensures
+    c.requires.nodes c.take-took.ensures.first (event c).1 (event c).2 c.take-took.ensures.rest c.in_ok-send.ensures
 
 pub returns-clause-count : goal.returns-clause-count
 returns-clause-count c = λ _. ap length (event c).2 ∙ length-set (nodes c) (x c).node (event c).0

@@ -1,0 +1,178 @@
+-- A turn of one node, after which the nodes stand for one entry more.
+use Rattle.std.proofs.Common.{◌≡◌, ◌≢◌, ℕ, suc, ◌-◌, ◌^◌, ◌<◌, ◌≤◌, List, [], ◌∷◌, ◌++◌, length, max, Option, Some, None, Bool, true, false, cond, refl, sym, ap, ◌∙◌, subst, arith, inl, inr}
+use Rattle.std.specs.Prelude.{⊤, nat_lt, slice_get}
+use Rattle.std.proofs.lemmas.Bool.{lt-ltb, eq-eqb, ne_eqb}
+use Rattle.std.proofs.Math.Nat.{le-max_left, max-le, min-eq_left, max-eq_right}
+use Rattle.run_trace.specs.declared.entry.Act.{Act}
+use Rattle.run_trace.specs.declared.entry.Act.TheVariants.{Boot, Run, Take, Move}
+use Rattle.run_trace.specs.declared.entry.Entry.{Entry}
+use Rattle.run_trace.specs.declared.packet.Packet.{Packet}
+use Rattle.run_trace.specs.Program.{Program, nodes_of}
+use Rattle.run_trace.specs.Local.{Local, Doing}
+use Rattle.run_trace.specs.Machine.{local_event, turn_event, is_beyond, stamp_limit, is_range}
+use Rattle.run_trace.specs.Cluster.{Net, fresh_net, after_or, first_of, next_packet, IsTaken}
+use Rattle.run_trace.specs.Console.{console_of, printed}
+use Rattle.run_trace.specs.Histories.{seen, IsShape, IsInOrder}
+use Rattle.run_trace.specs.Legality.{Legal, Begins}
+use Rattle.run_trace.specs.Spots.{at_first}
+use Rattle.run_trace.specs.Trace.{IsRun, done_for, events_of, prints_or}
+use Rattle.trace_laws.specs.Gathers.{AllWithin}
+use Rattle.trace_laws.proofs.Determined.{fits_exactly}
+use Rattle.trace_laws.proofs.Wholes.{whole, starts, run_whole}
+use Rattle.wires.specs.Ends.{known_from}
+use Rattle.node_loop.specs.View.{NodeView, raised}
+use Rattle.node_loop.specs.Turns.{IsActInRange, TakesKnown, Does, can}
+use Rattle.cluster.specs.Standing.{StandsFor, IsNodeOf, net_after, newest_stamp, turn_limit}
+use Rattle.cluster.specs.View.{ClusterView}
+use Rattle.cluster.proofs.Linking.{known_first}
+use Rattle.cluster.proofs.Runs.{NoneLater, above, links_within, newest_last, none_above}
+
+-- a packet that comes in time
+abbrev IsTimely : ℕ → Option Packet → Type 0
+IsTimely c None = ⊤
+IsTimely c (Some packet) = packet.stamp ≤ c
+
+timely : (c : ℕ) (ps : List Packet) → AllWithin c ps → IsTimely c (first_of ps)
+timely c [] h = tt
+timely c (p ∷ ps) h = h.0
+
+seen_within : (c : ℕ) (o : Option Packet) → IsTimely c o → seen o ≤ c
+seen_within c None h = omega arith
+seen_within c (Some packet) h = by (nat_lt packet.stamp stamp_limit)
+  where
+    by : (b : Bool) → cond b packet.stamp 0 ≤ c
+    by true = h
+    by false = omega arith
+
+not_beyond : (c : ℕ) (o : Option Packet) → IsTimely c o → c < 2 ^ 62 → is_beyond o ≡ false
+unfolding stamp_limit
+not_beyond c None h l = refl
+not_beyond c (Some packet) h l = rw (lt-ltb packet.stamp (2 ^ 62) (omega (arith, h, l))) refl
+
+takes_nothing : (p : Program) (me : ℕ) (s : Local) (from : ℕ) → local_event p me s (Take from) None ≡ None
+unfolding local_event
+takes_nothing p me s from = by (is_range p me s (Take from))
+  where
+    by : (b : Bool) → cond {A = Option Doing} b None None ≡ None
+    by true = refl
+    by false = refl
+
+-- where a packet is known, its first is taken
+known_taken : (ps : List Packet) (o o' : Option Packet) → nat_lt 0 (length ps) ≡ true → ((q : Packet) (qs : List Packet) → ps ≡ q ∷ qs → o ≡ Some q) → first_of ps ≡ o' → o ≡ o'
+known_taken [] o o' l h e = absurd (cc l)
+known_taken (q ∷ qs) o o' l h e = h q qs refl ∙ e
+
+module _ (c : ClusterView) (lines : List Entry) (s : StandsFor c lines) (few : c.turns < turn_limit) (n : ℕ) (inside : n < nodes_of c.program)
+    (v : NodeView) (at : slice_get c.nodes n ≡ Some v) (act : Act) (range : IsActInRange c.program n act) (able : can v act ≡ true)
+    (new : NodeView) (d : Does (raised (suc c.turns) v) act new) where
+  abbrev p : Program
+  p = c.program
+
+  abbrev net : Net
+  net = net_after p lines
+
+  abbrev w : NodeView
+  w = raised (suc c.turns) v
+
+  is_node : IsNodeOf c lines n v
+  is_node = s.node n v at
+
+  pub took_is : d.took ≡ next_packet net n act
+  took_is = by act range able d.shape d.known
+    where
+      by : (a : Act) → IsActInRange p n a → can v a ≡ true → IsShape a d.took → TakesKnown v.ends a d.took → d.took ≡ next_packet net n a
+      by Boot r b h k = h
+      by (Run vp quantum) r b h k = h
+      by (Move t to) r b h k = h
+      by (Take from) r b h k = known_taken (known_from v.ends from) d.took (first_of (net.links from n)) b k (known_first c lines s n v at inside from r)
+
+  stamps : NoneLater (suc c.turns) lines
+  stamps = subst (λ k. NoneLater k lines) s.stamp (newest_last lines s.trace.order)
+
+  next_timely : IsTimely (suc c.turns) (next_packet net n act)
+  next_timely = by act
+    where
+      by : (a : Act) → IsTimely (suc c.turns) (next_packet net n a)
+      by Boot = tt
+      by (Run vp quantum) = tt
+      by (Move t to) = tt
+      by (Take from) = timely (suc c.turns) (net.links from n) (links_within p (suc c.turns) lines stamps from n)
+
+  took_timely : IsTimely (suc c.turns) d.took
+  took_timely = subst (λ o. IsTimely (suc c.turns) o) (sym took_is) next_timely
+
+  abbrev pub stamp : ℕ
+  stamp = suc (suc c.turns)
+
+  clock_is : w.clock ≡ suc c.turns
+  clock_is = max-eq_right {n = v.clock} {m = suc c.turns} is_node.clock
+
+  pub stamp_is : suc (max w.clock (seen d.took)) ≡ stamp
+  stamp_is =
+      let low : w.clock ≤ max w.clock (seen d.took) = le-max_left w.clock (seen d.took) in
+      let high : max w.clock (seen d.took) ≤ suc c.turns = max-le {a = w.clock} {b = seen d.took} {k = suc c.turns} (omega (arith, clock_is)) (seen_within (suc c.turns) d.took took_timely) in
+      omega (arith, low, high, clock_is)
+
+  round_is : w.round ≡ suc c.turns
+  round_is = min-eq_left {n = suc v.round} {m = 2 ^ 64 - 1} (omega (arith, is_node.round, few)) ∙ ap suc is_node.round
+
+  abbrev pub x : Entry
+  x = record { stamp = stamp; node = n; round = suc c.turns; act = act; labels = d.done.labels }
+
+  event_is : turn_event p n v.state act d.took ≡ local_event p n v.state act d.took
+  event_is = rw (not_beyond (suc c.turns) d.took took_timely (omega (arith, few))) refl
+
+  did : turn_event p n v.state act d.took ≡ Some d.done
+  did = subst (λ (q : Program). turn_event q n v.state act d.took ≡ Some d.done) is_node.program (subst (λ m. turn_event v.program m v.state act d.took ≡ Some d.done) is_node.me d.is)
+
+  pub done_is : done_for p net x ≡ Some d.done
+  done_is = ap (λ (l : Local). local_event p n l act (next_packet net n act)) is_node.state ∙ ap (local_event p n v.state act) (sym took_is) ∙ sym event_is ∙ did
+
+  taken_in_time : IsTaken stamp act (next_packet net n act)
+  taken_in_time = by act (next_packet net n act) next_timely refl (sym done_is)
+    where
+      by : (a : Act) (o : Option Packet) → IsTimely (suc c.turns) o → o ≡ next_packet net n a → Some d.done ≡ local_event p n (net.nodes n) a (next_packet net n a) → IsTaken stamp a o
+      by Boot o h i e = i
+      by (Run vp quantum) o h i e = i
+      by (Move t to) o h i e = i
+      by (Take from) (Some packet) h i e = omega (arith, h)
+      by (Take from) None h i e = absurd (cc (e ∙ ap (local_event p n (net.nodes n) (Take from)) (sym i) ∙ takes_nothing p n (net.nodes n) from))
+
+  -- ## The trace with the entry
+
+  pub runs : IsRun p (fresh_net p) (x ∷ lines)
+  runs = (fits_exactly p (fresh_net p) x lines).1 (s.legal.runs, record { done = d.done; is = done_is; labels = refl; takes = taken_in_time })
+
+  pub order : IsInOrder (x ∷ lines)
+  order = (above (suc c.turns) x (omega arith) lines stamps, s.trace.order)
+
+  begins : Begins p (x ∷ lines)
+  begins = elim s.legal.begins as (λ z. Begins p (x ∷ lines)) [ inl none ↦ absurd (nothing none) | inr h ↦ inr (x ∷ h.0, ap (λ (xs : List Entry). x ∷ xs) h.1) ]
+    where
+      nothing : lines ≡ [] → ⊥
+      nothing none = let z : 0 ≡ suc c.turns = ap newest_stamp (sym none) ∙ s.stamp in omega (arith, z)
+
+  pub legal : Legal p (x ∷ lines)
+  legal = whole p (x ∷ lines) order begins (none_above (suc c.turns) lines (omega (arith, s.round)) s.legal.rounds, s.legal.rounds) runs
+
+  -- ## What it leaves
+
+  pub entry_is : new.entries ≡ v.entries ++ x ∷ []
+  entry_is =
+      ap (λ (z : NodeView). z.entries) d.after
+      ∙ ap (λ k. v.entries ++ (record { stamp = k; node = v.me; round = w.round; act = act; labels = d.done.labels }) ∷ []) stamp_is
+      ∙ ap (λ k. v.entries ++ (record { stamp = stamp; node = k; round = w.round; act = act; labels = d.done.labels }) ∷ []) is_node.me
+      ∙ ap (λ k. v.entries ++ (record { stamp = stamp; node = n; round = k; act = act; labels = d.done.labels }) ∷ []) round_is
+
+  pub node_is : (net_after p (x ∷ lines)).nodes n ≡ new.state
+  node_is =
+      ap (λ b. cond b (after_or (done_for p net x) (net.nodes n)) (net.nodes n)) (eq-eqb n n refl) ∙ ap (λ o. after_or o (net.nodes n)) done_is ∙ sym (ap (λ (z : NodeView). z.state) d.after)
+
+  pub other_is : (m : ℕ) → n ≢ m → (net_after p (x ∷ lines)).nodes m ≡ net.nodes m
+  other_is m ne = ap (λ b. cond b (after_or (local_event p m (net.nodes m) act (next_packet net n act)) (net.nodes m)) (net.nodes m)) (ne_eqb n m ne)
+
+  pub console_is : console_of p (at_first p) (x ∷ lines) ≡ console_of p (at_first p) lines ++ d.done.prints
+  console_is =
+      let old : printed (events_of p (fresh_net p) lines) ≡ console_of p (at_first p) lines = (run_whole p (at_first p) (fresh_net p) (starts p) lines s.legal.runs).console in
+      let more : printed (events_of p (fresh_net p) (x ∷ lines)) ≡ console_of p (at_first p) (x ∷ lines) = (run_whole p (at_first p) (fresh_net p) (starts p) (x ∷ lines) runs).console in
+      sym more ∙ ap (λ o. printed (events_of p (fresh_net p) lines) ++ prints_or o) done_is ∙ ap (λ bs. bs ++ d.done.prints) old

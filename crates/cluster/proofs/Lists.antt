@@ -1,0 +1,150 @@
+-- What is so of lists: step by step, and where an element becomes another.
+use Rattle.std.proofs.Common.{◌≡◌, ◌≢◌, ℕ, zero, suc, ◌+◌, ◌-◌, ◌<◌, ◌≤◌, List, [], ◌∷◌, ◌++◌, length, map, take, set, get_or, Some, Bool, true, false, cond, eqb, refl, sym, ap, ◌∙◌, subst, arith, length-append, length-set, append_assoc, append-nil}
+use Rattle.std.specs.Prelude.{◌||◌, filter, slice_get, not, ◌==◌}
+use Rattle.std.proofs.lemmas.Bool.{ne_eqb, eq-eqb}
+use Rattle.std.proofs.lemmas.List.{set-append_left, map-set}
+use Rattle.std.proofs.lemmas.Option.{slice_get_within}
+use Rattle.slot_space.specs.Sets.{run}
+use Rattle.slot_space.specs.declared.names.Tid.{Tid}
+use Rattle.run_trace.specs.declared.entry.Act.{Act}
+use Rattle.run_trace.specs.declared.entry.Act.TheVariants.{Take, Move}
+use Rattle.run_trace.specs.declared.packet.Packet.{Packet}
+use Rattle.wires.specs.declared.ends.Ends.{Ends}
+use Rattle.wires.proofs.Gets.{by_eq, same_some, get_set_same, get_set_other, some_at}
+use Rattle.node_loop.specs.View.{NodeView, raised, with_ends}
+use Rattle.node_loop.specs.Turns.{can}
+use Rattle.cluster.specs.Between.{knows_of, takes_from, moves_among, wires_in, KeepNodes}
+use Rattle.cluster.specs.View.{ends_of}
+
+-- ## Runs of numbers
+
+pub run_more : (i n : ℕ) → i < n → run i (n - i) ≡ i ∷ run (i + 1) (n - (i + 1))
+unfolding run
+run_more i n l = let e : n - i ≡ suc (n - (i + 1)) = omega arith in let f : suc i ≡ i + 1 = omega arith in ap (run i) e ∙ ap (λ k. i ∷ run k (n - (i + 1))) f
+
+pub run_none : (i n : ℕ) → n ≤ i → run i (n - i) ≡ []
+unfolding run
+run_none i n l = let e : n - i ≡ 0 = omega arith in ap (run i) e
+
+-- ## Packets that are known
+
+knows_step : (v : NodeView) (i n : ℕ) (b : Bool) → i < n → can v (Take i) ≡ b → knows_of v (run i (n - i)) ≡ (b || knows_of v (run (i + 1) (n - (i + 1))))
+knows_step v i n b l e = ap (knows_of v) (run_more i n l) ∙ ap (λ u. u || knows_of v (run (i + 1) (n - (i + 1)))) e
+
+pub knows_here : (v : NodeView) (i n : ℕ) (all : Bool) → i < n → can v (Take i) ≡ true → knows_of v (run i (n - i)) ≡ all → true ≡ all
+knows_here v i n all l e k = sym (knows_step v i n true l e) ∙ k
+
+pub knows_later : (v : NodeView) (i n : ℕ) (all : Bool) → i < n → can v (Take i) ≡ false → knows_of v (run i (n - i)) ≡ all → knows_of v (run (i + 1) (n - (i + 1))) ≡ all
+knows_later v i n all l e k = sym (knows_step v i n false l e) ∙ k
+
+pub knows_none : (v : NodeView) (i n : ℕ) (all : Bool) → n ≤ i → knows_of v (run i (n - i)) ≡ all → false ≡ all
+knows_none v i n all l k = sym (ap (knows_of v) (run_none i n l)) ∙ k
+
+-- ## Acts
+
+takes_step : (v : NodeView) (i n : ℕ) (b : Bool) → i < n → can v (Take i) ≡ b
+    → takes_from v (run i (n - i)) ≡ map (λ i. (v.me, Take i)) (cond b (i ∷ filter (λ i. can v (Take i)) (run (i + 1) (n - (i + 1)))) (filter (λ i. can v (Take i)) (run (i + 1) (n - (i + 1)))))
+takes_step v i n b l e = ap (takes_from v) (run_more i n l) ∙ ap (λ b. map (λ i. (v.me, Take i)) (cond b (i ∷ filter (λ i. can v (Take i)) (run (i + 1) (n - (i + 1)))) (filter (λ i. can v (Take i)) (run (i + 1) (n - (i + 1)))))) e
+
+-- one is added, and the others are left
+pub takes_more : (v : NodeView) (i n me : ℕ) (acts more all : List (ℕ × Act)) → i < n → more ≡ acts ++ (me, Take i) ∷ [] → me ≡ v.me → can v (Take i) ≡ true
+    → acts ++ takes_from v (run i (n - i)) ≡ all → more ++ takes_from v (run (i + 1) (n - (i + 1))) ≡ all
+takes_more v i n me acts more all l m h e k =
+    ap (λ xs. xs ++ takes_from v (run (i + 1) (n - (i + 1)))) (m ∙ ap (λ u. acts ++ (u, Take i) ∷ []) h)
+    ∙ append_assoc acts ((v.me, Take i) ∷ []) (takes_from v (run (i + 1) (n - (i + 1)))) ∙ ap (λ xs. acts ++ xs) (sym (takes_step v i n true l e)) ∙ k
+
+pub takes_skip : (v : NodeView) (i n : ℕ) (acts all : List (ℕ × Act)) → i < n → can v (Take i) ≡ false
+    → acts ++ takes_from v (run i (n - i)) ≡ all → acts ++ takes_from v (run (i + 1) (n - (i + 1))) ≡ all
+takes_skip v i n acts all l e k = ap (λ xs. acts ++ xs) (sym (takes_step v i n false l e)) ∙ k
+
+moves_step : (m : ℕ) (t : Tid) (i n : ℕ) (b : Bool) → i < n → eqb i m ≡ b
+    → moves_among m t (run i (n - i)) ≡ map (λ to. (m, Move t to)) (cond (not b) (i ∷ filter (λ to. not (to == m)) (run (i + 1) (n - (i + 1)))) (filter (λ to. not (to == m)) (run (i + 1) (n - (i + 1)))))
+moves_step m t i n b l e = ap (moves_among m t) (run_more i n l) ∙ ap (λ b. map (λ to. (m, Move t to)) (cond (not b) (i ∷ filter (λ to. not (to == m)) (run (i + 1) (n - (i + 1)))) (filter (λ to. not (to == m)) (run (i + 1) (n - (i + 1)))))) e
+
+pub moves_more : (m : ℕ) (t : Tid) (i n : ℕ) (acts more all : List (ℕ × Act)) → i < n → more ≡ acts ++ (m, Move t i) ∷ [] → i ≢ m
+    → acts ++ moves_among m t (run i (n - i)) ≡ all → more ++ moves_among m t (run (i + 1) (n - (i + 1))) ≡ all
+moves_more m t i n acts more all l h e k =
+    ap (λ xs. xs ++ moves_among m t (run (i + 1) (n - (i + 1)))) h
+    ∙ append_assoc acts ((m, Move t i) ∷ []) (moves_among m t (run (i + 1) (n - (i + 1)))) ∙ ap (λ xs. acts ++ xs) (sym (moves_step m t i n false l (ne_eqb i m e))) ∙ k
+
+pub moves_skip : (m : ℕ) (t : Tid) (i n : ℕ) (acts all : List (ℕ × Act)) → i < n → i ≡ m
+    → acts ++ moves_among m t (run i (n - i)) ≡ all → acts ++ moves_among m t (run (i + 1) (n - (i + 1))) ≡ all
+moves_skip m t i n acts all l e k = ap (λ xs. acts ++ xs) (sym (moves_step m t i n true l (eq-eqb i m e))) ∙ k
+
+-- nothing is left
+pub none_left : (f : List ℕ → List (ℕ × Act)) (i n : ℕ) (acts all : List (ℕ × Act)) → f [] ≡ [] → n ≤ i → acts ++ f (run i (n - i)) ≡ all → acts ≡ all
+none_left f i n acts all e l k = sym (append-nil acts) ∙ ap (λ xs. acts ++ xs) (sym (ap f (run_none i n l) ∙ e)) ∙ k
+
+-- ## All are raised
+
+abbrev pub raised_below : (clock k : ℕ) → List NodeView → List NodeView
+raised_below clock zero vs = vs
+raised_below clock (suc k) [] = []
+raised_below clock (suc k) (v ∷ vs) = raised clock v ∷ raised_below clock k vs
+
+pub raised_none : (clock : ℕ) (vs : List NodeView) → raised_below clock 0 vs ≡ vs
+raised_none clock vs = refl
+
+pub raised_all : (clock k : ℕ) (vs : List NodeView) → length vs ≤ k → raised_below clock k vs ≡ map (raised clock) vs
+raised_all clock zero [] l = refl
+raised_all clock (suc k) [] l = refl
+raised_all clock zero (v ∷ vs) l = absurd (omega arith)
+raised_all clock (suc k) (v ∷ vs) l = ap (λ ws. raised clock v ∷ ws) (raised_all clock k vs (omega arith))
+
+pub raised_more : (clock k : ℕ) (vs : List NodeView) (d : NodeView) → k < length vs → set (raised_below clock k vs) k (raised clock (get_or (raised_below clock k vs) k d)) ≡ raised_below clock (k + 1) vs
+raised_more clock k [] d l = absurd (omega arith)
+raised_more clock zero (v ∷ vs) d l = refl
+raised_more clock (suc k) (v ∷ vs) d l =
+    let e : suc (k + 1) ≡ suc k + 1 = omega arith in
+    ap (λ ws. raised clock v ∷ ws) (raised_more clock k vs d (omega arith)) ∙ ap (λ j. raised_below clock j (v ∷ vs)) e
+
+-- one is raised, as it stands in the list now
+pub raised_next : (clock k : ℕ) (vs now : List NodeView) (d new : NodeView) → k < length vs → now ≡ raised_below clock k vs → new ≡ raised clock (get_or now k d) → set now k new ≡ raised_below clock (k + 1) vs
+raised_next clock k vs now d new l h e = ap (set now k) e ∙ ap (λ us. set us k (raised clock (get_or us k d))) h ∙ raised_more clock k vs d l
+
+-- ## Nodes and ends
+
+pub length-map_ends : (nodes : List NodeView) → length (map ends_of nodes) ≡ length nodes
+length-map_ends [] = refl
+length-map_ends (v ∷ vs) = ap suc (length-map_ends vs)
+
+pub wires-length : (nodes : List NodeView) (rest : List (Ends Packet)) → length (wires_in nodes rest) ≡ length nodes + length rest
+wires-length nodes rest = length-append (map ends_of nodes) rest ∙ ap (λ k. k + length rest) (length-map_ends nodes)
+
+pub wires-set : (nodes : List NodeView) (rest : List (Ends Packet)) (i : ℕ) (v : NodeView) → i < length nodes → wires_in (set nodes i v) rest ≡ set (wires_in nodes rest) i v.ends
+wires-set nodes rest i v l = ap (λ es. es ++ rest) (map-set ends_of nodes i v) ∙ sym (set-append_left (map ends_of nodes) rest i v.ends (subst (λ k. i < k) (sym (length-map_ends nodes)) l))
+
+pub wires-get : (nodes : List NodeView) (rest : List (Ends Packet)) (i : ℕ) (v : NodeView) → slice_get nodes i ≡ Some v → slice_get (wires_in nodes rest) i ≡ Some v.ends
+wires-get [] rest i v e = absurd (cc e)
+wires-get (w ∷ ws) rest zero v e = let same : w ≡ v = cc e in ap (λ (z : NodeView). Some z.ends) same
+wires-get (w ∷ ws) rest (suc i) v e = wires-get ws rest i v e
+
+-- ## Nothing but the ends has changed
+
+pub keeps_all : (vs : List NodeView) → KeepNodes vs vs
+keeps_all vs = record { count = refl; each = λ n v w h g. let same : v ≡ w = same_some v w (sym h ∙ g) in sym same ∙ ap (λ (z : NodeView). with_ends z.ends v) same }
+
+pub keeps_on : (us vs ws : List NodeView) → KeepNodes us vs → KeepNodes vs ws → KeepNodes us ws
+keeps_on us vs ws h k = record {
+  count = k.count ∙ h.count;
+  each = λ n u w f g.
+      let v = some_at vs n (omega (arith, h.count, slice_get_within us n u f)) in
+      k.each n v.0 w v.1 g ∙ ap (with_ends w.ends) (h.each n u v.0 f v.1);
+}
+
+pub keeps_one : (vs : List NodeView) (i : ℕ) (v w : NodeView) → slice_get vs i ≡ Some v → w ≡ with_ends w.ends v → KeepNodes vs (set vs i w)
+keeps_one vs i v w at e = record {
+  count = length-set vs i w;
+  each = λ n u x f g. by_eq n i
+      (λ s.
+      let xe : w ≡ x = same_some w x (sym (get_set_same vs i w (slice_get_within vs i v at)) ∙ subst (λ k. slice_get (set vs i w) k ≡ Some x) s g) in
+      let ue : v ≡ u = same_some v u (sym at ∙ subst (λ k. slice_get vs k ≡ Some u) s f) in
+      sym xe ∙ e ∙ ap (λ (z : NodeView). with_ends z.ends v) xe ∙ ap (with_ends x.ends) ue)
+      (λ ne. (keeps_all vs).each n u x f (sym (get_set_other vs n i w ne) ∙ g));
+}
+
+pub take_all : {A : Type 0} (xs : List A) (k : ℕ) → length xs ≤ k → take k xs ≡ xs
+take_all [] zero l = refl
+take_all [] (suc k) l = refl
+take_all (x ∷ xs) zero l = absurd (omega arith)
+take_all (x ∷ xs) (suc k) l = ap (λ ys. x ∷ ys) (take_all xs k (omega arith))

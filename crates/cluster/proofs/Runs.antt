@@ -1,0 +1,163 @@
+-- What a run leaves on the links, how great its stamps are, and how many entries a node has.
+use Rattle.std.proofs.Common.{◌≡◌, ℕ, suc, ◌<◌, ◌≤◌, inl, inr, List, [], ◌∷◌, ◌++◌, length, Bool, true, false, cond, eqb, refl, sym, ap, ◌∙◌, arith, append_assoc}
+use Rattle.std.specs.Prelude.{⊤}
+use Rattle.std.proofs.lemmas.Bool.{eqb-true}
+use Rattle.run_trace.specs.declared.entry.Act.{Act}
+use Rattle.run_trace.specs.declared.entry.Act.TheVariants.{Boot, Run, Take, Move}
+use Rattle.run_trace.specs.declared.entry.Entry.{Entry}
+use Rattle.run_trace.specs.declared.packet.Packet.{Packet}
+use Rattle.run_trace.specs.declared.packet.Send.{Send}
+use Rattle.run_trace.specs.Program.{Program}
+use Rattle.run_trace.specs.Cluster.{Net, fresh_net, first_of, rest_of, left_after, packets_to, taken_of, next_packet, received, sent}
+use Rattle.run_trace.specs.Histories.{IsInOrder, IsEntryAbove, own_entries}
+use Rattle.run_trace.specs.Legality.{AreRising, NoneAbove}
+use Rattle.run_trace.specs.Trace.{done_for, events_of, sends_or}
+use Rattle.trace_laws.specs.Gathers.{AllWithin}
+use Rattle.cluster.specs.Standing.{net_after, newest_stamp, newest_round}
+
+-- ## What was received, and what the link holds, is what was sent
+
+taken_left : (net : Net) (i j : ℕ) (a : Act) → taken_of i a (next_packet net j a) ++ left_after i a (net.links i j) ≡ net.links i j
+taken_left net i j Boot = refl
+taken_left net i j (Run vp quantum) = refl
+taken_left net i j (Move t to) = refl
+taken_left net i j (Take from) = by (eqb from i) refl (net.links from j) refl
+  where
+    here : eqb from i ≡ true → net.links from j ≡ net.links i j
+    here e = ap (λ k. net.links k j) (eqb-true from i e)
+
+    by : (b : Bool) → eqb from i ≡ b → (ps : List Packet) → net.links from j ≡ ps → taken_of i (Take from) (first_of ps) ++ cond b (rest_of (net.links i j)) (net.links i j) ≡ net.links i j
+    by true e [] h = let none : net.links i j ≡ [] = sym (here e) ∙ h in ap rest_of none ∙ sym none
+    by true e (q ∷ qs) h =
+        let some : net.links i j ≡ q ∷ qs = sym (here e) ∙ h in
+        ap (λ b. cond b (q ∷ []) [] ++ rest_of (net.links i j)) e ∙ ap (λ ps. q ∷ rest_of ps) some ∙ sym some
+    by false e [] h = refl
+    by false e (q ∷ qs) h = ap (λ b. cond b (q ∷ []) [] ++ net.links i j) e
+
+regroup : (a b c d : List Packet) → (a ++ b) ++ (c ++ d) ≡ (a ++ (b ++ c)) ++ d
+regroup a b c d = append_assoc a b (c ++ d) ∙ ap (λ z. a ++ z) (sym (append_assoc b c d)) ∙ sym (append_assoc a (b ++ c) d)
+
+pub carried_run : (p : Program) (lines : List Entry) (i j : ℕ) → received i j (events_of p (fresh_net p) lines) ++ (net_after p lines).links i j ≡ sent i j (events_of p (fresh_net p) lines)
+carried_run p [] i j = refl
+carried_run p (x ∷ xs) i j =
+    regroup r t l s ∙ ap (λ z. (r ++ z) ++ s) same ∙ ap (λ z. z ++ s) (carried_run p xs i j)
+  where
+    net : Net
+    net = net_after p xs
+
+    r : List Packet
+    r = received i j (events_of p (fresh_net p) xs)
+
+    t : List Packet
+    t = cond (eqb x.node j) (taken_of i x.act (next_packet net x.node x.act)) []
+
+    l : List Packet
+    l = cond (eqb x.node j) (left_after i x.act (net.links i j)) (net.links i j)
+
+    s : List Packet
+    s = cond (eqb x.node i) (packets_to j x.stamp (sends_or (done_for p net x))) []
+
+    by : (b : Bool) → eqb x.node j ≡ b → cond b (taken_of i x.act (next_packet net x.node x.act)) [] ++ cond b (left_after i x.act (net.links i j)) (net.links i j) ≡ net.links i j
+    by true e = ap (λ k. taken_of i x.act (next_packet net k x.act) ++ left_after i x.act (net.links i j)) (eqb-true x.node j e) ∙ taken_left net i j x.act
+    by false e = refl
+
+    same : t ++ l ≡ net.links i j
+    same = by (eqb x.node j) refl
+
+-- ## Stamps
+
+-- no stamp is above this
+abbrev pub NoneLater : ℕ → List Entry → Type 0
+NoneLater clock [] = ⊤
+NoneLater clock (x ∷ xs) = (x.stamp ≤ clock) × NoneLater clock xs
+
+pub above : (c : ℕ) (e : Entry) → c < e.stamp → (lines : List Entry) → NoneLater c lines → IsEntryAbove e lines
+above c e l [] h = tt
+above c e l (x ∷ xs) h = (inl (omega (arith, l, h.0)), above c e l xs h.1)
+
+none_later : (e : Entry) (xs : List Entry) → IsEntryAbove e xs → NoneLater e.stamp xs
+none_later e [] h = tt
+none_later e (x ∷ xs) h = (elim h.0 as (λ z. x.stamp ≤ e.stamp) [ inl l ↦ omega (arith, l) | inr k ↦ omega (arith, k.0) ], none_later e xs h.1)
+
+pub newest_last : (lines : List Entry) → IsInOrder lines → NoneLater (newest_stamp lines) lines
+newest_last [] h = tt
+newest_last (x ∷ xs) h = (omega arith, none_later x xs h.0)
+
+within_all : (c : ℕ) (xs ys : List Packet) → AllWithin c xs → AllWithin c ys → AllWithin c (xs ++ ys)
+within_all c [] ys h k = k
+within_all c (x ∷ xs) ys h k = (h.0, within_all c xs ys h.1 k)
+
+sent_within : (c j stamp : ℕ) (sends : List Send) → stamp ≤ c → AllWithin c (packets_to j stamp sends)
+sent_within c j stamp [] l = tt
+sent_within c j stamp (x ∷ xs) l = by (eqb x.to j) (sent_within c j stamp xs l)
+  where
+    by : (b : Bool) → AllWithin c (packets_to j stamp xs) → AllWithin c (cond b ((record { stamp = stamp; body = x.body }) ∷ packets_to j stamp xs) (packets_to j stamp xs))
+    by true h = (l, h)
+    by false h = h
+
+rest_within : (c : ℕ) (ps : List Packet) → AllWithin c ps → AllWithin c (rest_of ps)
+rest_within c [] h = tt
+rest_within c (p ∷ ps) h = h.1
+
+left_within : (c i : ℕ) (act : Act) (ps : List Packet) → AllWithin c ps → AllWithin c (left_after i act ps)
+left_within c i Boot ps h = h
+left_within c i (Run vp quantum) ps h = h
+left_within c i (Move t to) ps h = h
+left_within c i (Take from) ps h = by (eqb from i)
+  where
+    by : (b : Bool) → AllWithin c (cond b (rest_of ps) ps)
+    by true = rest_within c ps h
+    by false = h
+
+either : (c : ℕ) (b : Bool) (xs ys : List Packet) → AllWithin c xs → AllWithin c ys → AllWithin c (cond b xs ys)
+either c true xs ys h k = h
+either c false xs ys h k = k
+
+-- what is under way has a stamp of the trace
+pub links_within : (p : Program) (c : ℕ) (lines : List Entry) → NoneLater c lines → (i j : ℕ) → AllWithin c ((net_after p lines).links i j)
+links_within p c [] h i j = tt
+links_within p c (x ∷ xs) h i j =
+    let net : Net = net_after p xs in
+    let old : AllWithin c (net.links i j) = links_within p c xs h.1 i j in
+    within_all c (cond (eqb x.node j) (left_after i x.act (net.links i j)) (net.links i j)) (cond (eqb x.node i) (packets_to j x.stamp (sends_or (done_for p net x))) [])
+    (either c (eqb x.node j) (left_after i x.act (net.links i j)) (net.links i j) (left_within c i x.act (net.links i j) old) old)
+    (either c (eqb x.node i) (packets_to j x.stamp (sends_or (done_for p net x))) [] (sent_within c j x.stamp (sends_or (done_for p net x)) h.0) tt)
+
+-- ## A node has at most one entry for each stamp
+
+abbrev OwnBelow : ℕ → ℕ → List Entry → Type 0
+OwnBelow k n [] = ⊤
+OwnBelow k n (x ∷ xs) = (x.node ≡ n → x.stamp < k) × OwnBelow k n xs
+
+own_below : (e : Entry) (n : ℕ) → e.node ≡ n → (xs : List Entry) → IsEntryAbove e xs → OwnBelow e.stamp n xs
+own_below e n s [] h = tt
+own_below e n s (x ∷ xs) h = (λ f. elim h.0 as (λ z. x.stamp < e.stamp) [ inl l ↦ l | inr k ↦ absurd (omega (arith, k.1, f, s)) ], own_below e n s xs h.1)
+
+own_few : (n k : ℕ) (lines : List Entry) → IsInOrder lines → OwnBelow k n lines → length (own_entries n lines) ≤ k
+own_few n k [] o b = omega arith
+own_few n k (x ∷ xs) o b = by (eqb x.node n) refl (λ m h. own_few n m xs o.1 h)
+  where
+    by : (c : Bool) → eqb x.node n ≡ c → ((m : ℕ) → OwnBelow m n xs → length (own_entries n xs) ≤ m) → length (cond c (x ∷ own_entries n xs) (own_entries n xs)) ≤ k
+    by true e few =
+        let here : x.node ≡ n = eqb-true x.node n e in
+        let less : x.stamp < k = b.0 here in
+        let fewer : length (own_entries n xs) ≤ x.stamp = few x.stamp (own_below x n here xs o.0) in
+        omega (arith, less, fewer)
+    by false e few = few k b.1
+
+all_below : (k n : ℕ) (lines : List Entry) → NoneLater k lines → OwnBelow (suc k) n lines
+all_below k n [] h = tt
+all_below k n (x ∷ xs) h = (λ e. omega (arith, h.0), all_below k n xs h.1)
+
+pub few_own : (n : ℕ) (lines : List Entry) → IsInOrder lines → length (own_entries n lines) ≤ suc (newest_stamp lines)
+few_own n lines o = own_few n (suc (newest_stamp lines)) lines o (all_below (newest_stamp lines) n lines (newest_last lines o))
+
+-- ## Rounds
+
+higher : (round more : ℕ) → round ≤ more → (lines : List Entry) → NoneAbove round lines → NoneAbove more lines
+higher round more l [] h = tt
+higher round more l (x ∷ xs) h = (omega (arith, l, h.0), higher round more l xs h.1)
+
+pub none_above : (round : ℕ) (lines : List Entry) → newest_round lines ≤ round → AreRising lines → NoneAbove round lines
+none_above round [] l h = tt
+none_above round (x ∷ xs) l h = (l, higher x.round round l xs h.0)

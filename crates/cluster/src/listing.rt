@@ -1,0 +1,81 @@
+//! Which acts are possible.
+
+ghost use Rattle.std.specs.Prelude.{◌≡◌, ◌++◌, OnOk};
+ghost use Rattle.slot_space.specs.Sets.{run};
+ghost use Rattle.run_trace.specs.Program.{nodes_of};
+ghost use Rattle.cluster.specs.Between.{acts_by, moves_by, moves_among, run_by, takes_from};
+
+use basics::NoMemory;
+use node_loop::Node;
+use run_trace::{Act, Setup};
+use slot_space::{NodeNo, Tid};
+
+// The acts of a node; moves only where they are asked for.
+pub(crate) fn push_acts(
+    acts: &mut Vec<(NodeNo, Act)>,
+    setup: &Setup,
+    moves: bool,
+    node: &Node,
+) -> Result<(), NoMemory>
+    requires { node.now.program.setup ≡ setup.now }
+    ensures { OnOk result (acts.new.items ≡ acts.old.items ++ acts_by moves node.now) }
+{
+    push_run(acts, setup, node)?;
+    let count = setup.geometry.nodes();
+    push_takes(acts, count, node)?;
+    if moves {
+        push_moves(acts, count, node)?;
+    }
+    Ok(())
+}
+
+// A run, if a thread can be picked.
+fn push_run(acts: &mut Vec<(NodeNo, Act)>, setup: &Setup, node: &Node) -> Result<(), NoMemory>
+    requires { node.now.program.setup ≡ setup.now }
+    ensures { OnOk result (acts.new.items ≡ acts.old.items ++ run_by node.now) }
+{
+    if node.ready() > 0 {
+        acts.push((node.me(), Act::Run(0, setup.quantum)))?;
+    }
+    Ok(())
+}
+
+// A take from each node of which a packet is known.
+fn push_takes(acts: &mut Vec<(NodeNo, Act)>, count: u8, node: &Node) -> Result<(), NoMemory>
+    requires { nodes_of node.now.program ≡ count }
+    ensures { OnOk result (acts.new.items ≡ acts.old.items ++ takes_from node.now (run 0 (nodes_of node.now.program))) }
+{
+    for sender in 0..count {
+        if !node.has_packet(NodeNo(sender)) {
+            continue;
+        }
+        acts.push((node.me(), Act::Take(NodeNo(sender))))?;
+    }
+    Ok(())
+}
+
+// A move of each thread that can run to each other node.
+fn push_moves(acts: &mut Vec<(NodeNo, Act)>, count: u8, node: &Node) -> Result<(), NoMemory>
+    requires { nodes_of node.now.program ≡ count }
+    ensures { OnOk result (acts.new.items ≡ acts.old.items ++ moves_by node.now) }
+{
+    let own = node.me();
+    let threads = node.ready_threads()?;
+    for t in &threads {
+        push_moves_of(acts, count, own.0, t)?;
+    }
+    Ok(())
+}
+
+// A move of a thread of a node to each other node.
+fn push_moves_of(acts: &mut Vec<(NodeNo, Act)>, count: u8, own: u8, t: &Tid) -> Result<(), NoMemory>
+    ensures { OnOk result (acts.new.items ≡ acts.old.items ++ moves_among own t.now (run 0 count)) }
+{
+    for to in 0..count {
+        if to == own {
+            continue;
+        }
+        acts.push((NodeNo(own), Act::Move(*t, NodeNo(to))))?;
+    }
+    Ok(())
+}

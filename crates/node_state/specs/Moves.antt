@@ -1,0 +1,26 @@
+-- A thread that comes, as it is once its packet is opened.
+use Rattle.std.specs.Prelude.{ℕ, Bool, ◌&&◌, is_none, nat_lt}
+use Rattle.std.specs.Map.{lookup}
+use Rattle.pack_thread.specs.Threads.{Thread as Packed}
+use Rattle.run_trace.specs.declared.label.Label.TheVariants.{Came}
+use Rattle.run_trace.specs.declared.node.Wait.TheVariants as wait
+use Rattle.run_trace.specs.Names.{is_tid}
+use Rattle.run_trace.specs.Program.{Program, nodes_of}
+use Rattle.run_trace.specs.Guests.{waits, unpacked, guest_slots}
+use Rattle.run_trace.specs.Local.{Local, Doing}
+use Rattle.run_trace.specs.Steps.{say, thread_in, arrive}
+use Rattle.run_trace.specs.Machine.{is_unserving, lives_yet, are_away}
+use Rattle.node_state.specs.declared.newcomer.Newcomer.{Newcomer}
+
+abbrev pub newcomer_of : Packed → Newcomer
+newcomer_of x = record { tid = x.tid; unserving = is_unserving x; thread = waits wait.No (unpacked x) }
+
+-- this node expects it
+abbrev pub may_enter : Program → ℕ → Local → Newcomer → Bool
+may_enter p me s n =
+    nat_lt n.tid.home (nodes_of p) && (n.unserving && (is_none (lookup (is_tid n.tid) s.threads)
+    && (lives_yet me s n.tid && are_away (guest_slots n.thread.guest) s)))
+
+-- it comes, and is on the run list
+abbrev pub enters : Newcomer → Doing → Doing
+enters n d = arrive n.tid n.thread.guest.priority (thread_in n.tid n.thread (say (Came n.tid) d))

@@ -1,0 +1,181 @@
+//! Moves of threads between nodes.
+
+ghost use Rattle.std.specs.Prelude.{◌≡◌, ◌<◌, not, IfOk};
+ghost use Rattle.std.specs.List.{list_all};
+ghost use Rattle.run_trace.specs.Guests.{guest_slots};
+ghost use Rattle.run_trace.specs.Local.{nothing};
+ghost use Rattle.run_trace.specs.Steps.{at_thread, thread_at, leaves};
+ghost use Rattle.run_trace.specs.Machine.{goes, migrates, moves_found, moves_listed, lives_yet, are_away};
+ghost use Rattle.slot_space.specs.Sets.{meets};
+ghost use Rattle.node_state.specs.Events.{program, Becomes};
+ghost use Rattle.node_state.specs.Moves.{may_enter, enters};
+
+use crate::doing::{Doing, State};
+use crate::homes::is_open;
+use crate::newcomer::Newcomer;
+use basics::NoMemory;
+use run_trace::{Body, Label, Setup};
+use rv_inst::Image;
+use slot_space::{NodeNo, SlotSet, Tid};
+
+impl State {
+    /// No thread that is here has one of these slots.
+    fn are_nobodys(&self, slots: &SlotSet) -> bool
+        ensures { result ≡ list_all (λ e. not (meets slots.now (guest_slots e.1.guest))) self.now.threads }
+    {
+        for (_, thread) in &self.threads {
+            if slots.meets(&thread.slots()) {
+                return false;
+            }
+        }
+        true
+    }
+
+    /// None of these slots is the node's or of a thread that is here.
+    fn are_away(&self, slots: &SlotSet) -> bool
+        ensures { result ≡ are_away slots.now self.now }
+    {
+        if slots.meets(&self.own) {
+            return false;
+        }
+        self.are_nobodys(slots)
+    }
+}
+
+impl Doing {
+    /// The thread, which is on the run list, goes to another node with all that it has.
+    #[tactic(auto, unfolding(run_trace::specs::Steps::leaves, run_trace::specs::Steps::thread_out, run_trace::specs::Steps::take_off))]
+    fn leaves(&mut self, t: &Tid, to: NodeNo) -> Result<(), NoMemory>
+        requires { t.now.home < 8 }
+        ensures { IfOk result (λ _. self.new ≡ at_thread t.now (leaves t.now to) self.old) }
+    {
+        let node = &mut self.node;
+        let Some(thread) = node.threads.remove(t) else {
+            return Ok(());
+        };
+        let packed = thread.pack(self.alloc, &mut self.pool, t)?;
+        self.take_off(t);
+        self.say(Label::Left { t: *t, to })?;
+        self.put(to, Body::Mover(packed))
+    }
+
+    /// The thread goes to another node, as each does whose home is a node of the cluster.
+    fn goes(&mut self, setup: &Setup, image: &Image, t: &Tid, to: NodeNo) -> Result<(), NoMemory>
+        ensures { IfOk result (λ _. self.new ≡ at_thread t.now (goes (program setup.now image.now) t.now to) self.old) }
+    {
+        if t.home.0 < setup.geometry.nodes() {
+            self.leaves(t, to)
+        } else {
+            Ok(())
+        }
+    }
+
+    /// A thread that asks for its own node stays.
+    pub(crate) fn migrates(
+        &mut self,
+        setup: &Setup,
+        image: &Image,
+        me: NodeNo,
+        to: NodeNo,
+        t: &Tid,
+    ) -> Result<(), NoMemory>
+        ensures { IfOk result (λ _. self.new ≡ migrates (program setup.now image.now) me to t.now self.old) }
+    {
+        if to.0 == me.0 {
+            return Ok(());
+        }
+        self.goes(setup, image, t, to)
+    }
+
+    /// The thread is sent away, false where it isn't here.
+    fn moves_found(
+        &mut self,
+        setup: &Setup,
+        image: &Image,
+        t: &Tid,
+        to: NodeNo,
+    ) -> Result<bool, NoMemory>
+        requires { self.old ≡ nothing self.old.node }
+        ensures { IfOk result (λ did. Becomes (moves_found (program setup.now image.now) t.now to (thread_at t.now self.old) self.old.node) self.old self.new did) }
+    {
+        let node = &self.node;
+        let Some(_) = node.threads.get(t) else {
+            return Ok(false);
+        };
+        self.goes(setup, image, t, to)?;
+        Ok(true)
+    }
+
+    /// A thread that is on the run list is sent away; false where it isn't.
+    pub(crate) fn moves_listed(
+        &mut self,
+        setup: &Setup,
+        image: &Image,
+        t: &Tid,
+        to: NodeNo,
+    ) -> Result<bool, NoMemory>
+        requires { self.old ≡ nothing self.old.node }
+        ensures { IfOk result (λ did. Becomes (moves_listed (program setup.now image.now) t.now to self.old.node) self.old self.new did) }
+    {
+        let node = &self.node;
+        if node.places.is_listed(t) {
+            self.moves_found(setup, image, t, to)
+        } else {
+            Ok(false)
+        }
+    }
+
+    /// A thread that was born here hasn't ended.
+    fn lives_yet(&self, me: NodeNo, t: &Tid) -> bool
+        ensures { result ≡ lives_yet me self.now.node t.now }
+    {
+        if t.home.0 == me.0 {
+            is_open(self.birth_of(t.seq))
+        } else {
+            true
+        }
+    }
+
+    /// This node expects the thread.
+    pub(crate) fn may_enter(
+        &self,
+        setup: &Setup,
+        image: &Image,
+        me: NodeNo,
+        newcomer: &Newcomer,
+    ) -> bool
+        ensures { result ≡ may_enter (program setup.now image.now) me self.now.node newcomer.now }
+    {
+        let node = &self.node;
+        let t = &newcomer.tid;
+        if t.home.0 >= setup.geometry.nodes() {
+            return false;
+        }
+        if !newcomer.unserving {
+            return false;
+        }
+        if node.threads.contains_key(t) {
+            return false;
+        }
+        if !self.lives_yet(me, t) {
+            return false;
+        }
+        node.are_away(&newcomer.thread.slots())
+    }
+
+    /// The thread comes, and is on the run list, the last to arrive.
+    pub(crate) fn enters(&mut self, newcomer: Newcomer) -> Result<(), NoMemory>
+        ensures { IfOk result (λ _. self.new ≡ enters newcomer self.old) }
+    {
+        let Newcomer {
+            tid,
+            unserving: _,
+            thread,
+        } = newcomer;
+        let t = &tid;
+        let priority = thread.priority();
+        self.say(Label::Came(*t))?;
+        self.thread_in(t, thread)?;
+        self.arrive(t, priority)
+    }
+}

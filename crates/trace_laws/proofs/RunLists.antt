@@ -1,0 +1,58 @@
+-- Who is on a run list: each thread that is on the node and waits for nothing, and no other.
+use Rattle.std.proofs.Common.{◌≡◌, ℕ, Some, true, refl, sym, ap, ◌∙◌, subst}
+use Rattle.std.specs.Prelude.{is_some}
+use Rattle.std.proofs.lemmas.Bool.{eq-eqb}
+use Rattle.slot_space.specs.declared.names.Tid.{Tid}
+use Rattle.run_trace.specs.Program.{Program}
+use Rattle.run_trace.specs.Guests.{Guest, Thread, waits, is_unwaiting}
+use Rattle.run_trace.specs.Places.{is_listed}
+use Rattle.run_trace.specs.Cluster.{Net}
+use Rattle.run_trace.specs.Holding.{IsOn}
+use Rattle.run_trace.specs.Rules.{IsSettled}
+use Rattle.run_trace.specs.Spots.{Stage, Ready, Running, Due, Served, Told_next, Told_then, Departs, Ends, Leaves, Halts, Stays, Shows, Showing, Shown_there, Asks, Awaits, Answers, Answered, On, Spots}
+use Rattle.run_trace.specs.Stands.{Stands, row_in_life, row_in_stage, thread_in_life, thread_in_stage, wait_of}
+use Rattle.trace_laws.proofs.Parts.{listed_found}
+use Rattle.trace_laws.proofs.Simulate.{listed_ready}
+use Rattle.trace_laws.proofs.Wholes.{settled_at}
+use Rattle.trace_laws.proofs.Consequences.{OnNode, on_node_is}
+
+pub listed_is : (p : Program) (w : Spots) (net : Net) → Stands p w net → (n : ℕ) (t : Tid) (x : Thread) → IsOn net n t x → is_listed t (net.nodes n).places.rows ≡ is_unwaiting x
+listed_is p w net s n t x h =
+    listed_found (net.nodes n).places.rows t ∙ ap is_some ((s.nodes n).rows.shows t) ∙ ap (λ z. is_some (row_in_life n t z g.priority)) on.life
+    ∙ (rw (eq-eqb n n refl) (by on.stage (subst (λ z. IsSettled z) on.life (settled_at p w net s t)) there))
+  where
+    g : Guest
+    g = (w.threads t).guest
+
+    on : OnNode n (w.threads t) x
+    on = on_node_is n t (w.threads t) x (sym ((s.nodes n).threads.shows t) ∙ h)
+
+    there : thread_in_stage on.stage g ≡ Some x
+    there = sym (ap (λ z. thread_in_life n z g) on.life ∙ (rw (eq-eqb n n refl) refl)) ∙ sym ((s.nodes n).threads.shows t) ∙ h
+
+    same : (y : Thread) → Some y ≡ Some x → is_unwaiting y ≡ is_unwaiting x
+    same y e = let one : y ≡ x = cc e in ap is_unwaiting one
+
+    by : (stage : Stage) → IsSettled (On n stage) → thread_in_stage stage g ≡ Some x → is_some (row_in_stage t stage g.priority) ≡ is_unwaiting x
+    by Ready k e = same _ e
+    by Stays k e = same _ e
+    by (Shows bytes) k e = same _ e
+    by Shown_there k e = same _ e
+    by (Asks u) k e = same _ e
+    by (Awaits u) k e = same _ e
+    by (Answered h) k e = same _ e
+    by Running k e = absurd k
+    by (Due code) k e = absurd k
+    by (Served c) k e = absurd k
+    by Told_next k e = absurd k
+    by (Told_then to) k e = absurd k
+    by (Departs to) k e = absurd k
+    by (Ends end) k e = absurd k
+    by (Leaves end) k e = absurd k
+    by Halts k e = absurd k
+    by Showing k e = absurd k
+    by (Answers h reply second) k e = absurd k
+
+pub listed_there : (p : Program) (w : Spots) (net : Net) → Stands p w net → (n : ℕ) (t : Tid) → is_listed t (net.nodes n).places.rows ≡ true → (x : Thread) × IsOn net n t x
+listed_there p w net s n t h =
+    (waits (wait_of Ready) (w.threads t).guest, (s.nodes n).threads.shows t ∙ ap (λ z. thread_in_life n z (w.threads t).guest) (listed_ready p w net s 0 n t h) ∙ (rw (eq-eqb n n refl) refl))
