@@ -1,9 +1,10 @@
 //! The commands as a user gives them.
 
 use crate::{Report, Status, err_text, pm2_main};
+use basics::Items;
 use outside::{FailingShelf, FailingSink, MapShelf, Shelf, Sink, VecSink};
 use run_judge::judge;
-use run_trace::Setup;
+use run_trace::{Entry, Setup};
 use rv_asm::assemble;
 use slot_space::Geometry;
 use std::alloc::Global;
@@ -169,18 +170,41 @@ fn shelf(alloc: Global, source: &[u8]) -> Result<MapShelf, Fail> {
     Ok(MapShelf::new(alloc, files))
 }
 
+/// A report without its links.
+#[derive(Drop)]
+struct Told {
+    status: Status,
+    trace: Items<Entry>,
+}
+
+/// What the words come to with these files and outputs.
+fn tell<S: Shelf, K: Sink, E: Sink>(
+    alloc: Global,
+    line: &str,
+    files: &mut S,
+    out: &mut K,
+    err: &mut E,
+) -> Result<Told, Fail> {
+    let all = words(alloc, line)?;
+    let wires = Wires::new(alloc, 8)?;
+    let Report {
+        status,
+        trace,
+        wires: _,
+    } = pm2_main(alloc, &all, files, out, err, wires);
+    Ok(Told { status, trace })
+}
+
 /// What the words come to with the files: the report, and what is on the output and on the error output.
 fn come_to<S: Shelf>(
     alloc: Global,
     line: &str,
     files: &mut S,
-) -> Result<(Report, Vec<u8>, Vec<u8>), Fail> {
+) -> Result<(Told, Vec<u8>, Vec<u8>), Fail> {
     let mut out = VecSink::new(alloc, 1);
     let mut err = VecSink::new(alloc, 7);
-    let all = words(alloc, line)?;
-    let wires = Wires::new(alloc, 8)?;
-    let report = pm2_main(alloc, &all, files, &mut out, &mut err, wires);
-    Ok((report, out.bytes, err.bytes))
+    let told = tell(alloc, line, files, &mut out, &mut err)?;
+    Ok((told, out.bytes, err.bytes))
 }
 
 /// The lines of a thread.
@@ -371,13 +395,20 @@ fn seeds_give_other_traces_and_the_same_lines(rt: HostRuntime) -> Result<(), Fai
 
 /// The status, and what is on the output and on the error output, where these calls of the output fail.
 fn fail_at(alloc: Global, source: &str, call: u64) -> Result<(Status, Vec<u8>, Vec<u8>), Fail> {
-    let all = words(alloc, "sim|f")?;
     let mut files = shelf(alloc, source.as_bytes())?;
     let mut out = FailingSink::new(VecSink::new(alloc, 99), [call].to_vec(alloc)?);
     let mut err = VecSink::new(alloc, 99);
-    let wires = Wires::new(alloc, 8)?;
-    let report = pm2_main(alloc, &all, &mut files, &mut out, &mut err, wires);
-    Ok((report.status, out.inner.bytes, err.bytes))
+    let told = tell(alloc, "sim|f", &mut files, &mut out, &mut err)?;
+    Ok((told.status, out.inner.bytes, err.bytes))
+}
+
+/// The status, and what is on the error output, which fails at its second piece.
+fn deaf_to(alloc: Global, source: &str) -> Result<(Status, Vec<u8>), Fail> {
+    let mut files = shelf(alloc, source.as_bytes())?;
+    let mut out = VecSink::new(alloc, 99);
+    let mut deaf = FailingSink::new(VecSink::new(alloc, 4), [1u64].to_vec(alloc)?);
+    let told = tell(alloc, "sim|f", &mut files, &mut out, &mut deaf)?;
+    Ok((told.status, deaf.inner.bytes))
 }
 
 #[test]
@@ -410,14 +441,9 @@ fn files_and_outputs_that_fail(rt: HostRuntime) -> Result<(), Fail> {
     );
     // An error output that fails changes no status.
     for (source, number, told) in [(WAITS, 3, "pm2:"), ("main: ebreak", 0, "faul")] {
-        let all = words(alloc, "sim|f")?;
-        let mut files = shelf(alloc, source.as_bytes())?;
-        let mut out = VecSink::new(alloc, 99);
-        let mut deaf = FailingSink::new(VecSink::new(alloc, 4), [1u64].to_vec(alloc)?);
-        let wires = Wires::new(alloc, 8)?;
-        let report = pm2_main(alloc, &all, &mut files, &mut out, &mut deaf, wires);
-        assert_eq!(rt; report.status.number(), number);
-        assert_eq!(rt; deaf.inner.bytes.as_slice(), told.as_bytes());
+        let (status, err) = deaf_to(alloc, source)?;
+        assert_eq!(rt; status.number(), number);
+        assert_eq!(rt; err.as_slice(), told.as_bytes());
     }
     Ok(())
 }
