@@ -11,5 +11,5 @@ mod tests;
 mod word;
 
 pub use geometry::Geometry;
-pub use names::{NodeNo, Reply, SlotNo, Tid};
+pub use names::{NodeNo, Reply, SlotNo, Tid, names_in_order};
 pub use slot_set::SlotSet;
