@@ -6,8 +6,6 @@ mod bits;
 mod geometry;
 mod names;
 mod slot_set;
-#[cfg(test)]
-mod tests;
 mod word;
 
 pub use geometry::Geometry;
