@@ -9,8 +9,6 @@ mod layout;
 mod live;
 mod plain;
 mod space;
-#[cfg(test)]
-mod tests;
 
 pub use blocks::Blocks;
 pub use check::is_block;

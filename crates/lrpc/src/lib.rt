@@ -4,8 +4,6 @@
 
 mod call;
 mod duty;
-#[cfg(test)]
-mod tests;
 
 pub use call::CallNo;
 pub use duty::{Duty, Given};

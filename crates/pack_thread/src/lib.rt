@@ -9,8 +9,6 @@ mod laws;
 mod opening;
 mod packed;
 mod packing;
-#[cfg(test)]
-mod tests;
 mod unpacking;
 
 pub use baggage::Baggage;

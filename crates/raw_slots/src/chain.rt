@@ -11,8 +11,7 @@ use std::ptr::null_mut;
 /// The bytes of one block.
 pub(crate) const SIZE: usize = 65536;
 
-/// Owns `count` free blocks of `alloc`. To drop it forgets them: its owner pops them first.
-#[derive(Drop)]
+/// Owns `count` free blocks of `alloc`.
 pub(crate) struct Chain<A: Allocator> {
     first: *mut u8,
     marker: PhantomData<A>,
@@ -34,6 +33,16 @@ impl<A: Allocator> Chain<A> {
             first: null_mut(),
             marker,
         }
+    }
+
+    /// Gives up a chain that has no block left.
+    pub(crate) fn end(self)
+        requires { self.count ≡ 0 }
+    {
+        let Chain {
+            first: _,
+            marker: _,
+        } = self;
     }
 
     /// Writes a link into the free block, which is then the first.

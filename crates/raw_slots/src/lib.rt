@@ -7,8 +7,6 @@ mod memory;
 mod pool;
 mod shell;
 mod slot_mem;
-#[cfg(test)]
-mod tests;
 
 pub use pool::Pool;
 pub use slot_mem::SlotMem;

@@ -74,7 +74,7 @@ impl Pool {
         let empty = Chain::empty(&self.alloc);
         let chain = replace(&mut self.chain, empty);
         let ((memory, lease), rest) = chain.pop(SIZE);
-        self.chain = rest;
+        replace(&mut self.chain, rest).end();
         self.spare -= 1;
         Ok(SlotMem::zeroed(memory, lease, self.alloc))
     }
@@ -98,7 +98,8 @@ impl Pool {
     {
         let empty = Chain::empty(&self.alloc);
         let chain = replace(&mut self.chain, empty);
-        self.chain = chain.push(memory, lease);
+        let longer = chain.push(memory, lease);
+        replace(&mut self.chain, longer).end();
         self.spare += 1;
     }
 }
@@ -117,5 +118,6 @@ impl Drop for Pool {
             chain = rest;
             memory.free(lease, &alloc);
         }
+        chain.end();
     }
 }

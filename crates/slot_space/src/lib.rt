@@ -6,10 +6,8 @@ mod bits;
 mod geometry;
 mod names;
 mod slot_set;
-#[cfg(test)]
-mod tests;
 mod word;
 
 pub use geometry::Geometry;
-pub use names::{NodeNo, Reply, SlotNo, Tid};
+pub use names::{NodeNo, Reply, SlotNo, Tid, names_in_order};
 pub use slot_set::SlotSet;

@@ -1,6 +1,7 @@
 //! The names by which nodes, slots and threads are told apart, and the replies of the library.
 
 ghost use Rattle.std.specs.Prelude.{◌≡◌};
+ghost use Rattle.std.specs.Ordering.{nat_cmp, ordering_then};
 ghost use Rattle.slot_space.specs.Replies.{reply_code, tid_value};
 
 use std::marker::Model;
@@ -54,6 +55,11 @@ impl Tid {
         self.home.0 as u64 * 0x1_0000_0000 + self.seq as u64
     }
 }
+
+/// Threads' names are ordered by their home, and then by how many were born there before.
+pub fn names_in_order()
+    ensures { (a b : Tid) → ⟦<Tid as Ord>⟧.cmp a b ≡ ordering_then (nat_cmp a.home b.home) (nat_cmp a.seq b.seq) }
+{}
 
 /// What the library answers to a call.
 #[derive(Clone, Copy, Debug, PartialEq, Eq)]

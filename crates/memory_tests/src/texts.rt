@@ -1,9 +1,10 @@
-ghost use Rattle.pack_thread.specs.Threads.{thread_of, IsThread, Gives};
+//! Texts of packed threads, by the table of their fields.
 
-use super::*;
+use basics::NoMemory;
 use lrpc::{CallNo, Duty};
+use pack_thread::{Baggage, Packed, UnpackError, pack, unpack};
 use raw_slots::Pool;
-use slot_space::{NodeNo, SlotNo, Tid};
+use slot_space::{NodeNo, SlotNo, SlotSet, Tid};
 use std::alloc::Global;
 use std::test::Fail;
 
@@ -96,139 +97,130 @@ fn has_bytes(thread: &Baggage, held: u16, slot: u32) -> bool {
     }
 }
 
+/// The call of the duty's fields.
+fn call() -> CallNo {
+    CallNo {
+        by: Tid {
+            home: NodeNo(6),
+            seq: 0x11223344,
+        },
+        count: 0x55667788,
+        at: NodeNo(1),
+    }
+}
+
+/// Whether it is the thread of the fields up to the duty's.
+fn has_its_name(thread: &Baggage) -> bool {
+    let home = NodeNo(3);
+    let seq = 0x01020304;
+    thread.tid == Tid { home, seq }
+        && thread.priority == 5
+        && thread.calls == 0x0a0b0c0d
+        && thread.duty == Duty::Owes(call())
+}
+
+/// Whether it is the thread of the other fields, but for the slots' bytes.
+fn has_its_place(thread: &Baggage) -> bool {
+    for r in 0..32 {
+        if thread.hart.regs[r] != r as u64 * 0x0100_0000_0000_0001 {
+            return false;
+        }
+    }
+    let live = [
+        (0x1_0005_0000, 16),
+        (0x1_0007_fff0, 32),
+        (0x1_0008_0010, 0xfff0),
+    ];
+    thread.hart.pc == 0x10010
+        && thread.stack == SlotNo(6)
+        && thread.blocks.heap_slots() == SlotSet::of(&[SlotNo(5), SlotNo(7), SlotNo(8)])
+        && thread.blocks.live() == live.as_slice()
+}
+
+/// Whether it has the bytes of slots 5, 6, 7 and 8.
+fn has_its_bytes(thread: &Baggage) -> bool {
+    (5..9).all(|slot| has_bytes(thread, slot, slot as u32))
+}
+
+/// Whether the text's thread is that of its fields, and has that text.
+fn gives_its_thread(alloc: Global, text: &[u8]) -> Result<bool, UnpackError> {
+    let mut pool = Pool::new(alloc);
+    let thread = unpack(alloc, text, &mut pool)?;
+    let again = pack(alloc, &thread)?;
+    Ok(
+        again.as_slice() == text
+            && has_its_name(&thread)
+            && has_its_place(&thread)
+            && has_its_bytes(&thread),
+    )
+}
+
 #[test]
 fn a_text_gives_its_thread_and_the_thread_its_text(rt: HostRuntime) -> Result<(), Fail> {
-    let alloc = rt.alloc();
-    let text = whole_text(alloc)?;
-    assert_eq!(rt; text.len(), 343 + 4 * 65536);
-    let mut pool = Pool::new(alloc);
-    let thread = unpack(alloc, &text, &mut pool)?;
-    let home = NodeNo(3);
-    assert_eq!(rt;
-        thread.tid,
-        Tid {
-            home,
-            seq: 0x01020304
-        }
-    );
-    assert_eq!(rt; thread.priority, 5);
-    assert_eq!(rt; thread.calls, 0x0a0b0c0d);
-    let by = Tid {
-        home: NodeNo(6),
-        seq: 0x11223344,
-    };
-    let at = NodeNo(1);
-    assert_eq!(rt;
-        thread.duty,
-        Duty::Owes(CallNo {
-            by,
-            count: 0x55667788,
-            at
-        })
-    );
-    for r in 0..32 {
-        assert_eq!(rt; thread.hart.regs[r], r as u64 * 0x0100_0000_0000_0001);
-    }
-    assert_eq!(rt; thread.hart.pc, 0x10010);
-    assert_eq!(rt; thread.stack, SlotNo(6));
-    assert_eq!(rt;
-        thread.blocks.heap_slots().members(alloc)?.as_slice(),
-        [SlotNo(5), SlotNo(7), SlotNo(8)].as_slice()
-    );
-    assert_eq!(rt;
-        thread.blocks.live(),
-        [
-            (0x1_0005_0000, 16),
-            (0x1_0007_fff0, 32),
-            (0x1_0008_0010, 0xfff0)
-        ]
-        .as_slice()
-    );
-    assert!(rt; has_bytes(&thread, 5, 5) && has_bytes(&thread, 6, 6));
-    assert!(rt; has_bytes(&thread, 7, 7) && has_bytes(&thread, 8, 8));
-    assert!(rt; thread.hart.mem.slot_bytes(SlotNo(9)).is_none());
-    let again = pack(alloc, &thread)?;
-    assert!(rt; again == text);
-    let other = moved(alloc, &thread, &mut pool)?;
-    assert!(rt; other.calls == thread.calls && has_bytes(&other, 8, 8));
+    let text = whole_text(rt.alloc())?;
+    assert!(rt; gives_its_thread(rt.alloc(), &text)?);
     Ok(())
 }
 
-/// The thread that a thread's text gives: that thread.
-fn moved(alloc: Global, thread: &Baggage, pool: &mut Pool) -> Result<Baggage, UnpackError>
-    requires { IsThread (thread_of thread.now) }
-    ensures { Gives (thread_of thread.now) result }
-{
-    let text = pack(alloc, thread)?;
-    unpack(alloc, &text, pool)
+/// Whether a thread that was packed and opened has its text still.
+fn keeps_its_text(alloc: Global, packed: &Packed) -> Result<bool, NoMemory> {
+    let mut pool = Pool::new(alloc);
+    let thread = packed.open(alloc, &mut pool)?;
+    Ok(Packed::of(alloc, &thread)?.text() == packed.text())
 }
 
 #[test]
 fn a_text_travels_as_its_thread(rt: HostRuntime) -> Result<(), Fail> {
-    let alloc = rt.alloc();
-    let text = whole_text(alloc)?;
-    let packed = Packed::from_text(whole_text(alloc)?).ok_or("no thread")?;
-    assert!(rt; packed.text() == text.as_slice());
-    let mut pool = Pool::new(alloc);
-    let thread = packed.open(alloc, &mut pool)?;
-    assert_eq!(rt; thread.calls, 0x0a0b0c0d);
-    assert_eq!(rt; thread.stack, SlotNo(6));
-    assert!(rt; has_bytes(&thread, 5, 5) && has_bytes(&thread, 6, 6));
-    assert!(rt; has_bytes(&thread, 7, 7) && has_bytes(&thread, 8, 8));
-    assert!(rt; Packed::of(alloc, &thread)?.into_text() == text);
-    let mut longer = whole_text(alloc)?;
-    longer.push(0)?;
-    assert!(rt; Packed::from_text(longer).is_none());
-    let mut shorter = whole_text(alloc)?;
-    shorter.pop();
-    assert!(rt; Packed::from_text(shorter).is_none());
+    let packed = Packed::from_text(whole_text(rt.alloc())?).ok_or("no thread")?;
+    assert!(rt; keeps_its_text(rt.alloc(), &packed)?);
     Ok(())
 }
 
-#[test]
-fn the_stack_slot_stands_among_the_heap_slots(rt: HostRuntime) -> Result<(), Fail> {
-    let alloc = rt.alloc();
-    let text = patched(alloc, &whole_text(alloc)?, 281, &[9])?;
+/// Whether the text's thread has the duty.
+fn gives_duty(alloc: Global, text: &[u8], duty: &Duty) -> Result<bool, UnpackError> {
     let mut pool = Pool::new(alloc);
-    pool.reserve(5)?;
-    let thread = unpack(alloc, &text, &mut pool)?;
-    assert_eq!(rt; pool.spare(), 1);
-    assert_eq!(rt; thread.stack, SlotNo(9));
-    assert!(rt; has_bytes(&thread, 5, 5) && has_bytes(&thread, 7, 6));
-    assert!(rt; has_bytes(&thread, 8, 7) && has_bytes(&thread, 9, 8));
-    let again = pack(alloc, &thread)?;
-    assert!(rt; again == text);
-    Ok(())
+    Ok(unpack(alloc, text, &mut pool)?.duty == *duty)
 }
 
 #[test]
-fn each_duty_is_unpacked(rt: HostRuntime) -> Result<(), Fail> {
-    let alloc = rt.alloc();
-    let small = small_text(alloc)?;
-    let mut pool = Pool::new(alloc);
-    let none = patched(alloc, &small, 14, &[0, 0, 0, 0, 0, 0, 0, 0, 0, 0, 0])?;
-    assert_eq!(rt; unpack(alloc, &none, &mut pool)?.duty, Duty::None);
-    let cast = unpack(alloc, &patched(alloc, &small, 14, &[1])?, &mut pool)?;
-    assert!(rt; matches!(&cast.duty, Duty::Cast(call) if call.count == 0x55667788));
-    let paid = unpack(alloc, &patched(alloc, &small, 14, &[3])?, &mut pool)?;
-    assert!(rt; matches!(&paid.duty, Duty::Paid(call) if call.by.seq == 0x11223344));
+fn each_number_of_a_duty_gives_it(rt: HostRuntime) -> Result<(), Fail> {
+    let text = small_text(rt.alloc())?;
+    let duties: [(&[u8], Duty); 4] = [
+        (&[0, 0, 0, 0, 0, 0, 0, 0, 0, 0, 0], Duty::None),
+        (&[1], Duty::Cast(call())),
+        (&[2], Duty::Owes(call())),
+        (&[3], Duty::Paid(call())),
+    ];
+    for (new, duty) in &duties {
+        let other = patched(rt.alloc(), &text, 14, new)?;
+        assert!(rt; gives_duty(rt.alloc(), &other, duty)?);
+    }
     Ok(())
+}
+
+/// The first length to which the text is cut and not refused there.
+fn first_cut_that_stands(alloc: Global, text: &[u8], pool: &mut Pool) -> Option<usize> {
+    for k in 0..text.len() {
+        if refused_at(alloc, &text[..k], pool) != Some(k as u64) {
+            return Some(k);
+        }
+    }
+    None
 }
 
 #[test]
 fn a_text_cut_short_is_refused_at_its_length(rt: HostRuntime) -> Result<(), Fail> {
-    let alloc = rt.alloc();
-    let mut text = small_text(alloc)?;
-    let mut pool = Pool::new(alloc);
-    pool.reserve(2)?;
-    for k in 0..text.len() {
-        assert_eq!(rt; refused_at(alloc, &text[..k], &mut pool), Some(k as u64));
-    }
-    assert_eq!(rt; pool.spare(), 2);
-    assert!(rt; unpack(alloc, &text, &mut pool).is_ok());
-    text.push(0)?;
-    assert_eq!(rt; refused_at(alloc, &text, &mut pool), Some(65825));
+    let text = small_text(rt.alloc())?;
+    let mut pool = Pool::new(rt.alloc());
+    assert_eq!(rt; first_cut_that_stands(rt.alloc(), &text, &mut pool), None);
     Ok(())
+}
+
+/// Where a small text is refused behind which one byte follows.
+fn refused_with_more(alloc: Global, pool: &mut Pool) -> Result<Option<u64>, Fail> {
+    let mut text = small_text(alloc)?;
+    text.push(0)?;
+    Ok(refused_at(alloc, &text, pool))
 }
 
 /// Broken texts: where other bytes stand, those bytes, and where the text is refused.
@@ -290,19 +282,27 @@ const BROKEN: [(usize, &[u8], u64); 55] = [
     (283, &[0], 289),
 ];
 
+/// The first row of the table whose text isn't refused at its place.
+fn first_row_that_fails(
+    alloc: Global,
+    text: &[u8],
+    pool: &mut Pool,
+) -> Result<Option<usize>, Fail> {
+    for (row, broken) in BROKEN.iter().enumerate() {
+        let (at, new, offset) = *broken;
+        let other = patched(alloc, text, at, new)?;
+        if refused_at(alloc, &other, pool) != Some(offset) {
+            return Ok(Some(row));
+        }
+    }
+    Ok(None)
+}
+
 #[test]
 fn each_broken_field_is_refused_at_its_place(rt: HostRuntime) -> Result<(), Fail> {
-    let alloc = rt.alloc();
-    let text = whole_text(alloc)?;
-    let mut pool = Pool::new(alloc);
-    for row in &BROKEN {
-        let (at, new, offset) = *row;
-        let broken = patched(alloc, &text, at, new)?;
-        assert_eq!(rt;
-            refused_at(alloc, &broken, &mut pool),
-            Some(offset),
-            "at {at}"
-        );
-    }
+    let text = whole_text(rt.alloc())?;
+    let mut pool = Pool::new(rt.alloc());
+    assert_eq!(rt; first_row_that_fails(rt.alloc(), &text, &mut pool)?, None);
+    assert_eq!(rt; refused_with_more(rt.alloc(), &mut pool)?, Some(65825));
     Ok(())
 }
