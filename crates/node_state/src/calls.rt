@@ -2,7 +2,7 @@
 
 ghost use Rattle.std.specs.Prelude.{◌≡◌, ◌<◌, ◌≤◌, ◌/◌, ◌%◌, ◌^◌, IfOk};
 ghost use Rattle.run_trace.specs.Names.{tid_of};
-ghost use Rattle.run_trace.specs.Steps.{at_thread, thread_at};
+ghost use Rattle.run_trace.specs.Steps.{at_thread, thread_at, asks};
 ghost use Rattle.run_trace.specs.Machine.{answer, creates, does, calls, stopped};
 ghost use Rattle.node_state.specs.Asking.{IsSmall, NamesBlockAt, CanBeDone, refused_by, named_by};
 ghost use Rattle.node_state.specs.Events.{program};
@@ -19,11 +19,19 @@ use slot_space::{NodeNo, Reply, Tid};
 
 impl Doing {
     /// A thread that is here has its reply at once.
-    fn answer(&mut self, t: &Tid, code: u64) -> Result<(), NoMemory>
+    pub(crate) fn answer(&mut self, t: &Tid, code: u64) -> Result<(), NoMemory>
         ensures { IfOk result (λ _. self.new ≡ answer t.now code self.old) }
     {
         self.judge(t, code, None)?;
         self.tell(t, code, None)
+    }
+
+    /// The thread asks, and has its reply at once.
+    fn asks_and_hears(&mut self, t: &Tid, call: Call, code: u64) -> Result<(), NoMemory>
+        ensures { IfOk result (λ _. self.new ≡ answer t.now code (asks t.now call self.old)) }
+    {
+        self.asks(t, call)?;
+        self.answer(t, code)
     }
 
     /// The thread creates another one, where there is a slot for it.
@@ -70,22 +78,10 @@ impl Doing {
                 self.asks(t, call)?;
                 self.end_thread(t, End::Exit(value))
             }
-            Call::Name => {
-                self.asks(t, call)?;
-                self.answer(t, t.value())
-            }
-            Call::Node => {
-                self.asks(t, call)?;
-                self.answer(t, me.0 as u64)
-            }
-            Call::Nodes => {
-                self.asks(t, call)?;
-                self.answer(t, setup.geometry.nodes() as u64)
-            }
-            Call::Yield => {
-                self.asks(t, call)?;
-                self.answer(t, 0)
-            }
+            Call::Name => self.asks_and_hears(t, call, t.value()),
+            Call::Node => self.asks_and_hears(t, call, me.0 as u64),
+            Call::Nodes => self.asks_and_hears(t, call, setup.geometry.nodes() as u64),
+            Call::Yield => self.asks_and_hears(t, call, 0),
             Call::Create {
                 entry,
                 argument,
@@ -113,10 +109,7 @@ impl Doing {
                 self.asks(t, call)?;
                 self.halts(t)
             }
-            Call::Unknown(_) => {
-                self.asks(t, call)?;
-                self.answer(t, Reply::BadArgument.code())
-            }
+            Call::Unknown(_) => self.asks_and_hears(t, call, Reply::BadArgument.code()),
         }
     }
 
@@ -134,10 +127,7 @@ impl Doing {
         ensures { IfOk result (λ _. self.new ≡ calls (program setup.now image.now) me t.now call (refused_by checked) (named_by checked) self.old) }
     {
         match checked {
-            Checked::Refused(reply) => {
-                self.asks(t, call)?;
-                self.answer(t, reply.code())
-            }
+            Checked::Refused(reply) => self.asks_and_hears(t, call, reply.code()),
             Checked::Passed(bytes) => self.does(setup, image, me, t, call, bytes),
         }
     }

@@ -3,7 +3,9 @@
 ghost use Rattle.std.specs.Prelude.{◌≡◌, ◌<◌, ◌≤◌, ◌%◌, ◌∷◌, [], IfOk, IfSome, None};
 ghost use Rattle.run_trace.specs.Local.{nothing, with_booted};
 ghost use Rattle.run_trace.specs.Guests.{stack_end, unwaiting};
-ghost use Rattle.run_trace.specs.Steps.{say, put, print, arrive, take_off, thread_at, at_thread, thread_in, thread_out, slots_out, slots_in, name_in, change_name, halt, next_name, birth, asks, asks_show, asks_join, halts, judge, extra_of, tell, reply_by_link, line_of, shows, acknowledges, hears, knows};
+ghost use Rattle.run_trace.specs.Steps.{say, put, arrive, take_off, thread_at, at_thread, thread_in, thread_out, slots_out, slots_in, name_in, change_name, next_name, birth, asks, asks_show, asks_join, halts, judge, extra_of, tell, reply_by_link, line_of, shows, acknowledges, hears, knows};
+ghost use Rattle.run_trace.specs.Calls.{number_of, args_of};
+ghost use Rattle.run_trace.specs.declared.label.Label.TheVariants as label_of;
 ghost use Rattle.run_trace.specs.Machine.{free_slot, end_thread};
 ghost use Rattle.marcel_core.specs.Homes.{joined as joined_by, ended as ended_by};
 ghost use Rattle.node_state.specs.Events.{fresh_in};
@@ -108,9 +110,7 @@ fn line_of(alloc: Global, t: &Tid, bytes: &[u8]) -> Result<Vec<u8>, NoMemory>
 {
     let home = t.home.0;
     let seq = t.seq;
-    let name = format!(in alloc; "{home}.{seq}| ")?;
-    let mut line = Vec::new(alloc);
-    line.extend_from_slice(name.as_bytes())?;
+    let mut line = format!(in alloc; "{home}.{seq}| ")?.into_bytes();
     line.extend_from_slice(bytes)?;
     line.push(b'\n')?;
     Ok(line)
@@ -173,15 +173,6 @@ impl Doing {
         ensures { IfOk result (λ _. self.new ≡ put to body self.old) }
     {
         self.sends.push(Send { to, body })?;
-        Ok(())
-    }
-
-    /// Bytes more for the console.
-    #[tactic(auto, unfolding(run_trace::specs::Steps::print))]
-    fn print(&mut self, bytes: &[u8]) -> Result<(), NoMemory>
-        ensures { IfOk result (λ _. self.new ≡ print bytes.now self.old) }
-    {
-        self.prints.extend_from_slice(bytes)?;
         Ok(())
     }
 
@@ -274,15 +265,6 @@ impl Doing {
             return;
         };
         *birth = ended(end, *birth);
-    }
-
-    /// The node has halted.
-    #[tactic(auto, unfolding(run_trace::specs::Steps::halt))]
-    fn halt(&mut self)
-        ensures { self.new ≡ halt self.old }
-    {
-        let node = &mut self.node;
-        node.halted = true;
     }
 
     /// The node has begun.
@@ -381,18 +363,25 @@ impl Doing {
         Ok(Some(ran.stop))
     }
 
-    /// The thread asks.
-    #[tactic(auto, unfolding(run_trace::specs::Steps::asks))]
-    pub(crate) fn asks(&mut self, t: &Tid, call: Call) -> Result<(), NoMemory>
-        ensures { IfOk result (λ _. self.new ≡ asks t.now call self.old) }
+    /// The thread asks, and names these bytes.
+    fn asks_with(&mut self, t: &Tid, call: Call, bytes: Items<u8>) -> Result<(), NoMemory>
+        ensures { IfOk result (λ _. self.new ≡ say (label_of.Asked t.now (number_of call) (args_of call) bytes) self.old) }
     {
         let args = call.args(self.alloc)?;
         self.say(Label::Asked {
             t: *t,
             call: call.number(),
             args,
-            bytes: Items::new(Vec::new(self.alloc)),
+            bytes,
         })
+    }
+
+    /// The thread asks, and names no bytes.
+    #[tactic(auto, unfolding(run_trace::specs::Steps::asks))]
+    pub(crate) fn asks(&mut self, t: &Tid, call: Call) -> Result<(), NoMemory>
+        ensures { IfOk result (λ _. self.new ≡ asks t.now call self.old) }
+    {
+        self.asks_with(t, call, Items::new(Vec::new(self.alloc)))
     }
 
     /// The thread asks that its line be shown: it goes to node 0.
@@ -405,19 +394,13 @@ impl Doing {
     ) -> Result<(), NoMemory>
         ensures { IfOk result (λ _. self.new ≡ at_thread t.now (asks_show t.now call bytes) self.old) }
     {
-        let args = call.args(self.alloc)?;
         let line = bytes.try_clone(self.alloc)?;
         let node = &mut self.node;
         let Some(thread) = node.threads.get_mut(t) else {
             return Ok(());
         };
         thread.wait_for(Wait::ForShow);
-        self.say(Label::Asked {
-            t: *t,
-            call: call.number(),
-            args,
-            bytes,
-        })?;
+        self.asks_with(t, call, bytes)?;
         self.put(NodeNo(0), Body::Show { t: *t, bytes: line })
     }
 
@@ -442,7 +425,7 @@ impl Doing {
     }
 
     /// The thread has called halt.
-    #[tactic(auto, unfolding(run_trace::specs::Steps::halts, run_trace::specs::Steps::keep))]
+    #[tactic(auto, unfolding(run_trace::specs::Steps::halts, run_trace::specs::Steps::halt, run_trace::specs::Steps::keep))]
     pub(crate) fn halts(&mut self, t: &Tid) -> Result<(), NoMemory>
         ensures { IfOk result (λ _. self.new ≡ at_thread t.now (halts t.now) self.old) }
     {
@@ -452,7 +435,8 @@ impl Doing {
         };
         thread.wait_for(Wait::Halted);
         self.say(Label::Halted(*t))?;
-        self.halt();
+        let node = &mut self.node;
+        node.halted = true;
         Ok(())
     }
 
@@ -531,13 +515,14 @@ impl Doing {
     }
 
     /// The thread's line is on the console.
-    #[tactic(auto, unfolding(run_trace::specs::Steps::shows))]
+    #[tactic(auto, unfolding(run_trace::specs::Steps::shows, run_trace::specs::Steps::print))]
     pub(crate) fn shows(&mut self, t: &Tid, bytes: &[u8]) -> Result<(), NoMemory>
         ensures { IfOk result (λ _. self.new ≡ shows t.now bytes.now self.old) }
     {
         let line = line_of(self.alloc, t, bytes)?;
         self.say(Label::Shown(*t))?;
-        self.print(&line)
+        self.prints.extend_from_slice(&line)?;
+        Ok(())
     }
 
     /// The thread's node is told that its line is shown.

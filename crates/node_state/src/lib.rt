@@ -21,6 +21,3 @@ mod thread;
 
 pub use done::Done;
 pub use node::NodeState;
-
-#[cfg(test)]
-mod tests;
