@@ -11,6 +11,3 @@ pub use memory::{FailingShelf, FailingSink, MapShelf, VecSink};
 pub use outside::{ReadRefusal, Shelf, Sink, WriteRefusal};
 pub use piece::write_piece;
 pub use real::{RealShelf, RealSink};
-
-#[cfg(test)]
-mod tests;

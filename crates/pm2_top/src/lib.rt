@@ -10,6 +10,3 @@ pub use report::Report;
 pub use status::Status;
 pub use texts::err_text;
 pub use top::pm2_main;
-
-#[cfg(test)]
-mod tests;

@@ -16,6 +16,3 @@ pub use command::Command;
 pub use command_line::settings;
 pub use name::Name;
 pub use words::WordsError;
-
-#[cfg(test)]
-mod tests;

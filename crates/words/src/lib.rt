@@ -13,6 +13,3 @@ pub use error::WordsError;
 pub use given::Given;
 pub use grammar::Grammar;
 pub use reading::read;
-
-#[cfg(test)]
-mod tests;
