@@ -13,3 +13,4 @@ pub mod Decisions
 pub mod Listings
 pub mod Merging
 pub mod Booting
+mod Going

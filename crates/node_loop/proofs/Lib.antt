@@ -2,4 +2,3 @@ mod Booted
 mod Wiring
 mod Stepping
 mod Locally
-mod Pairing

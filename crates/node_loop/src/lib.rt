@@ -9,6 +9,3 @@ mod node;
 
 pub use laws::turns_are_local;
 pub use node::{Node, Turned};
-
-#[cfg(test)]
-mod tests;

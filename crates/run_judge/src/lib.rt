@@ -8,6 +8,3 @@ mod judging;
 mod labels;
 
 pub use judging::judge;
-
-#[cfg(test)]
-mod tests;

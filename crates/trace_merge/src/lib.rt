@@ -5,6 +5,3 @@
 mod parts;
 
 pub use parts::merge;
-
-#[cfg(test)]
-mod tests;

@@ -6,8 +6,6 @@ mod all;
 mod ends;
 mod link;
 mod ring;
-#[cfg(test)]
-mod tests;
 mod wires;
 
 pub use all::{look_all, settle_all};

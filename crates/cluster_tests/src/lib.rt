@@ -1,0 +1,9 @@
+//! Tests of links, nodes and traces, in one crate so that no crate is proved a second time for its tests.
+#![tactic(auto)]
+
+#[cfg(test)]
+mod links;
+#[cfg(test)]
+mod texts;
+#[cfg(test)]
+mod traces;

@@ -1,5 +1,0 @@
-use Rattle.wires.specs.Wires.{AreWired}
-use Rattle.wires.proofs.tests.drain.Given as goal
-
-abbrev pub invariant-loop-n : goal.invariant-loop-n
-invariant-loop-n l = AreWired l.nodes
