@@ -8,13 +8,13 @@ use Rattle.run_trace.specs.Guests.{Guest, Thread, waits, is_unwaiting}
 use Rattle.run_trace.specs.Places.{is_listed}
 use Rattle.run_trace.specs.Cluster.{Net}
 use Rattle.run_trace.specs.Holding.{IsOn}
-use Rattle.run_trace.specs.Rules.{IsSettled}
 use Rattle.run_trace.specs.Spots.{Stage, Ready, Running, Due, Served, Told_next, Told_then, Departs, Ends, Leaves, Halts, Stays, Shows, Showing, Shown_there, Asks, Awaits, Answers, Answered, On, Spots}
 use Rattle.run_trace.specs.Stands.{Stands, row_in_life, row_in_stage, thread_in_life, thread_in_stage, wait_of}
 use Rattle.trace_laws.proofs.Parts.{listed_found}
 use Rattle.trace_laws.proofs.Simulate.{listed_ready}
 use Rattle.trace_laws.proofs.Wholes.{settled_at}
 use Rattle.trace_laws.proofs.Consequences.{OnNode, on_node_is}
+use Rattle.trace_laws.specs.Obeys.{IsSettled}
 
 pub listed_is : (p : Program) (w : Spots) (net : Net) → Stands p w net → (n : ℕ) (t : Tid) (x : Thread) → IsOn net n t x → is_listed t (net.nodes n).places.rows ≡ is_unwaiting x
 listed_is p w net s n t x h =
