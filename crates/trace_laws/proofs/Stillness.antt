@@ -64,17 +64,17 @@ module _ (p : Program) (w : Spots) (net : Net) (s : Stands p w net) where
       by (On m Shown_there) e k = sent (On m Shown_there) _ e refl
       by (On m (Asks u)) e k = sent (On m (Asks u)) _ e refl
       by (On m (Answered h)) e k = sent (On m (Answered h)) _ e refl
-      by (On m Running) e k = absurd (subst (λ z. IsSettled z) e k)
-      by (On m (Due code)) e k = absurd (subst (λ z. IsSettled z) e k)
-      by (On m (Served c)) e k = absurd (subst (λ z. IsSettled z) e k)
-      by (On m Told_next) e k = absurd (subst (λ z. IsSettled z) e k)
-      by (On m (Told_then to)) e k = absurd (subst (λ z. IsSettled z) e k)
-      by (On m (Departs to)) e k = absurd (subst (λ z. IsSettled z) e k)
-      by (On m (Ends end)) e k = absurd (subst (λ z. IsSettled z) e k)
-      by (On m (Leaves end)) e k = absurd (subst (λ z. IsSettled z) e k)
-      by (On m Halts) e k = absurd (subst (λ z. IsSettled z) e k)
-      by (On m Showing) e k = absurd (subst (λ z. IsSettled z) e k)
-      by (On m (Answers h reply second)) e k = absurd (subst (λ z. IsSettled z) e k)
+      by (On m Running) e k = absurd (cc (subst (λ z. IsSettled z) e k m, eq-eqb m m refl))
+      by (On m (Due code)) e k = absurd (cc (subst (λ z. IsSettled z) e k m, eq-eqb m m refl))
+      by (On m (Served c)) e k = absurd (cc (subst (λ z. IsSettled z) e k m, eq-eqb m m refl))
+      by (On m Told_next) e k = absurd (cc (subst (λ z. IsSettled z) e k m, eq-eqb m m refl))
+      by (On m (Told_then to)) e k = absurd (cc (subst (λ z. IsSettled z) e k m, eq-eqb m m refl))
+      by (On m (Departs to)) e k = absurd (cc (subst (λ z. IsSettled z) e k m, eq-eqb m m refl))
+      by (On m (Ends end)) e k = absurd (cc (subst (λ z. IsSettled z) e k m, eq-eqb m m refl))
+      by (On m (Leaves end)) e k = absurd (cc (subst (λ z. IsSettled z) e k m, eq-eqb m m refl))
+      by (On m Halts) e k = absurd (cc (subst (λ z. IsSettled z) e k m, eq-eqb m m refl))
+      by (On m Showing) e k = absurd (cc (subst (λ z. IsSettled z) e k 0))
+      by (On m (Answers h reply second)) e k = absurd (cc (subst (λ z. IsSettled z) e k h, eq-eqb h h refl))
 
   -- nothing is ready, nothing is under way, none has halted, and a thread lives
   pub stuck : ((n : ℕ) → (net.nodes n).places.rows ≡ []) → AllLinksEmpty net → ((n : ℕ) → (net.nodes n).halted ≡ false) → (t : Tid) → Lives (w.threads t).life → IsStuck w net
@@ -105,17 +105,17 @@ module _ (p : Program) (w : Spots) (net : Net) (s : Stands p w net) where
       by Shown_there e k = here Shown_there _ e refl
       by (Asks u) e k = here (Asks u) _ e refl
       by (Answered h) e k = here (Answered h) _ e refl
-      by Running e k = absurd k
-      by (Due code) e k = absurd k
-      by (Served c) e k = absurd k
-      by Told_next e k = absurd k
-      by (Told_then to) e k = absurd k
-      by (Departs to) e k = absurd k
-      by (Ends end) e k = absurd k
-      by (Leaves end) e k = absurd k
-      by Halts e k = absurd k
-      by Showing e k = absurd k
-      by (Answers h reply second) e k = absurd k
+      by Running e k = absurd (cc (k m, eq-eqb m m refl))
+      by (Due code) e k = absurd (cc (k m, eq-eqb m m refl))
+      by (Served c) e k = absurd (cc (k m, eq-eqb m m refl))
+      by Told_next e k = absurd (cc (k m, eq-eqb m m refl))
+      by (Told_then to) e k = absurd (cc (k m, eq-eqb m m refl))
+      by (Departs to) e k = absurd (cc (k m, eq-eqb m m refl))
+      by (Ends end) e k = absurd (cc (k m, eq-eqb m m refl))
+      by (Leaves end) e k = absurd (cc (k m, eq-eqb m m refl))
+      by Halts e k = absurd (cc (k m, eq-eqb m m refl))
+      by Showing e k = absurd (cc (k 0))
+      by (Answers h reply second) e k = absurd (cc (k h, eq-eqb h h refl))
 
   -- where nothing is under way each that lives is on a node
   pub is_somewhere : AllLinksEmpty net → (t : Tid) → Lives (w.threads t).life → (n : ℕ) × (x : Thread) × IsOn net n t x

@@ -64,37 +64,7 @@ starts p = record {
 -- ## At the end of an entry no thread is in the midst of anything
 
 pub settled_at : (p : Program) (w : Spots) (net : Net) → Stands p w net → (t : Tid) → IsSettled (w.threads t).life
-settled_at p w net s t = by (w.threads t).life refl
-  where
-    nobody : (m : ℕ) (life : Life) → (w.threads t).life ≡ life → is_busy m life ≡ true → ⊥
-    nobody m life e b =
-        let none : None ≡ busy_part m t (w.threads t) = (s.nodes m).busy.shows t in
-        let some : busy_part m t (w.threads t) ≡ Some (busy t life) = ap (λ z. cond (is_busy m z) (Some (busy t z)) None) e ∙ (rw b refl) in
-        absurd (cc (none ∙ some))
-
-    by : (life : Life) → (w.threads t).life ≡ life → IsSettled life
-    by (On m Running) e = nobody m (On m Running) e (eq-eqb m m refl)
-    by (On m (Due code)) e = nobody m (On m (Due code)) e (eq-eqb m m refl)
-    by (On m (Served c)) e = nobody m (On m (Served c)) e (eq-eqb m m refl)
-    by (On m Told_next) e = nobody m (On m Told_next) e (eq-eqb m m refl)
-    by (On m (Told_then to)) e = nobody m (On m (Told_then to)) e (eq-eqb m m refl)
-    by (On m (Departs to)) e = nobody m (On m (Departs to)) e (eq-eqb m m refl)
-    by (On m (Ends end)) e = nobody m (On m (Ends end)) e (eq-eqb m m refl)
-    by (On m (Leaves end)) e = nobody m (On m (Leaves end)) e (eq-eqb m m refl)
-    by (On m Halts) e = nobody m (On m Halts) e (eq-eqb m m refl)
-    by (On m Showing) e = nobody 0 (On m Showing) e (eq-eqb 0 0 refl)
-    by (On m (Answers h reply second)) e = nobody h (On m (Answers h reply second)) e (eq-eqb h h refl)
-    by (On m Ready) e = tt
-    by (On m Stays) e = tt
-    by (On m (Shows bytes)) e = tt
-    by (On m Shown_there) e = tt
-    by (On m (Asks u)) e = tt
-    by (On m (Awaits u)) e = tt
-    by (On m (Answered h)) e = tt
-    by Unborn e = tt
-    by (Moving m to) e = tt
-    by (Noting m end) e = tt
-    by (Gone end) e = tt
+settled_at p w net s t n = elim (is_busy n (w.threads t).life) as (λ v. None ≡ cond v (Some (busy t (w.threads t).life)) None → v ≡ false) [ true ↦ λ e. absurd (cc e) | false ↦ λ e. refl ] ((s.nodes n).busy.shows t)
 
 -- ## The whole run
 

@@ -1,5 +1,5 @@
 -- Consequences of a run, said of the machine's nets: who was picked, what was sent, that nothing is left open.
-use Rattle.std.specs.Prelude.{◌≡◌, ℕ, List, [], ◌∷◌, ◌++◌, true, ⊤, map}
+use Rattle.std.specs.Prelude.{◌≡◌, ℕ, List, [], ◌∷◌, ◌++◌, true, false, ⊤, map}
 use Rattle.run_trace.specs.declared.packet.Send.{Send}
 use Rattle.slot_space.specs.declared.names.Tid.{Tid}
 use Rattle.rv_step.specs.declared.hart.Stop.{Stop}
@@ -13,7 +13,8 @@ use Rattle.run_trace.specs.Program.{Program}
 use Rattle.run_trace.specs.Places.{IsBest, is_listed}
 use Rattle.run_trace.specs.Cluster.{Net}
 use Rattle.run_trace.specs.Trace.{net_after_trace, sends_or, done_for}
-use Rattle.run_trace.specs.Spots.{Running, Due, Served, Told_next, Told_then, Departs, Ends, Leaves, Halts, Showing, Answers, Life, On, Spots, after_label}
+use Rattle.run_trace.specs.Spots.{Life, Spots, after_label}
+use Rattle.run_trace.specs.Items.{is_busy}
 use Rattle.run_trace.specs.Stands.{listed}
 use Rattle.run_trace.specs.World.{World, world_after}
 use Rattle.run_trace.specs.Causes.{causes}
@@ -48,18 +49,7 @@ Carried p old base (x ∷ xs) = Carried p old base xs
 -- ## Settled: nothing is missing. At the end of an entry no thread is in the midst of a call, a reply or its end
 
 abbrev pub IsSettled : Life → Type 0
-IsSettled (On m Running) = ⊥
-IsSettled (On m (Due code)) = ⊥
-IsSettled (On m (Served c)) = ⊥
-IsSettled (On m Told_next) = ⊥
-IsSettled (On m (Told_then to)) = ⊥
-IsSettled (On m (Departs to)) = ⊥
-IsSettled (On m (Ends end)) = ⊥
-IsSettled (On m (Leaves end)) = ⊥
-IsSettled (On m Halts) = ⊥
-IsSettled (On m Showing) = ⊥
-IsSettled (On m (Answers h reply second)) = ⊥
-IsSettled _ = ⊤
+IsSettled life = (n : ℕ) → is_busy n life ≡ false
 
 abbrev pub EachSettled : Program → Spots → List Entry → Type 0
 EachSettled p old [] = ⊤
