@@ -13,7 +13,7 @@ use Rattle.run_trace.specs.Cluster.{Event, Net, fresh_net, sent, received, taken
 use Rattle.run_trace.specs.Console.{console_of, shown_by_all}
 use Rattle.run_trace.specs.Telling.{world_of, first_world}
 use Rattle.run_trace.specs.Histories.{own_entries, seen}
-use Rattle.run_trace.specs.Rules.{quantum_in, spots_of}
+use Rattle.run_trace.specs.Rules.{spots_of}
 use Rattle.run_trace.specs.Spots.{at_first}
 use Rattle.run_trace.specs.Trace.{done_for, events_of, sends_or}
 use Rattle.trace_laws.proofs.NothingOutside.{run_inside}
@@ -235,7 +235,7 @@ module _ (c : ClusterView) (lines : List Entry) (s : StandsFor c lines) (few : c
       (λ ne.
       let o = old_at 0 u.0 ne u.1 in
       let rules = (keeping.legal c lines s few n inside v at act range able new d).rules.1 in
-      let none : shown ≡ [] = subst (λ w. shown_by_all p n d.done.labels w ≡ []) (told_spots p (first_world p) lines) (silent p (quantum_in act) n d.done.labels (world_of p (first_world p) lines) rules.to_do (λ e. ne (sym e)) rules.goes) in
+      let none : shown ≡ [] = subst (λ w. shown_by_all p n d.done.labels w ≡ []) (told_spots p (first_world p) lines) (silent p _ n d.done.labels (world_of p (first_world p) lines) rules.to_do (λ e. ne (sym e)) rules.goes) in
       ap (λ bs. console_of p (at_first p) lines ++ bs) none ∙ append-nil (console_of p (at_first p) lines) ∙ s.console ∙ first (slice_get c.nodes 0) o.old o.was
       ∙ ap (λ (z : NodeView). z.console) (sym o.is) ∙ sym (first (slice_get nodes 0) u.0 u.1))
 

@@ -3,7 +3,6 @@ use Rattle.std.specs.Prelude.{ℕ, List, [], ◌∷◌, ◌++◌, Option, Some, 
 use Rattle.slot_space.specs.declared.names.Tid.{Tid}
 use Rattle.marcel_core.specs.Homes.{joiner}
 use Rattle.run_trace.specs.declared.entry.Act.{Act}
-use Rattle.run_trace.specs.declared.entry.Act.TheVariants.{Boot, Run, Take, Move}
 use Rattle.run_trace.specs.declared.label.Label.{Label}
 use Rattle.run_trace.specs.declared.label.Label.TheVariants.{Born, Ran, Asked, Heard, Judged, Told, Took, Gave, Ended, Known, Left, Came, Shown, Halted}
 use Rattle.run_trace.specs.declared.label.Why.TheVariants as why
@@ -13,7 +12,7 @@ use Rattle.run_trace.specs.declared.packet.Packet.{Packet}
 use Rattle.run_trace.specs.declared.packet.Send.{Send}
 use Rattle.run_trace.specs.Names.{tid, is_tid}
 use Rattle.run_trace.specs.Program.{Program}
-use Rattle.run_trace.specs.Links.{first_of}
+use Rattle.run_trace.specs.Links.{taken_packet}
 use Rattle.run_trace.specs.Causes.{send_to, causes}
 use Rattle.run_trace.specs.Spots.{Running, Due, Served, Told_next, Told_then, Departs, Ends, Leaves, Halts, Showing, Answers, Life, On, Spots, after_label}
 
@@ -125,16 +124,13 @@ for_packet n (JoinAsk by seq) = Says (Heard by) ∷ []
 for_packet n (Answer t reply second) = Says (Told t) ∷ []
 for_packet n (EndNote seq end) = Says (Known (tid n seq)) ∷ []
 
+-- what is to be done for the packet, if the act takes one
 abbrev pub for_taken : ℕ → Option Packet → List Item
 for_taken n None = []
 for_taken n (Some x) = for_packet n x.body
 
--- what is to be done for the packet, if the act takes one
 abbrev pub taken_items : ℕ → Act → (ℕ → ℕ → List Packet) → List Item
-taken_items n (Take from) links = for_taken n (first_of (links from n))
-taken_items n Boot links = []
-taken_items n (Run vp quantum) links = []
-taken_items n (Move t to) links = []
+taken_items n act links = for_taken n (taken_packet n act links)
 
 abbrev pub all_sent : Program → ℕ → List Label → Spots → List Item → List Send
 all_sent p n [] w to_do = sends_first to_do

@@ -13,10 +13,10 @@ use Rattle.run_trace.specs.Program.{Program, nodes_of, processors_of, quantum_li
 use Rattle.rv_step.specs.declared.hart.Stop.{Stop}
 use Rattle.run_trace.specs.Guests.{stack_end}
 use Rattle.run_trace.specs.Spots.{Spots}
-use Rattle.run_trace.specs.Rules.{SoloRule, HoldersRule, LifeRule, RepliesRule, GrantsRule, quantum_in, lowest_free}
+use Rattle.run_trace.specs.Rules.{SoloRule, HoldersRule, LifeRule, RepliesRule, GrantsRule, Occasion, saying, lowest_free}
 use Rattle.run_trace.specs.World.{Listed, World, world_after}
 use Rattle.run_trace.specs.Items.{Runs, Sends, past_sends, for_packet, is_busy_with, doer, Item, Says, Does, to_do_after}
-use Rattle.run_trace.specs.Links.{first_of}
+use Rattle.run_trace.specs.Links.{first_of, taken_packet}
 use Rattle.run_trace.specs.Telling.{world_of}
 
 -- ## Acts that are possible
@@ -67,12 +67,12 @@ Starts p stamp n (Move t to) w hand = (is_on_list t (w.lists n) ≡ true) × (ha
 -- ## How it goes on: each label is what is to be done next, until there is nothing to do
 
 -- each rule, of one label
-pub record Allows (p : Program) (quantum n : ℕ) (l : Label) (w : World) : Type 0 where
-  pub solo : SoloRule p quantum n l w
-  pub holders : HoldersRule p quantum n l w
-  pub life : LifeRule p quantum n l w
-  pub replies : RepliesRule p quantum n l w
-  pub grants : GrantsRule p quantum n l w
+pub record Allows (p : Program) (o : Occasion) (n : ℕ) (l : Label) (w : World) : Type 0 where
+  pub solo : SoloRule p o n l w
+  pub holders : HoldersRule p o n l w
+  pub life : LifeRule p o n l w
+  pub replies : RepliesRule p o n l w
+  pub grants : GrantsRule p o n l w
 
 abbrev pub IsBy : ℕ → Label → Spots → Item → Type 0
 IsBy n l w (Sends to body) = ⊥
@@ -84,19 +84,22 @@ abbrev pub IsNext : ℕ → Label → Spots → List Item → Type 0
 IsNext n l w [] = ⊥
 IsNext n l w (i ∷ is) = IsBy n l w i
 
-abbrev pub GoesOn : Program → (quantum n : ℕ) → List Label → World → List Item → Type 0
-GoesOn p quantum n [] w hand = past_sends hand ≡ []
-GoesOn p quantum n (l ∷ ls) w hand =
-    IsNext n l w.spots (past_sends hand) × Allows p quantum n l w
-    × GoesOn p quantum n ls (world_after p n l w) (to_do_after p n l w.spots (past_sends hand))
+abbrev pub GoesOn : Program → Occasion → (n : ℕ) → List Label → World → List Item → Type 0
+GoesOn p o n [] w hand = past_sends hand ≡ []
+GoesOn p o n (l ∷ ls) w hand =
+    IsNext n l w.spots (past_sends hand) × Allows p o n l w
+    × GoesOn p (saying l o) n ls (world_after p n l w) (to_do_after p n l w.spots (past_sends hand))
 
 -- ## An entry, and a trace
+
+abbrev pub occasion : Entry → World → Occasion
+occasion x w = record { act = x.act; took = taken_packet x.node x.act w.links; said = [] }
 
 pub record IsEntry (p : Program) (w : World) (x : Entry) : Type 0 where
   pub may : may_act p x.node (w.begun x.node) x.act ≡ true
   pub to_do : List Item
   pub starts : Starts p x.stamp x.node x.act w to_do
-  pub goes : GoesOn p (quantum_in x.act) x.node x.labels w to_do
+  pub goes : GoesOn p (occasion x w) x.node x.labels w to_do
 
 abbrev pub KeepsRules : Program → World → List Entry → Type 0
 KeepsRules p old [] = ⊤

@@ -18,7 +18,7 @@ use Rattle.run_trace.specs.declared.label.Why.TheVariants as why
 use Rattle.run_trace.specs.declared.label.Extra.{Extra}
 use Rattle.run_trace.specs.declared.packet.Body.{Body}
 use Rattle.run_trace.specs.declared.packet.Body.TheVariants.{Mover, Show, ShowDone, JoinAsk, Answer, EndNote}
-use Rattle.run_trace.specs.declared.packet.Send.{Send}
+use Rattle.run_trace.specs.declared.packet.Packet.{Packet}
 use Rattle.run_trace.specs.Names.{tid}
 use Rattle.run_trace.specs.Program.{Program, nodes_of, code_of}
 use Rattle.run_trace.specs.Guests.{Solo, Guest, stack_end, guest_slots, heap_of, slots_for, packed}
@@ -28,9 +28,24 @@ use Rattle.run_trace.specs.Calls.{extra_of, place_code, call_of, number_of, args
 use Rattle.run_trace.specs.World.{World, world_after}
 use Rattle.run_trace.specs.Spots.{Stage, Ready, Running, Due, Served, Told_next, Told_then, Departs, Ends, Leaves, Halts, Shows, Showing, Shown_there, Asks, Awaits, Answers, Answered, Life, Unborn, On, Moving, Noting, Spots, Holder, Of_node, Of_thread, stepped, stage_of_call, after_label, after_labels}
 
--- a rule says of a label on node n, in an act of this quantum, what must have been told before
+abbrev pub quantum_in : Act → ℕ
+quantum_in (Run vp quantum) = quantum
+quantum_in Boot = 0
+quantum_in (Take from) = 0
+quantum_in (Move t to) = 0
+
+-- in which act a label is said, on which packet, and after which labels of the same entry
+pub record Occasion : Type 0 where
+  pub act : Act
+  pub took : Option Packet
+  pub said : List Label
+
+abbrev pub saying : Label → Occasion → Occasion
+saying l o = record o { said = o.said ++ l ∷ [] }
+
+-- a rule says of a label on node n, on this occasion, what must have been told before
 abbrev pub Rule : Type 1
-Rule = Program → (quantum n : ℕ) → Label → World → Type 0
+Rule = Program → Occasion → (n : ℕ) → Label → World → Type 0
 
 -- ## Solo: each thread is its code run alone with the replies that it got
 
@@ -41,22 +56,22 @@ IsBorn p n (why.Create by) entry a0 w = (priority : ℕ) × ((w.threads by).life
 IsBorn p n _ entry a0 w = ⊥
 
 abbrev pub SoloRule : Rule
-SoloRule p quantum n (Born t why entry a0 a1 sp slot) w = IsBorn p n why entry a0 w.spots × (a1 ≡ 0) × (sp ≡ stack_end slot)
-SoloRule p quantum n (Ran t vp count stop) w =
+SoloRule p o n (Born t why entry a0 a1 sp slot) w = IsBorn p n why entry a0 w.spots × (a1 ≡ 0) × (sp ≡ stack_end slot)
+SoloRule p o n (Ran t vp count stop) w =
     let s : State = (w.spots.threads t).guest.solo.state in
-    (after (code_of p) s count ≡ Some (stepped (code_of p) count s)) × StopsBy (code_of p) (stepped (code_of p) count s) quantum count stop
-SoloRule p quantum n (Asked t call args bytes) w =
+    (after (code_of p) s count ≡ Some (stepped (code_of p) count s)) × StopsBy (code_of p) (stepped (code_of p) count s) (quantum_in o.act) count stop
+SoloRule p o n (Asked t call args bytes) w =
     let x : Solo = (w.spots.threads t).guest.solo in let c : Call = call_of x.state in
     (call ≡ number_of c) × (args ≡ args_of c) × (bytes ≡ said_bytes p x.state c (refusal p t x c))
-SoloRule p quantum n _ w = ⊤
+SoloRule p o n _ w = ⊤
 
 -- ## Holders: a slot goes only from the holder that the rule names
 
 abbrev pub HoldersRule : Rule
-HoldersRule p quantum n (Born t why entry a0 a1 sp slot) w = w.spots.slots slot ≡ Of_node n
-HoldersRule p quantum n (Took t first count) w = (s : ℕ) → has s (run first count) ≡ true → w.spots.slots s ≡ Of_node n
-HoldersRule p quantum n (Gave t slots) w = (s : ℕ) → has s slots ≡ true → w.spots.slots s ≡ Of_thread t
-HoldersRule p quantum n _ w = ⊤
+HoldersRule p o n (Born t why entry a0 a1 sp slot) w = w.spots.slots slot ≡ Of_node n
+HoldersRule p o n (Took t first count) w = (s : ℕ) → has s (run first count) ≡ true → w.spots.slots s ≡ Of_node n
+HoldersRule p o n (Gave t slots) w = (s : ℕ) → has s slots ≡ true → w.spots.slots s ≡ Of_thread t
+HoldersRule p o n _ w = ⊤
 
 -- ## Life: what a thread goes through, in this order
 
@@ -114,22 +129,22 @@ JoinerAwaits t None w = ⊤
 JoinerAwaits t (Some by) w = (w.threads by.0).life ≡ On by.1 (Awaits t)
 
 abbrev pub LifeRule : Rule
-LifeRule p quantum n (Born t why entry a0 a1 sp slot) w = ((w.spots.threads t).life ≡ Unborn) × (t ≡ tid n (length (w.spots.births n)))
-LifeRule p quantum n (Ran t vp count stop) w = (w.spots.threads t).life ≡ On n Ready
-LifeRule p quantum n (Asked t call args bytes) w = (w.spots.threads t).life ≡ On n Running
-LifeRule p quantum n (Heard t) w = MayHear n (w.spots.threads t).life
-LifeRule p quantum n (Judged t reply extra) w = MayJudge n (w.spots.threads t).life
-LifeRule p quantum n (Told t) w = MayTell n (w.spots.threads t).life
-LifeRule p quantum n (Took t first count) w = MayTake n (w.spots.threads t).life
-LifeRule p quantum n (Gave t slots) w = MayGive n (w.spots.threads t).life (w.spots.threads t).guest slots
-LifeRule p quantum n (Ended t end) w = (w.spots.threads t).life ≡ On n (Leaves end)
-LifeRule p quantum n (Known t) w =
+LifeRule p o n (Born t why entry a0 a1 sp slot) w = ((w.spots.threads t).life ≡ Unborn) × (t ≡ tid n (length (w.spots.births n)))
+LifeRule p o n (Ran t vp count stop) w = (w.spots.threads t).life ≡ On n Ready
+LifeRule p o n (Asked t call args bytes) w = (w.spots.threads t).life ≡ On n Running
+LifeRule p o n (Heard t) w = MayHear n (w.spots.threads t).life
+LifeRule p o n (Judged t reply extra) w = MayJudge n (w.spots.threads t).life
+LifeRule p o n (Told t) w = MayTell n (w.spots.threads t).life
+LifeRule p o n (Took t first count) w = MayTake n (w.spots.threads t).life
+LifeRule p o n (Gave t slots) w = MayGive n (w.spots.threads t).life (w.spots.threads t).guest slots
+LifeRule p o n (Ended t end) w = (w.spots.threads t).life ≡ On n (Leaves end)
+LifeRule p o n (Known t) w =
     MayKnow (w.spots.threads t).life × (t.home ≡ n) × JoinerAwaits t (joiner (slice_get (w.spots.births t.home) t.seq)) w.spots
-LifeRule p quantum n (Left t to) w = MayLeave n to (w.spots.threads t).life × (to < nodes_of p) × (to ≡ n → ⊥)
-LifeRule p quantum n (Came t) w = MayCome n (w.spots.threads t).life
-LifeRule p quantum n (Shown t) w = MayShow n (w.spots.threads t).life
-LifeRule p quantum n (Halted t) w = (w.spots.threads t).life ≡ On n Halts
-LifeRule p quantum n _ w = ⊥
+LifeRule p o n (Left t to) w = MayLeave n to (w.spots.threads t).life × (to < nodes_of p) × (to ≡ n → ⊥)
+LifeRule p o n (Came t) w = MayCome n (w.spots.threads t).life
+LifeRule p o n (Shown t) w = MayShow n (w.spots.threads t).life
+LifeRule p o n (Halted t) w = (w.spots.threads t).life ≡ On n Halts
+LifeRule p o n _ w = ⊥
 
 -- ## Replies: each is the library's
 
@@ -151,8 +166,8 @@ IsReply (On m (Answers h answer second)) g reply extra = (reply ≡ reply_code a
 IsReply _ g reply extra = ⊤
 
 abbrev pub RepliesRule : Rule
-RepliesRule p quantum n (Judged t reply extra) w = IsReply (w.spots.threads t).life (w.spots.threads t).guest reply extra
-RepliesRule p quantum n _ w = ⊤
+RepliesRule p o n (Judged t reply extra) w = IsReply (w.spots.threads t).life (w.spots.threads t).guest reply extra
+RepliesRule p o n _ w = ⊤
 
 -- ## Grants: the lowest run of slots that no thread holds, of the node; Full only where it has none
 
@@ -180,19 +195,11 @@ IsRefusedRightly n w (On m (Served c)) g = IsRefusedFull n w c g
 IsRefusedRightly n w _ g = ⊤
 
 abbrev pub GrantsRule : Rule
-GrantsRule p quantum n (Born t why entry a0 a1 sp slot) w = lowest_free n 1 w.spots ≡ Some slot
-GrantsRule p quantum n (Took t first count) w =
+GrantsRule p o n (Born t why entry a0 a1 sp slot) w = lowest_free n 1 w.spots ≡ Some slot
+GrantsRule p o n (Took t first count) w =
     IsClaim (w.spots.threads t).life (w.spots.threads t).guest count × (lowest_free n count w.spots ≡ Some first)
-GrantsRule p quantum n (Judged t reply extra) w = IsRefusedRightly n w.spots (w.spots.threads t).life (w.spots.threads t).guest
-GrantsRule p quantum n _ w = ⊤
-
--- ## A rule over a trace
-
-abbrev pub quantum_in : Act → ℕ
-quantum_in (Run vp quantum) = quantum
-quantum_in Boot = 0
-quantum_in (Take from) = 0
-quantum_in (Move t to) = 0
+GrantsRule p o n (Judged t reply extra) w = IsRefusedRightly n w.spots (w.spots.threads t).life (w.spots.threads t).guest
+GrantsRule p o n _ w = ⊤
 
 -- what the labels of a trace tell, newest entry first
 abbrev pub spots_of : Program → Spots → List Entry → Spots

@@ -29,7 +29,8 @@ use Rattle.run_trace.specs.Cluster.{Net}
 use Rattle.run_trace.specs.World.{World, world_after}
 use Rattle.run_trace.specs.Trace.{net_after_trace}
 use Rattle.trace_laws.specs.Obeys.{Obey, world_at, ObeyEach}
-use Rattle.run_trace.specs.Rules.{spots_of, is_free, IsBorn, JoinerAwaits, MayHear, MayJudge, MayTell, MayKnow, MayLeave, MayCome, MayShow, SoloRule, LifeRule, quantum_in}
+use Rattle.run_trace.specs.Rules.{Occasion, saying, spots_of, is_free, IsBorn, JoinerAwaits, MayHear, MayJudge, MayTell, MayKnow, MayLeave, MayCome, MayShow, SoloRule, LifeRule, quantum_in}
+use Rattle.run_trace.specs.Obeying.{occasion}
 use Rattle.run_trace.specs.Spots.{Stage, Life, Unborn, On, Moving, Noting, Gone, Response, Spot, Spots, Holder, Of_node, Of_thread, Nobody, update, creator_served, joiner_served, end_in, at_first, after_label, after_labels, stepped, ran_stage, ran_spot, passed_stage, asked_stage, heard_at, judged_life, judged_guest, told_stage, gave_life, shown_life, second_of}
 use Rattle.run_trace.specs.Stands.{Stands, thread_part, thread_in_life, thread_in_stage, held, slots_held, is_thread, Word, Travels, word_subject, word_of, words_of, words_about, ways_of, on_link}
 use Rattle.run_trace.specs.Alone.{Alone, alone_then, alone_after, alone_in, alone_of, asked_in, heap_call, unless_refused, answered, is_about, EachRunsAlone}
@@ -210,7 +211,7 @@ leave_asks n to life h = grind (arith, h)
 come_asks : (n : ℕ) (life : Life) → MayCome n life → asked_in life ≡ None
 come_asks n life h = grind (arith, h)
 
-label_alone : (p : Program) (q n : ℕ) (l : Label) (w : World) (t : Tid) → SoloRule p q n l w → LifeRule p q n l w
+label_alone : (p : Program) (q : Occasion) (n : ℕ) (l : Label) (w : World) (t : Tid) → SoloRule p q n l w → LifeRule p q n l w
     → alone_in ((after_label p n l w.spots).threads t) ≡ cond (is_about t (subject l)) (alone_then p t l (alone_in (w.spots.threads t))) (alone_in (w.spots.threads t))
 label_alone p q n (Born u why entry a0 a1 sp slot) w t solo life =
     seen (creator_served n u why w.spots.threads) u t _ (λ z a. alone_then p z (Born u why entry a0 a1 sp slot) a) refl
@@ -258,15 +259,15 @@ label_alone p q n (Down bubble list) w t solo life = absurd life
 label_alone p q n (Burst bubble list) w t solo life = absurd life
 label_alone p q n (Gathered bubble count) w t solo life = absurd life
 
-labels_alone : (p : Program) (q n : ℕ) (ls : List Label) (w : World) (t : Tid) → ObeyEach SoloRule p q n ls w → ObeyEach LifeRule p q n ls w
+labels_alone : (p : Program) (q : Occasion) (n : ℕ) (ls : List Label) (w : World) (t : Tid) → ObeyEach SoloRule p q n ls w → ObeyEach LifeRule p q n ls w
     → alone_in ((after_labels p n ls w.spots).threads t) ≡ alone_after p t ls (alone_in (w.spots.threads t))
 labels_alone p q n [] w t solo life = refl
-labels_alone p q n (l ∷ ls) w t solo life = labels_alone p q n ls (world_after p n l w) t solo.1 life.1 ∙ ap (alone_after p t ls) (label_alone p q n l w t solo.0 life.0)
+labels_alone p q n (l ∷ ls) w t solo life = labels_alone p (saying l q) n ls (world_after p n l w) t solo.1 life.1 ∙ ap (alone_after p t ls) (label_alone p q n l w t solo.0 life.0)
 
 spots_alone : (p : Program) (base : Net) (lines : List Entry) (t : Tid) → Obey SoloRule p (at_first p) base lines → Obey LifeRule p (at_first p) base lines
     → alone_in ((spots_of p (at_first p) lines).threads t) ≡ alone_of p t lines
 spots_alone p base [] t solo life = refl
-spots_alone p base (x ∷ xs) t solo life = labels_alone p (quantum_in x.act) x.node x.labels (world_at (spots_of p (at_first p) xs) (net_after_trace p base xs)) t solo.1 life.1 ∙ ap (alone_after p t x.labels) (spots_alone p base xs t solo.0 life.0)
+spots_alone p base (x ∷ xs) t solo life = labels_alone p (occasion x (world_at (spots_of p (at_first p) xs) (net_after_trace p base xs))) x.node x.labels (world_at (spots_of p (at_first p) xs) (net_after_trace p base xs)) t solo.1 life.1 ∙ ap (alone_after p t x.labels) (spots_alone p base xs t solo.0 life.0)
 
 pub runs_alone : (p : Program) (base : Net) (lines : List Entry) (net : Net) → Obey SoloRule p (at_first p) base lines → Obey LifeRule p (at_first p) base lines → Stands p (spots_of p (at_first p) lines) net → EachRunsAlone p net lines
 runs_alone p base lines net solo life s t place g h =

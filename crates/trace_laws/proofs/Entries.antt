@@ -31,7 +31,7 @@ use Rattle.run_trace.specs.Steps.{tell, tell_found, hears, knows, comes, shows, 
 use Rattle.run_trace.specs.Machine.{local_event, acts, is_range, boots, boots_in, free_slot, run_picked, run_found, run_thread, moves_found, takes, accepts, is_stray, is_waiting, judges_join, tells_joiner}
 use Rattle.run_trace.specs.Cluster.{Net, net_after, next_packet, after_or, IsTaken}
 use Rattle.run_trace.specs.Trace.{IsRun, Fits, net_after_trace, event_of}
-use Rattle.run_trace.specs.Rules.{quantum_in, spots_of}
+use Rattle.run_trace.specs.Rules.{Occasion, saying, quantum_in, spots_of}
 use Rattle.run_trace.specs.Spots.{Spots, after_label, after_labels}
 use Rattle.run_trace.specs.Stands.{Stands, listed}
 use Rattle.trace_laws.proofs.Arriving.{picked_is, picks_it, on_list_is, list_is_all}
@@ -42,7 +42,7 @@ use Rattle.trace_laws.specs.Obeys.{world_at, all_causes}
 use Rattle.trace_laws.proofs.Midst.{AreNext, NextAll, Obeyed, to_do_after_all}
 use Rattle.trace_laws.proofs.Firsts.{run-first}
 use Rattle.trace_laws.proofs.Lifetimes.{lowest_is}
-use Rattle.trace_laws.proofs.Simulate.{Simulates, Beyond, simulates, event, possible, taken_expected}
+use Rattle.trace_laws.proofs.Simulate.{asked_of, Simulates, Beyond, simulates, event, possible, taken_expected}
 use Rattle.trace_laws.proofs.Stillness.{picked_there}
 use Rattle.trace_laws.proofs.RunLists.{listed_there}
 use Rattle.trace_laws.proofs.Determined.{fits_exactly}
@@ -134,13 +134,13 @@ sent_is p n (l ∷ ls) w hand a =
     ∙ ap (λ h. causes p n l w ++ all_sent p n ls (after_label p n l w) (to_do_after p n l w h)) (behind_same hand a)
     ∙ ap (λ z. causes p n l w ++ z) (sent_is p n ls (after_label p n l w) (to_do_after p n l w hand) (then_say p n l w hand a))
 
-goes_on : (p : Program) (q n : ℕ) (ls : List Label) (w : World) (hand : List Item) → AllSay hand → Obeyed p q n ls w → NextAll p n ls w.spots hand → to_do_after_all p n ls w.spots hand ≡ [] → GoesOn p q n ls w hand
+goes_on : (p : Program) (q : Occasion) (n : ℕ) (ls : List Label) (w : World) (hand : List Item) → AllSay hand → Obeyed p q n ls w → NextAll p n ls w.spots hand → to_do_after_all p n ls w.spots hand ≡ [] → GoesOn p q n ls w hand
 goes_on p q n [] w hand a o k e = behind_same hand a ∙ e
 goes_on p q n (l ∷ ls) w hand a o k e = (
   subst (λ h. IsNext n l w.spots h) (sym (behind_same hand a)) k.0,
   record { solo = o.solo.0; holders = o.holders.0; life = o.life.0; replies = o.replies.0; grants = o.grants.0 },
-  subst (λ h. GoesOn p q n ls (world_after p n l w) (to_do_after p n l w.spots h)) (sym (behind_same hand a))
-      (goes_on p q n ls (world_after p n l w) (to_do_after p n l w.spots hand) (then_say p n l w.spots hand a) (record { solo = o.solo.1; holders = o.holders.1; life = o.life.1; replies = o.replies.1; grants = o.grants.1 }) k.1 e),
+  subst (λ h. GoesOn p (saying l q) n ls (world_after p n l w) (to_do_after p n l w.spots h)) (sym (behind_same hand a))
+      (goes_on p (saying l q) n ls (world_after p n l w) (to_do_after p n l w.spots hand) (then_say p n l w.spots hand a) (record { solo = o.solo.1; holders = o.holders.1; life = o.life.1; replies = o.replies.1; grants = o.grants.1 }) k.1 e),
 )
 
 -- the first label is what the entry begins with
@@ -148,13 +148,13 @@ abbrev FirstBy : ℕ → List Label → Spots → List Item → Type 0
 FirstBy n [] w hand = hand ≡ []
 FirstBy n (l ∷ ls) w hand = (i : Item) × (hand ≡ i ∷ []) × AllSay (i ∷ []) × IsBy n l w i
 
-all_go : (p : Program) (q n : ℕ) (ls : List Label) (w : World) (hand : List Item) → Obeyed p q n ls w → AreNext p n ls w.spots → to_do_after_all p n ls w.spots [] ≡ [] → FirstBy n ls w.spots hand → GoesOn p q n ls w hand
+all_go : (p : Program) (q : Occasion) (n : ℕ) (ls : List Label) (w : World) (hand : List Item) → Obeyed p q n ls w → AreNext p n ls w.spots → to_do_after_all p n ls w.spots [] ≡ [] → FirstBy n ls w.spots hand → GoesOn p q n ls w hand
 all_go p q n [] w hand o k e f = ap past_sends f
 all_go p q n (l ∷ ls) w hand o k e f = subst (λ h. GoesOn p q n (l ∷ ls) w h) (sym f.1) (
   subst (λ h. IsNext n l w.spots h) (sym (behind_same (f.0 ∷ []) f.2)) f.3,
   record { solo = o.solo.0; holders = o.holders.0; life = o.life.0; replies = o.replies.0; grants = o.grants.0 },
-  subst (λ h. GoesOn p q n ls (world_after p n l w) (to_do_after p n l w.spots h)) (sym (behind_same (f.0 ∷ []) f.2))
-      (goes_on p q n ls (world_after p n l w) (to_do_after p n l w.spots []) (then_say p n l w.spots [] tt) (record { solo = o.solo.1; holders = o.holders.1; life = o.life.1; replies = o.replies.1; grants = o.grants.1 }) k e),
+  subst (λ h. GoesOn p (saying l q) n ls (world_after p n l w) (to_do_after p n l w.spots h)) (sym (behind_same (f.0 ∷ []) f.2))
+      (goes_on p (saying l q) n ls (world_after p n l w) (to_do_after p n l w.spots []) (then_say p n l w.spots [] tt) (record { solo = o.solo.1; holders = o.holders.1; life = o.life.1; replies = o.replies.1; grants = o.grants.1 }) k e),
 )
 
 -- ## What the machine says first
@@ -255,7 +255,7 @@ module _ (p : Program) (w : Spots) (net : Net) (st : Stands p w net) (stamp n ro
 
   start_take : (from : ℕ) (x : Packet) → Some x ≡ first_of (net.links from n) → x.stamp < stamp → takes p n from x.body (net.nodes n) ≡ d → Started (Take from)
   start_take from x h before e =
-      let expected : is_stray p n (net.nodes n) x.body ≡ false = taken_expected p w net st 0 n from x h in
+      let expected : is_stray p n (net.nodes n) x.body ≡ false = taken_expected p w net st (asked_of Boot None) n from x h in
       let accepted : accepts n from x.body (net.nodes n) ≡ d = sym (ap (λ z. cond z (nothing (net.nodes n)) (accepts n from x.body (net.nodes n))) expected) ∙ e in
       let k = accepts_first p n from x.body (net.nodes n) expected in
       started_by (Take from) (first_said n x.body) k.0 (Says (first_said n x.body)) (ap (λ (z : Doing). z.labels) (sym accepted) ∙ k.1) (x, sym h, before, sym (opening_says n x.body)) tt refl
@@ -309,7 +309,8 @@ entry_is p w net st stamp n round a o d is h before =
       may = sym (may_is p n (net.nodes n) a) ∙ can.0;
       to_do = first.hand;
       starts = first.starts;
-      goes = all_go p (quantum_in a) n d.labels (world_at w net) first.hand k.allowed b.next b.ends first.first;
+      goes = subst (λ z. GoesOn p (asked_of a z) n d.labels (world_at w net) first.hand) h
+          (all_go p (asked_of a o) n d.labels (world_at w net) first.hand k.allowed b.next b.ends first.first);
     }
 
 -- what the labels tell after an event is what nodes and links have

@@ -22,6 +22,7 @@ use Rattle.run_trace.specs.Causes.{asked_causes}
 use Rattle.trace_laws.proofs.Arriving.{ran_places}
 use Rattle.run_trace.specs.Machine.{answer, end_thread, creates, creates_in, free_slot, goes, migrates, calls, stopped, run_thread}
 use Rattle.run_trace.specs.Cluster.{Net}
+use Rattle.run_trace.specs.Rules.{quantum_in, Occasion}
 use Rattle.run_trace.specs.Spots.{Stage, Ready, Running, Due, Served, Departs, Ends, Halts, On, Spot, Spots, ran_stage, asked_stage, stage_of_call}
 use Rattle.run_trace.specs.Stands.{Busy, busy, thread_in_stage, row_in_stage, held_in_stage, holding_of}
 use Rattle.trace_laws.proofs.Parts.{is_home}
@@ -37,7 +38,7 @@ use Rattle.run_trace.specs.Items.{is_busy}
 goes_inside : (p : Program) (t : Tid) (x : Solo) (to : ℕ) → refusal p t x (MigrateSelf to) ≡ None → to < nodes_of p
 goes_inside p t x to h = grind (arith, nat_tests, h)
 
-module _ (p : Program) (net : Net) (q n : ℕ) (w : World) (L : Links) (below : nat_lt n (nodes_of p) ≡ true) where
+module _ (p : Program) (net : Net) (q : Occasion) (n : ℕ) (w : World) (L : Links) (below : nat_lt n (nodes_of p) ≡ true) where
   abbrev Is : Doing → List Busy → Type 0
   Is d hand = Midst p net q n w L d hand
 
@@ -130,7 +131,7 @@ module _ (p : Program) (net : Net) (q n : ℕ) (w : World) (L : Links) (below : 
           (asks_show_ok p net q n w L d t (bytes_of p s.state (Print address len)) [] m (stage (Print address len) None e f) (bytes (Print address len) None e f)))
 
   -- a run of a ready thread, to its stop
-  pub run_ok : (d : Doing) (t : Tid) (vp : ℕ) → (m : Is d []) → d.labels ≡ [] → (spot m.now.spots t).life ≡ On n Ready → Is (run_thread p n vp q t (waits wait.No (spot m.now.spots t).guest) d) []
+  pub run_ok : (d : Doing) (t : Tid) (vp : ℕ) → (m : Is d []) → d.labels ≡ [] → (spot m.now.spots t).life ≡ On n Ready → Is (run_thread p n vp (quantum_in q.act) t (waits wait.No (spot m.now.spots t).guest) d) []
   run_ok d t vp m none x = subst (λ o. Is (at_found o (stopped p n t r.stop) after) []) (sym there) (by r.stop refl)
     where
       r : Run

@@ -21,7 +21,7 @@ use Rattle.run_trace.specs.Steps.{at_thread, say, keep, slots_out, slots_in, tak
 use Rattle.run_trace.specs.Machine.{free_run, places, claimed, allocates_with, allocates, returns_any, frees_block, frees}
 use Rattle.run_trace.specs.Cluster.{Net}
 use Rattle.run_trace.specs.Spots.{Stage, Served, On, Spot, Spots, Of_node, Of_thread, update, gave_life}
-use Rattle.run_trace.specs.Rules.{is_free, lowest_free, MayGive}
+use Rattle.run_trace.specs.Rules.{Occasion, is_free, lowest_free, MayGive}
 use Rattle.run_trace.specs.Stands.{Busy, busy, busy_name, busy_part, thread_part, row_part, listed, listed_name, held, slots_held, IsWellHeld, is_thread}
 use Rattle.trace_laws.proofs.Tids.{is-true, is-refl}
 use Rattle.trace_laws.proofs.KeyedLemmas.{kept, map_set}
@@ -34,7 +34,7 @@ use Rattle.trace_laws.proofs.Heaps.{empty_held, gave_well, gave_all, placed_well
 use Rattle.run_trace.specs.Calls.{place_code}
 use Rattle.run_trace.specs.Items.{is_busy}
 
-module _ (p : Program) (net : Net) (q n : ℕ) (w : World) (L : Links) where
+module _ (p : Program) (net : Net) (q : Occasion) (n : ℕ) (w : World) (L : Links) where
   abbrev Is : Doing → List Busy → Type 0
   Is d hand = Midst p net q n w L d hand
 

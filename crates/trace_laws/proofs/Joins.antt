@@ -21,7 +21,7 @@ use Rattle.run_trace.specs.Machine.{judges_join, tells_joiner}
 use Rattle.run_trace.specs.Cluster.{Net}
 use Rattle.run_trace.specs.Keyed.{StandsFor}
 use Rattle.run_trace.specs.Spots.{Stays, Asks, Awaits, Answers, Life, Unborn, On, Noting, Gone, Spot, Spots, update, at_node, heard_life, heard_at, joined_at, end_in, joiner_served}
-use Rattle.run_trace.specs.Rules.{JoinerAwaits}
+use Rattle.run_trace.specs.Rules.{Occasion, JoinerAwaits}
 use Rattle.run_trace.specs.Stands.{way, Agrees, Busy, busy, busy_name, busy_part, thread_part, thread_in_life, row_part, row_in_life, listed, listed_name, Joins, Ended_word, ways_of, phase_of, phase_at, During, After, held, holding_of, slots_held, IsWellHeld, is_thread}
 use Rattle.trace_laws.proofs.Tids.{is-true, is-refl, is-false, is-other, is-flip, same_name}
 use Rattle.trace_laws.proofs.KeyedLemmas.{kept, fronted, map_kept}
@@ -132,7 +132,7 @@ joins_agree p n seq from w by r births new gets a x during slots phase awaited w
     was : phase_of r.life ≡ phase_of (w.threads by).life
     was = during ∙ sym (ap phase_of x)
 
-module _ (p : Program) (net : Net) (q n : ℕ) (w : World) (L : Links) where
+module _ (p : Program) (net : Net) (q : Occasion) (n : ℕ) (w : World) (L : Links) where
   -- a join is heard, and its thread comes to this life
   hears_as : (s : Local) (from seq : ℕ) (by : Tid) (life : Life) (more : List Busy) → (m : Midst p net q n w L (nothing s) []) → (m.now.spots.threads by).life ≡ On from (Asks (tid n seq))
       → heard_life from (tid n seq) (verdict (slice_get (m.now.spots.births n) seq)) ≡ life
@@ -294,7 +294,7 @@ ends_agree p n seq from end w f r births new gets a x gone phases slots unborn a
     t : Tid
     t = tid n seq
 
-module _ (p : Program) (net : Net) (q n : ℕ) (w : World) (L : Links) where
+module _ (p : Program) (net : Net) (q : Occasion) (n : ℕ) (w : World) (L : Links) where
   -- an end that nobody waits for
   knows_alone : (s : Local) (from seq : ℕ) (end : End) (b : Birth) → (m : Midst p net q n w L (nothing s) []) → (m.now.spots.threads (tid n seq)).life ≡ Noting from end
       → slice_get (m.now.spots.births n) seq ≡ Some b → joiner (Some b) ≡ None → ((c : Tid) (at : ℕ) → Some (ended end b) ≡ Some (Awaited c at) → ⊥)

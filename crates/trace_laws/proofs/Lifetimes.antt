@@ -27,7 +27,7 @@ use Rattle.run_trace.specs.Machine.{free_run, free_slot, end_thread}
 use Rattle.run_trace.specs.Cluster.{Net}
 use Rattle.run_trace.specs.Keyed.{StandsFor}
 use Rattle.run_trace.specs.Spots.{Stage, Stays, Ready, Due, Served, Ends, Leaves, Awaits, Life, Unborn, On, Moving, Noting, Gone, Response, Spot, Spots, Holder, Of_node, Of_thread, Nobody, update, at_node, after_label, gave_life, born_spot, asked_priority}
-use Rattle.run_trace.specs.Rules.{is_free, lowest_free, MayGive}
+use Rattle.run_trace.specs.Rules.{Occasion, is_free, lowest_free, MayGive}
 use Rattle.run_trace.specs.Console.{shown_by}
 use Rattle.run_trace.specs.Stands.{Here, Agrees, Busy, busy, busy_name, busy_part, thread_part, thread_in_life, row_part, row_in_life, listed, listed_name, ways_of, phase_of, phase_at, Before, During, held, slots_held, IsWellHeld, is_thread}
 use Rattle.trace_laws.proofs.Tids.{is-other, is-true, is-refl, is-false, is-flip, same_name}
@@ -35,7 +35,7 @@ use Rattle.trace_laws.proofs.KeyedLemmas.{kept, added, unfronted, refronted, map
 use Rattle.trace_laws.proofs.Births.{get-push, get-past}
 use Rattle.run_trace.specs.World.{World}
 use Rattle.run_trace.specs.Obeying.{Allows}
-use Rattle.trace_laws.proofs.Midst.{Then, busy_item, Own, beside, is_next, is_first, Links, Midst, Plain, plain, keeps, under, LinkStands, spots_with, labelled, here_kept, agrees_kept, links_kept}
+use Rattle.trace_laws.proofs.Midst.{having_said, Then, busy_item, Own, beside, is_next, is_first, Links, Midst, Plain, plain, keeps, under, LinkStands, spots_with, labelled, here_kept, agrees_kept, links_kept}
 use Rattle.trace_laws.proofs.Parts.{listed_arrived, is_home, home_way, home_quiet, home_plain, frame_home, away_thread, away_row, busy_none}
 use Rattle.trace_laws.proofs.Arriving.{places_after}
 use Rattle.trace_laws.proofs.Steps.{own_stays, own_goes, life_then, Ties, in_hand, thread_was, row_was, busy_was, send_step}
@@ -150,7 +150,7 @@ module _ (p : Program) (n : ℕ) (w : Spots) (t : Tid) (s : Spot) (old slots : L
 
 -- ## Ends
 
-module _ (p : Program) (net : Net) (q n : ℕ) (w : World) (L : Links) where
+module _ (p : Program) (net : Net) (q : Occasion) (n : ℕ) (w : World) (L : Links) where
   abbrev Is : Doing → List Busy → Type 0
   Is d hand = Midst p net q n w L d hand
 
@@ -161,7 +161,7 @@ module _ (p : Program) (net : Net) (q n : ℕ) (w : World) (L : Links) where
   pub slots_step : (d : Doing) (hand more : List Busy) (l : Label) (t : Tid) (r : Spot) (now : Local) (f : ℕ → Holder) (a b : Stage)
       → (m : Is d hand)
       → after_label p n l m.now.spots ≡ spots_with (update m.now.spots.threads t r) f m.now.spots.births m.now.spots.halts
-      → Allows p q n l m.now
+      → Allows p (having_said d.labels q) n l m.now
       → causes p n l m.now.spots ≡ [] → shown_by l m.now.spots ≡ []
       → (spot m.now.spots t).life ≡ On n a → r.life ≡ On n b → is_home a ≡ true → is_home b ≡ true
       → Ties p net q n w L m.now.spots t r now more
@@ -372,7 +372,7 @@ one_run slot = has-run slot slot 1 ∙ grind (arith, ltb-true slot slot, lt-ltb 
 least_held : (n : ℕ) (v : Spots) (slot : ℕ) → lowest_free n 1 v ≡ Some slot → v.slots slot ≡ Of_node n
 least_held n v slot e = lowest_held n 1 v slot slot e (one_run slot)
 
-module _ (p : Program) (net : Net) (q n : ℕ) (w : World) (L : Links) (below : nat_lt n (nodes_of p) ≡ true) where
+module _ (p : Program) (net : Net) (q : Occasion) (n : ℕ) (w : World) (L : Links) (below : nat_lt n (nodes_of p) ≡ true) where
   abbrev Is_so : Doing → List Busy → Type 0
   Is_so d hand = Midst p net q n w L d hand
 

@@ -16,7 +16,7 @@ use Rattle.run_trace.specs.Local.{Local, Doing}
 use Rattle.run_trace.specs.Cluster.{Net}
 use Rattle.run_trace.specs.Keyed.{StandsFor}
 use Rattle.run_trace.specs.Spots.{Stays, Life, Awaits, Unborn, On, Spot, Spots, Holder, update, after_label, after_labels}
-use Rattle.run_trace.specs.Rules.{Rule, SoloRule, HoldersRule, LifeRule, RepliesRule, GrantsRule, is_free}
+use Rattle.run_trace.specs.Rules.{Occasion, saying, Rule, SoloRule, HoldersRule, LifeRule, RepliesRule, GrantsRule, is_free}
 use Rattle.run_trace.specs.World.{World, world_after}
 use Rattle.trace_laws.specs.Obeys.{world_at, ObeyEach, all_causes}
 use Rattle.run_trace.specs.Console.{shown_by, shown_by_all}
@@ -45,7 +45,7 @@ abbrev pub LinkStands : ℕ → ℕ → List Word → (Tid → Spot) → Type 0
 LinkStands i j xs w = (s : Subject) → words_about xs s ≡ link_part i j s w
 
 -- all labels obey each rule
-pub record Obeyed (p : Program) (q n : ℕ) (ls : List Label) (w : World) : Type 0 where
+pub record Obeyed (p : Program) (q : Occasion) (n : ℕ) (ls : List Label) (w : World) : Type 0 where
   pub solo : ObeyEach SoloRule p q n ls w
   pub holders : ObeyEach HoldersRule p q n ls w
   pub life : ObeyEach LifeRule p q n ls w
@@ -88,7 +88,7 @@ pub record Beside (p : Program) (n : ℕ) (v : Spots) (l : Label) (labels : List
   pub booted : now.booted ≡ old.booted
 
 -- the event on node n, of the world w before it, has come to d, is busy with hand, and has told now; L are the links without what it sent
-pub record Midst (p : Program) (net : Net) (q n : ℕ) (w : World) (L : Links) (d : Doing) (hand : List Busy) : Type 0 where
+pub record Midst (p : Program) (net : Net) (q : Occasion) (n : ℕ) (w : World) (L : Links) (d : Doing) (hand : List Busy) : Type 0 where
   pub now : World
   pub told : now ≡ record w { spots = after_labels p n d.labels w.spots }
   pub allowed : Obeyed p q n d.labels w
@@ -101,7 +101,7 @@ pub record Midst (p : Program) (net : Net) (q n : ℕ) (w : World) (L : Links) (
   pub aside : Aside p n w.spots (net.nodes n) d.node d.labels hand
 
 -- the same after one more label, of a world that was told
-pub record Then (p : Program) (net : Net) (q n : ℕ) (w : World) (L : Links) (v : World) (l : Label) (d : Doing) (hand : List Busy) : Type 0 where
+pub record Then (p : Program) (net : Net) (q : Occasion) (n : ℕ) (w : World) (L : Links) (v : World) (l : Label) (d : Doing) (hand : List Busy) : Type 0 where
   pub midst : Midst p net q n w L d hand
   pub now : midst.now ≡ world_after p n l v
 
@@ -111,9 +111,13 @@ pub after_append : (p : Program) (n : ℕ) (ls : List Label) (l : Label) (w : Sp
 after_append p n [] l w = refl
 after_append p n (x ∷ ls) l w = after_append p n ls l (after_label p n x w)
 
-obey_append : (rule : Rule) (p : Program) (q n : ℕ) (ls : List Label) (l : Label) (w : World) → ObeyEach rule p q n ls w → rule p q n l (record w { spots = after_labels p n ls w.spots }) → ObeyEach rule p q n (ls ++ l ∷ []) w
-obey_append rule p q n [] l w o h = (h, tt)
-obey_append rule p q n (x ∷ ls) l w o h = (o.0, obey_append rule p q n ls l (world_after p n x w) o.1 h)
+-- the occasion after these labels too
+abbrev pub having_said : List Label → Occasion → Occasion
+having_said ls o = record o { said = o.said ++ ls }
+
+obey_append : (rule : Rule) (p : Program) (q : Occasion) (n : ℕ) (ls : List Label) (l : Label) (w : World) → ObeyEach rule p q n ls w → rule p (having_said ls q) n l (record w { spots = after_labels p n ls w.spots }) → ObeyEach rule p q n (ls ++ l ∷ []) w
+obey_append rule p q n [] l w o h = (subst (λ z. rule p (record q { said = z }) n l w) (append-nil q.said) h, tt)
+obey_append rule p q n (x ∷ ls) l w o h = (o.0, obey_append rule p (saying x q) n ls l (world_after p n x w) o.1 (subst (λ z. rule p (record q { said = z }) n l (record w { spots = after_labels p n (x ∷ ls) w.spots })) (sym (append_assoc q.said (x ∷ []) ls)) h))
 
 causes_append : (p : Program) (n : ℕ) (ls : List Label) (l : Label) (w : Spots) → all_causes p n (ls ++ l ∷ []) w ≡ all_causes p n ls w ++ causes p n l (after_labels p n ls w)
 causes_append p n [] l w = append-nil (causes p n l w)
@@ -359,10 +363,10 @@ agrees_kept p w t s h a phase quiet kept born idle stay more = record {
 
 -- ## The one lemma for a label
 
-module _ (p : Program) (net : Net) (q n : ℕ) (w : World) where
+module _ (p : Program) (net : Net) (q : Occasion) (n : ℕ) (w : World) where
   -- a label, with what goes with it
   pub labelled : (L M : Links) (d : Doing) (hand more : List Busy) (l : Label) (v : Spots) (now : Local) (sends : List Send) (prints : List ℕ)
-      → (m : Midst p net q n w L d hand) → after_label p n l m.now.spots ≡ v → Allows p q n l m.now
+      → (m : Midst p net q n w L d hand) → after_label p n l m.now.spots ≡ v → Allows p (having_said d.labels q) n l m.now
       → sends ≡ d.sends ++ causes p n l m.now.spots → prints ≡ d.prints ++ shown_by l m.now.spots
       → Here n v now more
       → ((k : ℕ) → eqb n k ≡ false → Here k v (net.nodes k) [])
@@ -373,7 +377,7 @@ module _ (p : Program) (net : Net) (q n : ℕ) (w : World) where
   labelled L M d hand more l v now sends prints m same ok sent shown here there links agrees aside =
       let told : m.now ≡ record w { spots = after_labels p n d.labels w.spots } = m.told in
       let spots : m.now.spots ≡ after_labels p n d.labels w.spots = ap (λ (z : World). z.spots) told in
-      let may : Allows p q n l (record w { spots = after_labels p n d.labels w.spots }) = subst (λ z. Allows p q n l z) told ok in
+      let may : Allows p (having_said d.labels q) n l (record w { spots = after_labels p n d.labels w.spots }) = subst (λ z. Allows p (having_said d.labels q) n l z) told ok in
       record {
         now = ap (λ (z : Spots). record m.now { spots = z }) (sym same);
         midst = record {

@@ -16,7 +16,7 @@ use Rattle.run_trace.specs.declared.call.Call.{Call}
 use Rattle.run_trace.specs.declared.call.Call.TheVariants.{Create, Isomalloc, Isofree, MigrateSelf}
 use Rattle.run_trace.specs.Calls.{extra_of, place_code, call_of, number_of, args_of, refusal, said_bytes}
 use Rattle.run_trace.specs.Spots.{Ready, Running, Due, Served, Departs, Ends, Leaves, Halts, Showing, Answers, Life, On, Spots}
-use Rattle.run_trace.specs.Rules.{MayJudge, MayTell, MayHear, MayGive, MayLeave, MayCome, MayShow, MayKnow, IsReply, IsRefusedRightly, IsClaim, lowest_free}
+use Rattle.run_trace.specs.Rules.{Occasion, MayJudge, MayTell, MayHear, MayGive, MayLeave, MayCome, MayShow, MayKnow, IsReply, IsRefusedRightly, IsClaim, lowest_free}
 use Rattle.run_trace.specs.World.{World}
 use Rattle.run_trace.specs.Items.{Thread, is_busy, doer}
 use Rattle.run_trace.specs.Obeying.{Allows}
@@ -129,7 +129,7 @@ not_known n life k busied = grind (arith, k, busied)
 not_ready : (n : ℕ) (life : Life) → life ≡ On n Ready → is_busy n life ≡ true → ⊥
 not_ready n life e busied = let idle : is_busy n life ≡ false = ap (is_busy n) e in cc (idle, busied)
 
-module _ (p : Program) (q n : ℕ) (world : World) where
+module _ (p : Program) (q : Occasion) (n : ℕ) (world : World) where
   abbrev w : Spots
   w = world.spots
 

@@ -33,7 +33,8 @@ use Rattle.run_trace.specs.Holding.{IsOn}
 use Rattle.run_trace.specs.Spots.{Stage, Asks, Shows, Showing, Answers, Life, On, Moving, Spot, Spots, update, creator_served, joiner_served, heard_at, judged_life, told_stage, gave_life, shown_life, ran_stage, stage_of_call, asked_stage, passed_stage, end_in, at_first, after_label, after_labels}
 use Rattle.run_trace.specs.World.{World, world_after}
 use Rattle.trace_laws.specs.Obeys.{Obey, world_at, ObeyEach, all_causes}
-use Rattle.run_trace.specs.Rules.{LifeRule, quantum_in, spots_of}
+use Rattle.run_trace.specs.Rules.{Occasion, saying, LifeRule, quantum_in, spots_of}
+use Rattle.run_trace.specs.Obeying.{occasion}
 use Rattle.run_trace.specs.Items.{Subject, Thread as Thread_of}
 use Rattle.run_trace.specs.Stands.{Stands, word_subject, word_of, Word, Travels, Line, Line_shown, Joins, Reply as Reply_word, Ended_word}
 use Rattle.trace_laws.proofs.Parts.{Tells}
@@ -112,7 +113,7 @@ joiner_asks : (p : Program) (t : Tid) (end : End) (o : Option (Tid × ℕ)) (w :
 joiner_asks p t end None w h = h
 joiner_asks p t end (Some by) w h = asks_with p w by.0 _ h (first_node p)
 
-label_asks : (p : Program) (q n : ℕ) (l : Label) (w : World) → LifeRule p q n l w → AllAsk p w.spots.threads → AllAsk p (after_label p n l w.spots).threads
+label_asks : (p : Program) (q : Occasion) (n : ℕ) (l : Label) (w : World) → LifeRule p q n l w → AllAsk p w.spots.threads → AllAsk p (after_label p n l w.spots).threads
 label_asks p q n (Born t why entry a0 a1 sp slot) w ok h = asks_with p (creator_served n t why w.spots.threads) t _ (creator_asks p n t why w.spots.threads h) (first_node p)
 label_asks p q n (Ran t vp count stop) w ok h = asks_with p w.spots.threads t _ h (subst (λ k. k < nodes_of p) (sym (ran_asks n stop _)) (first_node p))
 label_asks p q n (Asked t call args bytes) w ok h = asks_with p w.spots.threads t _ h (call_asks p n t (w.spots.threads t).guest.solo)
@@ -140,13 +141,13 @@ label_asks p q n (Down bubble list) w ok h = h
 label_asks p q n (Burst bubble list) w ok h = h
 label_asks p q n (Gathered bubble count) w ok h = h
 
-labels_ask : (p : Program) (q n : ℕ) (ls : List Label) (w : World) → ObeyEach LifeRule p q n ls w → AllAsk p w.spots.threads → AllAsk p (after_labels p n ls w.spots).threads
+labels_ask : (p : Program) (q : Occasion) (n : ℕ) (ls : List Label) (w : World) → ObeyEach LifeRule p q n ls w → AllAsk p w.spots.threads → AllAsk p (after_labels p n ls w.spots).threads
 labels_ask p q n [] w ok h = h
-labels_ask p q n (l ∷ ls) w ok h = labels_ask p q n ls (world_after p n l w) ok.1 (label_asks p q n l w ok.0 h)
+labels_ask p q n (l ∷ ls) w ok h = labels_ask p (saying l q) n ls (world_after p n l w) ok.1 (label_asks p q n l w ok.0 h)
 
 spots_ask : (p : Program) (base : Net) (lines : List Entry) → Obey LifeRule p (at_first p) base lines → AllAsk p (spots_of p (at_first p) lines).threads
 spots_ask p base [] ok t = first_node p
-spots_ask p base (x ∷ xs) ok t = labels_ask p (quantum_in x.act) x.node x.labels (world_at (spots_of p (at_first p) xs) (net_after_trace p base xs)) ok.1 (spots_ask p base xs ok.0) t
+spots_ask p base (x ∷ xs) ok t = labels_ask p (occasion x (world_at (spots_of p (at_first p) xs) (net_after_trace p base xs))) x.node x.labels (world_at (spots_of p (at_first p) xs) (net_after_trace p base xs)) ok.1 (spots_ask p base xs ok.0) t
 
 -- ## What is no node has no event, and so sends nothing
 

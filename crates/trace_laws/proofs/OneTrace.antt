@@ -11,11 +11,11 @@ use Rattle.run_trace.specs.declared.label.Label.TheVariants.{Ran}
 use Rattle.run_trace.specs.declared.packet.Packet.{Packet}
 use Rattle.run_trace.specs.Program.{Program, code_of}
 use Rattle.run_trace.specs.Guests.{Run, run_of}
-use Rattle.run_trace.specs.Rules.{quantum_in}
+use Rattle.run_trace.specs.Rules.{Occasion, quantum_in, saying}
 use Rattle.run_trace.specs.Spots.{Spots, stepped}
 use Rattle.run_trace.specs.World.{Listed, World, world_after}
 use Rattle.run_trace.specs.Items.{Thread, Runs, Sends, past_sends, for_packet, Item, Says, Does, to_do_after}
-use Rattle.run_trace.specs.Obeying.{Starts, Allows, IsBy, IsNext, GoesOn, IsEntry, KeepsRules}
+use Rattle.run_trace.specs.Obeying.{Starts, Allows, IsBy, IsNext, GoesOn, IsEntry, occasion, KeepsRules}
 use Rattle.trace_laws.proofs.RunLemmas.{run_is}
 use Rattle.trace_laws.proofs.Arriving.{one_picked}
 use Rattle.trace_laws.proofs.Nexts.{one_next}
@@ -25,21 +25,21 @@ use Rattle.trace_laws.specs.Headings.{Heading, heading}
 -- ## One label
 
 -- a run has one count and one stop
-one_run : (p : Program) (q n vp count more : ℕ) (stop other : Stop) (t : Tid) (w : World) → Allows p q n (Ran t vp count stop) w → Allows p q n (Ran t vp more other) w → Ran t vp count stop ≡ Ran t vp more other
+one_run : (p : Program) (q : Occasion) (n vp count more : ℕ) (stop other : Stop) (t : Tid) (w : World) → Allows p q n (Ran t vp count stop) w → Allows p q n (Ran t vp more other) w → Ran t vp count stop ≡ Ran t vp more other
 one_run p q n vp count more stop other t w x y =
     let s : State = (w.spots.threads t).guest.solo.state in
-    let a : run_of (code_of p) q s ≡ record { count = count; stop = stop; state = stepped (code_of p) count s } = run_is (code_of p) q s _ (record { steps = x.solo.0; stop = x.solo.1 }) in
-    let b : run_of (code_of p) q s ≡ record { count = more; stop = other; state = stepped (code_of p) more s } = run_is (code_of p) q s _ (record { steps = y.solo.0; stop = y.solo.1 }) in
+    let a : run_of (code_of p) (quantum_in q.act) s ≡ record { count = count; stop = stop; state = stepped (code_of p) count s } = run_is (code_of p) (quantum_in q.act) s _ (record { steps = x.solo.0; stop = x.solo.1 }) in
+    let b : run_of (code_of p) (quantum_in q.act) s ≡ record { count = more; stop = other; state = stepped (code_of p) more s } = run_is (code_of p) (quantum_in q.act) s _ (record { steps = y.solo.0; stop = y.solo.1 }) in
     ap (λ (r : Run). Ran t vp r.count r.stop) (sym a ∙ b)
 
-one_label : (p : Program) (q n : ℕ) (l m : Label) (w : World) (i : Item) → IsBy n l w.spots i → IsBy n m w.spots i → Allows p q n l w → Allows p q n m w → l ≡ m
+one_label : (p : Program) (q : Occasion) (n : ℕ) (l m : Label) (w : World) (i : Item) → IsBy n l w.spots i → IsBy n m w.spots i → Allows p q n l w → Allows p q n m w → l ≡ m
 one_label p q n l m w (Sends to body) x y a b = absurd x
 one_label p q n l m w (Says k) x y a b = x ∙ sym y
 one_label p q n l m w (Runs t vp) x y a b =
     x.2 ∙ one_run p q n vp x.0 y.0 x.1 y.1 t w (subst (λ z. Allows p q n z w) x.2 a) (subst (λ z. Allows p q n z w) y.2 b) ∙ sym y.2
 one_label p q n l m w (Does (Thread t)) x y a b = one_next p q n w l m t x.0 y.0 x.1 a b
 
-one_next_label : (p : Program) (q n : ℕ) (l m : Label) (w : World) (hand : List Item) → IsNext n l w.spots hand → IsNext n m w.spots hand → Allows p q n l w → Allows p q n m w → l ≡ m
+one_next_label : (p : Program) (q : Occasion) (n : ℕ) (l m : Label) (w : World) (hand : List Item) → IsNext n l w.spots hand → IsNext n m w.spots hand → Allows p q n l w → Allows p q n m w → l ≡ m
 one_next_label p q n l m w [] x y a b = absurd x
 one_next_label p q n l m w (i ∷ is) x y a b = one_label p q n l m w i x y a b
 
@@ -48,14 +48,14 @@ one_next_label p q n l m w (i ∷ is) x y a b = one_label p q n l m w i x y a b
 nothing_to_do : (n : ℕ) (l : Label) (w : Spots) (hand : List Item) → hand ≡ [] → IsNext n l w hand → ⊥
 nothing_to_do n l w hand e k = subst (λ z. IsNext n l w z) e k
 
-one_way_on : (p : Program) (q n : ℕ) (ls ms : List Label) (w : World) (hand : List Item) → GoesOn p q n ls w hand → GoesOn p q n ms w hand → ls ≡ ms
+one_way_on : (p : Program) (q : Occasion) (n : ℕ) (ls ms : List Label) (w : World) (hand : List Item) → GoesOn p q n ls w hand → GoesOn p q n ms w hand → ls ≡ ms
 one_way_on p q n [] [] w hand x y = refl
 one_way_on p q n [] (m ∷ ms) w hand x y = absurd (nothing_to_do n m w.spots (past_sends hand) x y.0)
 one_way_on p q n (l ∷ ls) [] w hand x y = absurd (nothing_to_do n l w.spots (past_sends hand) y x.0)
 one_way_on p q n (l ∷ ls) (m ∷ ms) w hand x y =
     let one : l ≡ m = one_next_label p q n l m w (past_sends hand) x.0 y.0 x.1 y.1 in
-    let rest : ls ≡ ms = one_way_on p q n ls ms (world_after p n l w) (to_do_after p n l w.spots (past_sends hand)) x.2
-    (subst (λ z. GoesOn p q n ms (world_after p n z w) (to_do_after p n z w.spots (past_sends hand))) (sym one) y.2) in
+    let rest : ls ≡ ms = one_way_on p (saying l q) n ls ms (world_after p n l w) (to_do_after p n l w.spots (past_sends hand)) x.2
+    (subst (λ z. GoesOn p (saying z q) n ms (world_after p n z w) (to_do_after p n z w.spots (past_sends hand))) (sym one) y.2) in
     ap (λ z. z ∷ ls) one ∙ ap (λ zs. m ∷ zs) rest
 
 -- ## The beginning of an entry
@@ -77,7 +77,7 @@ pub one_entry : (p : Program) (w : World) (x y : Entry) → heading x ≡ headin
 one_entry p w x y e i j =
     let k : IsEntry p w (with_labels (heading x) y.labels) = subst (λ h. IsEntry p w (with_labels h y.labels)) (sym e) j in
     let hand : i.to_do ≡ k.to_do = one_start p x.stamp x.node x.act w i.to_do k.to_do i.starts k.starts in
-    let labels : x.labels ≡ y.labels = one_way_on p (quantum_in x.act) x.node x.labels y.labels w i.to_do i.goes (subst (λ h. GoesOn p (quantum_in x.act) x.node y.labels w h) (sym hand) k.goes) in
+    let labels : x.labels ≡ y.labels = one_way_on p (occasion x w) x.node x.labels y.labels w i.to_do i.goes (subst (λ h. GoesOn p (occasion x w) x.node y.labels w h) (sym hand) k.goes) in
     ap (λ ls. with_labels (heading x) ls) labels ∙ ap (λ h. with_labels h y.labels) e
 
 -- two traces that were asked the same are the same

@@ -25,7 +25,7 @@ use Rattle.run_trace.specs.Steps.{tell, leaves, put, say, thread_out, take_off}
 use Rattle.run_trace.specs.Machine.{local_event, acts, is_range, boots, boots_in, free_slot, run_picked, run_found, run_thread, goes, moves_found, takes, accepts, is_stray}
 use Rattle.run_trace.specs.Cluster.{Event, Net, net_after, next_packet, after_or}
 use Rattle.run_trace.specs.Keyed.{item_of}
-use Rattle.run_trace.specs.Rules.{quantum_in}
+use Rattle.run_trace.specs.Rules.{Occasion, quantum_in}
 use Rattle.run_trace.specs.Console.{shown_by_all}
 use Rattle.run_trace.specs.Spots.{Ready, Shown_there, Answered, Unborn, On, Noting, Response, Spots, after_labels}
 use Rattle.run_trace.specs.Stands.{Here, Stands, Line_shown, Reply, word_subject, word_of, words_of, words_about, way, ways_of, link_part, listed, listed_name, phase_of}
@@ -47,6 +47,10 @@ use Rattle.trace_laws.proofs.Events.{run_ok}
 use Rattle.run_trace.specs.Links.{first_of, rest_of, left_after, packets_to}
 use Rattle.trace_laws.specs.Obeys.{world_at, PicksBest, RunsFirst, all_causes}
 
+-- an act and the packet that it takes, before anything is said
+abbrev pub asked_of : Act → Option Packet → Occasion
+asked_of a o = record { act = a; took = o; said = [] }
+
 abbrev pub under_way : Net → Links
 under_way net i j = words_of j (net.links i j)
 
@@ -54,7 +58,7 @@ under_way net i j = words_of j (net.links i j)
 abbrev pub left : Net → ℕ → Act → Links
 left net n a i j = words_of j (cond (eqb n j) (left_after i a (net.links i j)) (net.links i j))
 
-abbrev begins : (p : Program) (q n : ℕ) (w : Spots) (net : Net) → Stands p w net → Midst p net q n (world_at w net) (under_way net) (nothing (net.nodes n)) []
+abbrev begins : (p : Program) (q : Occasion) (n : ℕ) (w : Spots) (net : Net) → Stands p w net → Midst p net q n (world_at w net) (under_way net) (nothing (net.nodes n)) []
 begins p q n w net s = record {
   now = world_at w net;
   told = refl;
@@ -86,7 +90,7 @@ words_after : (b : Bool) (ps : List Packet) (j s : ℕ) (xs : List Send) → wor
 words_after true ps j s xs = ap (λ bs. words_of j ps ++ bs) (sym (packets_words j s xs)) ∙ sym (words_append j ps (packets_to j s xs))
 words_after false ps j s xs = append-nil (words_of j ps) ∙ sym (ap (words_of j) (append-nil ps))
 
-ends_well : (p : Program) (q : ℕ) (w : Spots) (net : Net) (stamp n round : ℕ) (a : Act) (o : Option Packet) (d : Doing) (M : Links) → local_event p n (net.nodes n) a o ≡ Some d → Midst p net q n (world_at w net) M d [] → ((i j : ℕ) → M i j ≡ left net n a i j) → ((k : ℕ) → IsRising (net.nodes k).places)
+ends_well : (p : Program) (q : Occasion) (w : Spots) (net : Net) (stamp n round : ℕ) (a : Act) (o : Option Packet) (d : Doing) (M : Links) → local_event p n (net.nodes n) a o ≡ Some d → Midst p net q n (world_at w net) M d [] → ((i j : ℕ) → M i j ≡ left net n a i j) → ((k : ℕ) → IsRising (net.nodes k).places)
     → Stands p (after_labels p n d.labels w) (net_after p net (event stamp n round a o d))
 ends_well p q w net stamp n round a o d M is m same rises =
     let v : Spots = m.now.spots in
@@ -113,14 +117,14 @@ pub record Beyond (p : Program) (w : Spots) (s now : Local) (n : ℕ) (labels : 
 
 -- what an event keeps, and the rules that it obeys
 pub record Simulates (p : Program) (w : Spots) (net : Net) (e : Event) : Type 0 where
-  pub allowed : Obeyed p (quantum_in e.act) e.node e.labels (world_at w net)
+  pub allowed : Obeyed p (asked_of e.act e.took) e.node e.labels (world_at w net)
   pub sends : e.sends ≡ all_causes p e.node e.labels w
   pub prints : e.prints ≡ shown_by_all p e.node e.labels w
   pub picks : PicksBest e.act (net.nodes e.node).places.rows e.labels
   pub beyond : (d : Doing) → local_event p e.node (net.nodes e.node) e.act e.took ≡ Some d → Beyond p w (net.nodes e.node) d.node e.node e.labels
   pub stands : Stands p (after_labels p e.node e.labels w) (net_after p net e)
 
-simulated : (p : Program) (w : Spots) (net : Net) (stamp n round : ℕ) (a : Act) (o : Option Packet) (d : Doing) (M : Links) → local_event p n (net.nodes n) a o ≡ Some d → Midst p net (quantum_in a) n (world_at w net) M d [] → ((i j : ℕ) → M i j ≡ left net n a i j)
+simulated : (p : Program) (w : Spots) (net : Net) (stamp n round : ℕ) (a : Act) (o : Option Packet) (d : Doing) (M : Links) → local_event p n (net.nodes n) a o ≡ Some d → Midst p net (asked_of a o) n (world_at w net) M d [] → ((i j : ℕ) → M i j ≡ left net n a i j)
     → PicksBest a (net.nodes n).places.rows d.labels → ((k : ℕ) → IsRising (net.nodes k).places) → Simulates p w net (event stamp n round a o d)
 simulated p w net stamp n round a o d M is m same picks rises = record {
   allowed = m.allowed;
@@ -135,7 +139,7 @@ simulated p w net stamp n round a o d M is m same picks rises = record {
         ends = sym m.aside.still;
         booted = λ h. ap (λ (z : Doing). z.node.booted) (sym one) ∙ m.aside.booted h;
       };
-  stands = ends_well p (quantum_in a) w net stamp n round a o d M is m same rises;
+  stands = ends_well p (asked_of a o) w net stamp n round a o d M is m same rises;
 }
 
 -- ## The packet that is taken
@@ -179,7 +183,7 @@ leaves_labels : (t : Tid) (to : ℕ) (x : Thread) (s : Local) → (leaves t to x
 unfolding leaves put say thread_out take_off
 leaves_labels t to x s = refl
 
-module _ (p : Program) (w : Spots) (net : Net) (s : Stands p w net) (q n : ℕ) where
+module _ (p : Program) (w : Spots) (net : Net) (s : Stands p w net) (q : Occasion) (n : ℕ) where
   abbrev here : Midst p net q n (world_at w net) (under_way net) (nothing (net.nodes n)) []
   here = begins p q n w net s
 
@@ -280,13 +284,13 @@ module _ (p : Program) (w : Spots) (net : Net) (s : Stands p w net) (q n : ℕ) 
   -- ## A run of the thread that is picked
 
   ran_midst : nat_lt n (nodes_of p) ≡ true → (vp : ℕ) (r : Row) (x : Thread) → best (net.nodes n).places.rows ≡ Some r → lookup (is_tid r.tid) (net.nodes n).threads ≡ Some x
-      → Midst p net q n (world_at w net) (under_way net) (run_thread p n vp q r.tid x (nothing (net.nodes n))) []
+      → Midst p net q n (world_at w net) (under_way net) (run_thread p n vp (quantum_in q.act) r.tid x (nothing (net.nodes n))) []
   ran_midst below vp r x picked f =
       let t : Tid = r.tid in
       let ready : (w.threads t).life ≡ On n Ready = picked_ready r picked in
       let same : Some (waits wait.No (w.threads t).guest) ≡ Some x = sym (on_node p net q n (world_at w net) (under_way net) (nothing (net.nodes n)) [] t Ready here ready) ∙ f in
       let one : waits wait.No (w.threads t).guest ≡ x = cc same in
-      subst (λ z. Midst p net q n (world_at w net) (under_way net) (run_thread p n vp q t z (nothing (net.nodes n))) []) one (run_ok p net q n (world_at w net) (under_way net) below (nothing (net.nodes n)) t vp here refl ready)
+      subst (λ z. Midst p net q n (world_at w net) (under_way net) (run_thread p n vp (quantum_in q.act) t z (nothing (net.nodes n))) []) one (run_ok p net q n (world_at w net) (under_way net) below (nothing (net.nodes n)) t vp here refl ready)
 
   -- ## A beginning
 
@@ -316,7 +320,7 @@ module _ (p : Program) (w : Spots) (net : Net) (s : Stands p w net) (q n : ℕ) 
       by false e = awake
 
 -- the packet that comes is one that the node expects
-pub taken_expected : (p : Program) (w : Spots) (net : Net) (s : Stands p w net) (q n i : ℕ) (x : Packet) → Some x ≡ first_of (net.links i n) → is_stray p n (net.nodes n) x.body ≡ false
+pub taken_expected : (p : Program) (w : Spots) (net : Net) (s : Stands p w net) (q : Occasion) (n i : ℕ) (x : Packet) → Some x ≡ first_of (net.links i n) → is_stray p n (net.nodes n) x.body ≡ false
 taken_expected p w net s q n i x h = (taken p w net s q n i x h).expected
 
 -- ## Each act
@@ -346,14 +350,14 @@ acts_simulate : (p : Program) (w : Spots) (net : Net) (stamp n round : ℕ) (a :
     → Simulates p w net (event stamp n round a o d)
 acts_simulate p w net stamp n round Boot None d s range is i h =
     let same : boots p n (nothing (net.nodes n)) ≡ d = cc i in
-    simulated p w net stamp n round Boot None d _ is (subst (λ z. Midst p net 0 n (world_at w net) (under_way net) z []) same (boots_midst p w net s 0 n (range_below p n (net.nodes n) Boot range))) (none_left net n Boot (λ i ps. refl)) tt s.rising
+    simulated p w net stamp n round Boot None d _ is (subst (λ z. Midst p net (asked_of Boot None) n (world_at w net) (under_way net) z []) same (boots_midst p w net s (asked_of Boot None) n (range_below p n (net.nodes n) Boot range))) (none_left net n Boot (λ i ps. refl)) tt s.rising
 acts_simulate p w net stamp n round (RunThread vp q) None d s range is i h = by_row (best (net.nodes n).places.rows) refl i
   where
     by_thread : (r : Row) → best (net.nodes n).places.rows ≡ Some r → (x : Option Thread) → lookup (is_tid r.tid) (net.nodes n).threads ≡ x → run_found p n vp q r.tid x (net.nodes n) ≡ Some d → Simulates p w net (event stamp n round (RunThread vp q) None d)
     by_thread r e None f g = absurd (cc g)
     by_thread r e (Some x) f g =
         let same : run_thread p n vp q r.tid x (nothing (net.nodes n)) ≡ d = cc g in
-        simulated p w net stamp n round (RunThread vp q) None d _ is (subst (λ z. Midst p net q n (world_at w net) (under_way net) z []) same (ran_midst p w net s q n (range_below p n (net.nodes n) (RunThread vp q) range) vp r x e f)) (none_left net n (RunThread vp q) (λ i ps. refl))
+        simulated p w net stamp n round (RunThread vp q) None d _ is (subst (λ z. Midst p net (asked_of (RunThread vp q) None) n (world_at w net) (under_way net) z []) same (ran_midst p w net s (asked_of (RunThread vp q) None) n (range_below p n (net.nodes n) (RunThread vp q) range) vp r x e f)) (none_left net n (RunThread vp q) (λ i ps. refl))
         (r, best_is (net.nodes n).places.rows r e, subst (λ (z : Doing). RunsFirst r.tid vp z.labels) same (run-first r.tid vp p n q x (net.nodes n))) s.rising
 
     by_row : (r : Option Row) → best (net.nodes n).places.rows ≡ r → run_picked p n vp q r (net.nodes n) ≡ Some d → Simulates p w net (event stamp n round (RunThread vp q) None d)
@@ -361,9 +365,9 @@ acts_simulate p w net stamp n round (RunThread vp q) None d s range is i h = by_
     by_row (Some r) e g = by_thread r e (lookup (is_tid r.tid) (net.nodes n).threads) refl g
 acts_simulate p w net stamp n round (Take from) (Some x) d s range is i h =
     let same : takes p n from x.body (net.nodes n) ≡ d = cc i in
-    let k : Taken p w net s 0 n from x.body = taken p w net s 0 n from x h in
+    let k : Taken p w net s (asked_of (Take from) (Some x)) n from x.body = taken p w net s (asked_of (Take from) (Some x)) n from x h in
     let accepted : accepts n from x.body (net.nodes n) ≡ d = sym (ap (λ z. cond z (nothing (net.nodes n)) (accepts n from x.body (net.nodes n))) k.expected) ∙ same in
-    simulated p w net stamp n round (Take from) (Some x) d _ is (subst (λ z. Midst p net 0 n (world_at w net) (at_link from n (less_word (word_subject (word_of n x.body))) (under_way net)) z []) accepted k.comes)
+    simulated p w net stamp n round (Take from) (Some x) d _ is (subst (λ z. Midst p net (asked_of (Take from) (Some x)) n (world_at w net) (at_link from n (less_word (word_subject (word_of n x.body))) (under_way net)) z []) accepted k.comes)
     (words_left net n from x h) tt s.rising
 acts_simulate p w net stamp n round (Move t to) None d s range is i h = by_listed (is_listed t (net.nodes n).places.rows) refl i
   where
@@ -372,8 +376,8 @@ acts_simulate p w net stamp n round (Move t to) None d s range is i h = by_liste
     by_thread e (Some x) f g =
         let same : goes p t to x (nothing (net.nodes n)) ≡ d = cc g in
         let inside = range_to p n (net.nodes n) t to range in
-        let k : Sent p w net s 0 n t to x = sent p w net s 0 n t to x e f inside.0 inside.1 in
-        simulated p w net stamp n round (Move t to) None d _ is (subst (λ z. Midst p net 0 n (world_at w net) (under_way net) z []) same k.left) (none_left net n (Move t to) (λ i ps. refl))
+        let k : Sent p w net s (asked_of (Move t to) None) n t to x = sent p w net s (asked_of (Move t to) None) n t to x e f inside.0 inside.1 in
+        simulated p w net stamp n round (Move t to) None d _ is (subst (λ z. Midst p net (asked_of (Move t to) None) n (world_at w net) (under_way net) z []) same k.left) (none_left net n (Move t to) (λ i ps. refl))
         (e, subst (λ (z : Doing). z.labels ≡ Left t to ∷ []) same k.labels) s.rising
 
     by_listed : (v : Bool) → is_listed t (net.nodes n).places.rows ≡ v → cond v (moves_found p t to (lookup (is_tid t) (net.nodes n).threads) (net.nodes n)) None ≡ Some d → Simulates p w net (event stamp n round (Move t to) None d)

@@ -31,7 +31,7 @@ use Rattle.run_trace.specs.Machine.{answer, settles, goes}
 use Rattle.run_trace.specs.Cluster.{Net}
 use Rattle.run_trace.specs.Keyed.{StandsFor, MapStandsFor}
 use Rattle.run_trace.specs.Spots.{Stage, Ready, Running, Due, Served, Told_next, Told_then, Departs, Halts, Stays, Shows, Asks, Awaits, Life, Unborn, On, Moving, Response, Spot, Spots, update, after_label, ran_stage, stage_of_call, second_of, judged_stage, judged_life, judged_guest, told_stage, at_node}
-use Rattle.run_trace.specs.Rules.{MayTell, MayLeave, lowest_free}
+use Rattle.run_trace.specs.Rules.{Occasion, quantum_in, MayTell, MayLeave, lowest_free}
 use Rattle.run_trace.specs.Console.{shown_by}
 use Rattle.run_trace.specs.Stands.{Busy, busy, busy_name, busy_part, thread_part, thread_in_life, thread_in_stage, row_part, row_in_life, row_in_stage, listed, listed_name, word_subject, word_of, way, ways_of, phase_of, held, held_in_stage, holding_of}
 use Rattle.trace_laws.proofs.Tids.{is-true, is-refl}
@@ -41,7 +41,7 @@ use Rattle.trace_laws.proofs.Arriving.{places_after, ran_places}
 use Rattle.run_trace.specs.Causes.{causes, send_to, asked_causes, judged_causes}
 use Rattle.run_trace.specs.World.{World, world_after}
 use Rattle.run_trace.specs.Obeying.{Allows}
-use Rattle.trace_laws.proofs.Midst.{Own, beside, is_next, is_first, Links, Midst, under, LinkStands, Frame, spots_with, labelled, here_kept, agrees_kept, Plain, plain, is_plain, links_kept, Keeps, keeps, put_link, Then, updated}
+use Rattle.trace_laws.proofs.Midst.{having_said, Own, beside, is_next, is_first, Links, Midst, under, LinkStands, Frame, spots_with, labelled, here_kept, agrees_kept, Plain, plain, is_plain, links_kept, Keeps, keeps, put_link, Then, updated}
 use Rattle.trace_laws.proofs.Parts.{at_hand, listed_without, listed_arrived, is_home, home_way, home_quiet, home_plain, home_busy, frame_home, away_thread, away_row, busy_none}
 use Rattle.run_trace.specs.Items.{Thread as Its, is_busy, doer, goes_on_with}
 
@@ -55,7 +55,7 @@ pub second-extra : (o : Option ℕ) → second_of (extra_of o) ≡ o
 second-extra None = refl
 second-extra (Some second) = refl
 
-module _ (p : Program) (net : Net) (q n : ℕ) (w : World) (L : Links) where
+module _ (p : Program) (net : Net) (q : Occasion) (n : ℕ) (w : World) (L : Links) where
   abbrev pub Is : Doing → List Busy → Type 0
   Is d hand = Midst p net q n w L d hand
 
@@ -76,7 +76,7 @@ module _ (p : Program) (net : Net) (q n : ℕ) (w : World) (L : Links) where
   pub moved : (M : Links) (d : Doing) (hand more : List Busy) (l : Label) (t : Tid) (r : Spot) (now : Local) (sends : List Send) (prints : List ℕ)
       → (m : Is d hand)
       → after_label p n l m.now.spots ≡ spots_with (update m.now.spots.threads t r) m.now.spots.slots m.now.spots.births m.now.spots.halts
-      → Allows p q n l m.now
+      → Allows p (having_said d.labels q) n l m.now
       → sends ≡ d.sends ++ causes p n l m.now.spots → prints ≡ d.prints ++ shown_by l m.now.spots
       → Ties m.now.spots t r now more
       → now.names ≡ d.node.names → now.slots.own ≡ d.node.slots.own → now.halted ≡ d.node.halted
@@ -102,7 +102,7 @@ module _ (p : Program) (net : Net) (q n : ℕ) (w : World) (L : Links) where
   pub home_step : (d : Doing) (hand more : List Busy) (l : Label) (t : Tid) (r : Spot) (now : Local) (a b : Stage)
       → (m : Is d hand)
       → after_label p n l m.now.spots ≡ spots_with (update m.now.spots.threads t r) m.now.spots.slots m.now.spots.births m.now.spots.halts
-      → Allows p q n l m.now
+      → Allows p (having_said d.labels q) n l m.now
       → causes p n l m.now.spots ≡ [] → shown_by l m.now.spots ≡ []
       → (spot m.now.spots t).life ≡ On n a → r.life ≡ On n b → is_home a ≡ true → is_home b ≡ true
       → Keeps (held_in_stage a (spot m.now.spots t).guest) (held_in_stage b r.guest)
@@ -129,7 +129,7 @@ module _ (p : Program) (net : Net) (q n : ℕ) (w : World) (L : Links) where
   pub send_step : (d : Doing) (hand more : List Busy) (l : Label) (t : Tid) (r : Spot) (now : Local) (to : ℕ) (body : Body)
       → (m : Is d hand)
       → after_label p n l m.now.spots ≡ spots_with (update m.now.spots.threads t r) m.now.spots.slots m.now.spots.births m.now.spots.halts
-      → Allows p q n l m.now
+      → Allows p (having_said d.labels q) n l m.now
       → causes p n l m.now.spots ≡ send_to to body → shown_by l m.now.spots ≡ []
       → ways_of t (spot m.now.spots t).life (spot m.now.spots t).verdict (spot m.now.spots t).guest ≡ []
       → ways_of t r.life r.verdict r.guest ≡ way n to (word_of to body)
@@ -212,7 +212,7 @@ module _ (p : Program) (net : Net) (q n : ℕ) (w : World) (L : Links) where
   -- ## Replies
 
   pub judge_ok : (d : Doing) (t : Tid) (code : ℕ) (second : Option ℕ) (a b : Stage) (hs : List Busy) → (m : Is d (busy t (On n a) ∷ hs))
-      → Allows p q n (Judged t code (extra_of second)) m.now
+      → Allows p (having_said d.labels q) n (Judged t code (extra_of second)) m.now
       → after_label p n (Judged t code (extra_of second)) m.now.spots ≡ spots_with (update m.now.spots.threads t (record (spot m.now.spots t) { life = On n b; verdict = record { code = code; second = second_of (extra_of second) } })) m.now.spots.slots m.now.spots.births m.now.spots.halts
       → causes p n (Judged t code (extra_of second)) m.now.spots ≡ []
       → is_home a ≡ true → thread_in_stage a (spot m.now.spots t).guest ≡ Some (waits wait.No (spot m.now.spots t).guest) → row_in_stage t a (spot m.now.spots t).guest.priority ≡ None → held_in_stage a (spot m.now.spots t).guest ≡ Some (holding_of (spot m.now.spots t).guest)
@@ -338,7 +338,7 @@ module _ (p : Program) (net : Net) (q n : ℕ) (w : World) (L : Links) where
   -- a reply that changes its thread
   pub settle_ok : (d : Doing) (t : Tid) (code : ℕ) (g : Guest) (c : Call) (hs : List Busy) → (m : Is d (busy t (On n (Served c)) ∷ hs))
       → judged_stage n c ≡ Told_next → judged_guest (On n (Served c)) (spot m.now.spots t).guest ≡ g
-      → Allows p q n (Judged t code Nothing) m.now
+      → Allows p (having_said d.labels q) n (Judged t code Nothing) m.now
       → Keeps (held_in_stage (Served c) (spot m.now.spots t).guest) (Some (holding_of g))
       → Then p net q n w L m.now (Judged t code Nothing) (settle t code g d) (busy t (On n Told_next) ∷ hs)
   unfolding settle keep say
@@ -360,7 +360,7 @@ module _ (p : Program) (net : Net) (q n : ℕ) (w : World) (L : Links) where
   -- and is told at once
   pub settles_ok : (d : Doing) (t : Tid) (code : ℕ) (g : Guest) (c : Call) (hs : List Busy) → (m : Is d (busy t (On n (Served c)) ∷ hs))
       → judged_stage n c ≡ Told_next → judged_guest (On n (Served c)) (spot m.now.spots t).guest ≡ g
-      → Allows p q n (Judged t code Nothing) m.now
+      → Allows p (having_said d.labels q) n (Judged t code Nothing) m.now
       → Keeps (held_in_stage (Served c) (spot m.now.spots t).guest) (Some (holding_of g))
       → Is (settles t code g d) hs
   settles_ok d t code g c hs m next becomes ok holds =
@@ -372,7 +372,7 @@ module _ (p : Program) (net : Net) (q n : ℕ) (w : World) (L : Links) where
 
   -- the run that the thread makes, its label, and what becomes of the thread
   abbrev pub run_now : Spots → Tid → Run
-  run_now v t = run_of (code_of p) q (spot v t).guest.solo.state
+  run_now v t = run_of (code_of p) (quantum_in q.act) (spot v t).guest.solo.state
 
   abbrev pub ran_label : Spots → Tid → ℕ → Label
   ran_label v t vp = Ran t vp (run_now v t).count (run_now v t).stop
@@ -383,10 +383,10 @@ module _ (p : Program) (net : Net) (q n : ℕ) (w : World) (L : Links) where
   ran_same : (v : Spots) (t : Tid) (vp : ℕ) → after_label p n (ran_label v t vp) v
       ≡ spots_with (update v.threads t (ran_with v t (run_now v t).state)) v.slots v.births v.halts
   ran_same v t vp =
-      ap (λ (z : State). spots_with (update v.threads t (ran_with v t z)) v.slots v.births v.halts) (run_stepped (code_of p) q (spot v t).guest.solo.state)
+      ap (λ (z : State). spots_with (update v.threads t (ran_with v t z)) v.slots v.births v.halts) (run_stepped (code_of p) (quantum_in q.act) (spot v t).guest.solo.state)
 
-  ran_allowed : (v : World) (t : Tid) (vp : ℕ) → (spot v.spots t).life ≡ On n Ready → Allows p q n (ran_label v.spots t vp) v
-  ran_allowed v t vp x =
+  ran_allowed : (said : List Label) (v : World) (t : Tid) (vp : ℕ) → (spot v.spots t).life ≡ On n Ready → Allows p (having_said said q) n (ran_label v.spots t vp) v
+  ran_allowed said v t vp x =
       let s : State = (spot v.spots t).guest.solo.state in
       let r : Run = run_now v.spots t in
       record {
@@ -394,14 +394,14 @@ module _ (p : Program) (net : Net) (q n : ℕ) (w : World) (L : Links) where
         holders = tt;
         replies = tt;
         grants = tt;
-        solo = subst (λ (z : State). (after (code_of p) s r.count ≡ Some z) × StopsBy (code_of p) z q r.count r.stop) (sym (run_stepped (code_of p) q s)) ((run_does (code_of p) q s).steps, (run_does (code_of p) q s).stop);
+        solo = subst (λ (z : State). (after (code_of p) s r.count ≡ Some z) × StopsBy (code_of p) z (quantum_in q.act) r.count r.stop) (sym (run_stepped (code_of p) (quantum_in q.act) s)) ((run_does (code_of p) (quantum_in q.act) s).steps, (run_does (code_of p) (quantum_in q.act) s).stop);
       }
 
   -- a run changes nothing of what its thread holds
   ran_holding : (v : Spots) (t : Tid) → Some (holding_of (with_state (run_now v t).state (spot v t).guest)) ≡ Some (holding_of (spot v t).guest)
   ran_holding v t =
       let g : Guest = (spot v t).guest in
-      ap (λ (xs : List ℕ). Some (record { slots = xs; stack = g.solo.stack; live = g.solo.live })) (run_slots (code_of p) q g.solo.state)
+      ap (λ (xs : List ℕ). Some (record { slots = xs; stack = g.solo.stack; live = g.solo.live })) (run_slots (code_of p) (quantum_in q.act) g.solo.state)
 
   -- a run to a call or a fault
   pub ran_ok : (d : Doing) (t : Tid) (vp : ℕ) (b : Stage) → (m : Is d []) → d.labels ≡ [] → ((k : ℕ) (s : Places) → ran_places (run_now m.now.spots t).stop t k s ≡ taken_off t s) → (spot m.now.spots t).life ≡ On n Ready
@@ -416,7 +416,7 @@ module _ (p : Program) (net : Net) (q n : ℕ) (w : World) (L : Links) where
       let s : Spot = spot m.now.spots t in
       let r : Spot = ran_with m.now.spots t (run_now m.now.spots t).state in
       let y : r.life ≡ On n b = ap (λ z. On n z) st in
-      home_step d [] (busy t (On n b) ∷ []) (ran_label m.now.spots t vp) t r _ Ready b m (ran_same m.now.spots t vp) (ran_allowed m.now t vp x) refl refl x y refl home (keeps _ _ (slots ∙ ran_holding m.now.spots t))
+      home_step d [] (busy t (On n b) ∷ []) (ran_label m.now.spots t vp) t r _ Ready b m (ran_same m.now.spots t vp) (ran_allowed d.labels m.now t vp x) refl refl x y refl home (keeps _ _ (slots ∙ ran_holding m.now.spots t))
       (record {
         threads = map_set is_tid is-true is-refl (thread_part n) v.threads t r d.node.threads (waits wait.No s.guest) _ m.here.threads (thread_was s t Ready x) (thread_was r t b y ∙ there);
         rows = subst (λ rows. StandsFor is_tid listed_name (row_part n) rows (update v.threads t r)) (sym (listed_without t d.node.places.rows))
@@ -439,7 +439,7 @@ module _ (p : Program) (net : Net) (q n : ℕ) (w : World) (L : Links) where
       let r : Spot = ran_with m.now.spots t (run_now m.now.spots t).state in
       let y : r.life ≡ On n Ready = ap (λ z. On n z) st in
       let rest : Places = taken_off t d.node.places in
-      (home_step d [] [] (ran_label m.now.spots t vp) t r _ Ready Ready m (ran_same m.now.spots t vp) (ran_allowed m.now t vp x) refl refl x y refl refl (keeps _ _ (ran_holding m.now.spots t))
+      (home_step d [] [] (ran_label m.now.spots t vp) t r _ Ready Ready m (ran_same m.now.spots t vp) (ran_allowed d.labels m.now t vp x) refl refl x y refl refl (keeps _ _ (ran_holding m.now.spots t))
       (record {
         threads = map_set is_tid is-true is-refl (thread_part n) v.threads t r d.node.threads (waits wait.No s.guest) _ m.here.threads (thread_was s t Ready x) (thread_was r t Ready y);
         rows = subst (λ rows. StandsFor is_tid listed_name (row_part n) rows (update v.threads t r)) (sym (listed_arrived t s.guest.priority rest ∙ ap (λ rows. rows ++ (record { tid = t; priority = s.guest.priority }) ∷ []) (listed_without t d.node.places.rows)))

@@ -14,7 +14,8 @@ use Rattle.run_trace.specs.Outcome.{Lives, AllLinksEmpty, WaitsByItsRule, IsStuc
 use Rattle.run_trace.specs.Spots.{Stage, Ready, Running, Due, Served, Told_next, Told_then, Departs, Ends, Leaves, Halts, Stays, Shows, Showing, Shown_there, Asks, Awaits, Answers, Answered, Life, Unborn, On, Moving, Noting, Gone, Response, Spots}
 use Rattle.run_trace.specs.Stands.{Stands, listed, listed_name, row_part, row_in_life, link_part, on_link, ways_of, Way, words_of, words_about, phase_of, phase_at, During, thread_in_life, thread_in_stage, wait_of}
 use Rattle.run_trace.specs.Items.{Thread as Subject_of}
-use Rattle.trace_laws.proofs.Simulate.{picked_ready}
+use Rattle.run_trace.specs.declared.entry.Act.TheVariants.{Boot}
+use Rattle.trace_laws.proofs.Simulate.{asked_of, picked_ready}
 use Rattle.trace_laws.proofs.Wholes.{settled_at}
 use Rattle.trace_laws.proofs.Consequences.{OnNode, on_node_is}
 use Rattle.trace_laws.specs.Obeys.{IsSettled}
@@ -135,7 +136,7 @@ module _ (p : Program) (w : Spots) (net : Net) (s : Stands p w net) where
 
   pub picked_there : (n : ℕ) (r : Row) → best (net.nodes n).places.rows ≡ Some r → (x : Thread) × IsOn net n r.tid x
   picked_there n r picked =
-      (waits (wait_of Ready) (w.threads r.tid).guest, (s.nodes n).threads.shows r.tid ∙ ap (λ z. thread_in_life n z (w.threads r.tid).guest) (picked_ready p w net s 0 n r picked) ∙ (rw (eq-eqb n n refl) refl))
+      (waits (wait_of Ready) (w.threads r.tid).guest, (s.nodes n).threads.shows r.tid ∙ ap (λ z. thread_in_life n z (w.threads r.tid).guest) (picked_ready p w net s (asked_of Boot None) n r picked) ∙ (rw (eq-eqb n n refl) refl))
 
   -- a thread has called halt exactly where a node says so
   pub halts_are : (n : ℕ) → (net.nodes n).halted ≡ w.halts n

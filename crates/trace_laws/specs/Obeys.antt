@@ -18,7 +18,8 @@ use Rattle.run_trace.specs.Items.{is_busy}
 use Rattle.run_trace.specs.Stands.{listed}
 use Rattle.run_trace.specs.World.{World, world_after}
 use Rattle.run_trace.specs.Causes.{causes}
-use Rattle.run_trace.specs.Rules.{Rule, quantum_in, SoloRule, HoldersRule, LifeRule, RepliesRule, GrantsRule, spots_of}
+use Rattle.run_trace.specs.Obeying.{occasion}
+use Rattle.run_trace.specs.Rules.{Rule, Occasion, saying, SoloRule, HoldersRule, LifeRule, RepliesRule, GrantsRule, spots_of}
 
 -- ## Picks: the best of the run list runs; a thread that is sent away is on it
 
@@ -56,9 +57,9 @@ EachSettled p old [] = ⊤
 EachSettled p old (x ∷ xs) = EachSettled p old xs × ((t : Tid) → IsSettled ((spots_of p old (x ∷ xs)).threads t).life)
 
 -- each label obeys the rule
-abbrev pub ObeyEach : Rule → Program → (quantum n : ℕ) → List Label → World → Type 0
-ObeyEach rule p quantum n [] w = ⊤
-ObeyEach rule p quantum n (l ∷ ls) w = rule p quantum n l w × ObeyEach rule p quantum n ls (world_after p n l w)
+abbrev pub ObeyEach : Rule → Program → Occasion → (n : ℕ) → List Label → World → Type 0
+ObeyEach rule p o n [] w = ⊤
+ObeyEach rule p o n (l ∷ ls) w = rule p o n l w × ObeyEach rule p (saying l o) n ls (world_after p n l w)
 
 -- these spots, with the run lists and links of the nodes
 abbrev pub world_at : Spots → Net → World
@@ -73,7 +74,7 @@ world_at w net = record {
 abbrev pub Obey : Rule → Program → Spots → Net → List Entry → Type 0
 Obey rule p old base [] = ⊤
 Obey rule p old base (x ∷ xs) = Obey rule p old base xs
-    × ObeyEach rule p (quantum_in x.act) x.node x.labels (world_at (spots_of p old xs) (net_after_trace p base xs))
+    × ObeyEach rule p (occasion x (world_at (spots_of p old xs) (net_after_trace p base xs))) x.node x.labels (world_at (spots_of p old xs) (net_after_trace p base xs))
 
 -- the rules, for a trace after what was told of old, of a cluster that had come to base
 pub record ObeysFrom (p : Program) (old : Spots) (base : Net) (lines : List Entry) : Type 0 where
