@@ -16,17 +16,15 @@ use Rattle.run_trace.specs.declared.label.Label.TheVariants.{Born, Ran, Asked, H
 use Rattle.run_trace.specs.declared.label.Why.{Why}
 use Rattle.run_trace.specs.declared.label.Why.TheVariants as why
 use Rattle.run_trace.specs.declared.label.Extra.{Extra}
-use Rattle.run_trace.specs.declared.packet.Body.{Body}
-use Rattle.run_trace.specs.declared.packet.Body.TheVariants.{Mover, Show, ShowDone, JoinAsk, Answer, EndNote}
 use Rattle.run_trace.specs.declared.packet.Packet.{Packet}
 use Rattle.run_trace.specs.Names.{tid}
 use Rattle.run_trace.specs.Program.{Program, nodes_of, code_of}
-use Rattle.run_trace.specs.Guests.{Solo, Guest, stack_end, guest_slots, heap_of, slots_for, packed}
+use Rattle.run_trace.specs.Guests.{Solo, Guest, stack_end, guest_slots, heap_of, slots_for}
 use Rattle.run_trace.specs.declared.call.Call.{Call}
 use Rattle.run_trace.specs.declared.call.Call.TheVariants.{Create, Isomalloc, Isofree, MigrateSelf}
 use Rattle.run_trace.specs.Calls.{extra_of, place_code, call_of, number_of, args_of, refusal, said_bytes}
-use Rattle.run_trace.specs.World.{World, world_after}
-use Rattle.run_trace.specs.Spots.{Stage, Ready, Running, Due, Served, Told_next, Told_then, Departs, Ends, Leaves, Halts, Shows, Showing, Shown_there, Asks, Awaits, Answers, Answered, Life, Unborn, On, Moving, Noting, Spots, Holder, Of_node, Of_thread, stepped, stage_of_call, after_label, after_labels}
+use Rattle.run_trace.specs.World.{World}
+use Rattle.run_trace.specs.Spots.{Ready, Running, Due, Served, Told_next, Told_then, Departs, Ends, Leaves, Halts, Shows, Showing, Shown_there, Asks, Awaits, Answers, Answered, Life, Unborn, On, Moving, Noting, Spots, Holder, Of_node, Of_thread, stepped, after_labels}
 
 abbrev pub quantum_in : Act → ℕ
 quantum_in (Run vp quantum) = quantum

@@ -1,5 +1,5 @@
 -- What a trace tells: what its labels tell, entry by entry.
-use Rattle.std.specs.Prelude.{ℕ, List, [], ◌∷◌, ◌++◌, true, false, ◌==◌, if◌then◌else◌}
+use Rattle.std.specs.Prelude.{List, [], ◌∷◌, ◌++◌, true, false, ◌==◌, if◌then◌else◌}
 use Rattle.run_trace.specs.declared.entry.Entry.{Entry}
 use Rattle.run_trace.specs.Program.{Program}
 use Rattle.run_trace.specs.Spots.{after_labels, at_first}

@@ -31,7 +31,7 @@ use Rattle.run_trace.specs.Steps.{tell, tell_found, hears, knows, comes, shows, 
 use Rattle.run_trace.specs.Machine.{local_event, acts, is_range, boots, boots_in, free_slot, run_picked, run_found, run_thread, moves_found, takes, accepts, is_stray, is_waiting, judges_join, tells_joiner}
 use Rattle.run_trace.specs.Cluster.{Net, net_after, next_packet, after_or, IsTaken}
 use Rattle.run_trace.specs.Trace.{IsRun, Fits, net_after_trace, event_of}
-use Rattle.run_trace.specs.Rules.{Occasion, saying, quantum_in, spots_of}
+use Rattle.run_trace.specs.Rules.{Occasion, saying, spots_of}
 use Rattle.run_trace.specs.Spots.{Spots, after_label, after_labels}
 use Rattle.run_trace.specs.Stands.{Stands, listed}
 use Rattle.trace_laws.proofs.Arriving.{picked_is, picks_it, on_list_is, list_is_all}

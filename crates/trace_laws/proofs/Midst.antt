@@ -1,5 +1,5 @@
 -- An event in its midst: what holds of it, and the one lemma for a label.
-use Rattle.std.proofs.Common.{◌≡◌, ℕ, List, [], ◌∷◌, ◌++◌, Option, Some, None, Bool, true, false, eqb, cond, ◌&&◌, refl, sym, ap, ◌∙◌, subst, append_assoc, map}
+use Rattle.std.proofs.Common.{◌≡◌, ℕ, List, [], ◌∷◌, ◌++◌, Option, Some, Bool, true, false, eqb, cond, ◌&&◌, refl, sym, ap, ◌∙◌, subst, append_assoc, map}
 use Rattle.std.specs.Prelude.{slice_get, ⊤}
 use Rattle.std.proofs.lemmas.Bool.{eqb-true}
 use Rattle.std.proofs.lemmas.List.{append-nil}
@@ -14,11 +14,10 @@ use Rattle.run_trace.specs.Names.{is_tid}
 use Rattle.run_trace.specs.Program.{Program}
 use Rattle.run_trace.specs.Local.{Local, Doing}
 use Rattle.run_trace.specs.Cluster.{Net}
-use Rattle.run_trace.specs.Keyed.{StandsFor}
 use Rattle.run_trace.specs.Spots.{Stays, Life, Awaits, Unborn, On, Spot, Spots, Holder, update, after_label, after_labels}
 use Rattle.run_trace.specs.Rules.{Occasion, saying, Rule, SoloRule, HoldersRule, LifeRule, RepliesRule, GrantsRule, is_free}
 use Rattle.run_trace.specs.World.{World, world_after}
-use Rattle.trace_laws.specs.Obeys.{world_at, ObeyEach, all_causes}
+use Rattle.trace_laws.specs.Obeys.{ObeyEach, all_causes}
 use Rattle.run_trace.specs.Console.{shown_by, shown_by_all}
 use Rattle.run_trace.specs.Places.{Places, IsRising}
 use Rattle.trace_laws.proofs.Arriving.{places_after, places_after_all, rising_after}

@@ -1,5 +1,5 @@
 -- Nothing happens outside the cluster's nodes.
-use Rattle.std.proofs.Common.{◌≡◌, ℕ, ◌<◌, ◌≤◌, ◌/◌, ◌^◌, ◌⊎◌, inl, inr, List, [], ◌∷◌, ◌++◌, Option, Some, None, Bool, true, false, eqb, ltb, cond, refl, sym, ap, ◌∙◌, subst, arith}
+use Rattle.std.proofs.Common.{◌≡◌, ℕ, ◌<◌, ◌≤◌, ◌/◌, ◌^◌, ◌⊎◌, inl, inr, List, [], ◌∷◌, ◌++◌, Option, Some, None, Bool, true, false, eqb, ltb, cond, refl, sym, ap, subst, arith}
 use Rattle.std.specs.Prelude.{nat_lt, slice_get}
 use Rattle.std.specs.Map.{lookup}
 use Rattle.std.proofs.lemmas.Bool.{ne_eqb, ltb-true, ltb-false}
@@ -21,19 +21,18 @@ use Rattle.run_trace.specs.declared.label.Label.TheVariants.{Born, Ran, Asked, H
 use Rattle.run_trace.specs.declared.label.Why.{Why}
 use Rattle.run_trace.specs.declared.label.Why.TheVariants as why
 use Rattle.run_trace.specs.declared.packet.Packet.{Packet}
-use Rattle.run_trace.specs.declared.packet.Send.{Send}
 use Rattle.run_trace.specs.Names.{is_tid}
 use Rattle.run_trace.specs.Program.{Program, nodes_of}
 use Rattle.run_trace.specs.Guests.{Solo, Thread}
 use Rattle.run_trace.specs.Calls.{call_of, refusal}
 use Rattle.run_trace.specs.Local.{Local, fresh}
 use Rattle.run_trace.specs.Cluster.{Net, fresh_net}
-use Rattle.run_trace.specs.Trace.{IsRun, net_after_trace, sends_or, done_for}
+use Rattle.run_trace.specs.Trace.{IsRun, net_after_trace}
 use Rattle.run_trace.specs.Holding.{IsOn}
-use Rattle.run_trace.specs.Spots.{Stage, Asks, Shows, Showing, Answers, Life, On, Moving, Spot, Spots, update, creator_served, joiner_served, heard_at, judged_life, told_stage, gave_life, shown_life, ran_stage, stage_of_call, asked_stage, passed_stage, end_in, at_first, after_label, after_labels}
+use Rattle.run_trace.specs.Spots.{Stage, Asks, Life, On, Moving, Spot, Spots, update, creator_served, joiner_served, heard_at, judged_life, told_stage, gave_life, shown_life, ran_stage, stage_of_call, asked_stage, passed_stage, end_in, at_first, after_label, after_labels}
 use Rattle.run_trace.specs.World.{World, world_after}
-use Rattle.trace_laws.specs.Obeys.{Obey, world_at, ObeyEach, all_causes}
-use Rattle.run_trace.specs.Rules.{Occasion, saying, LifeRule, quantum_in, spots_of}
+use Rattle.trace_laws.specs.Obeys.{Obey, world_at, ObeyEach}
+use Rattle.run_trace.specs.Rules.{Occasion, saying, LifeRule, spots_of}
 use Rattle.run_trace.specs.Obeying.{occasion}
 use Rattle.run_trace.specs.Items.{Subject, Thread as Thread_of}
 use Rattle.run_trace.specs.Stands.{Stands, word_subject, word_of, Word, Travels, Line, Line_shown, Joins, Reply as Reply_word, Ended_word}
@@ -41,8 +40,7 @@ use Rattle.trace_laws.proofs.Parts.{Tells}
 use Rattle.trace_laws.proofs.Simulate.{event_below, first_tells}
 use Rattle.trace_laws.proofs.Wholes.{Whole, run_whole, starts}
 use Rattle.trace_laws.proofs.Stillness.{is_there}
-use Rattle.run_trace.specs.Links.{first_of, rest_of, left_after, packets_to}
-use Rattle.run_trace.specs.Causes.{causes, asked_causes, judged_causes}
+use Rattle.run_trace.specs.Links.{first_of, rest_of, left_after}
 
 -- ## A join names a thread of the cluster, and a thread moves to a node of it
 

@@ -1,5 +1,5 @@
 -- What a link has of one subject, in order, when a packet comes as the last or the first is taken.
-use Rattle.std.proofs.Common.{◌≡◌, ◌⊎◌, inl, inr, ℕ, List, [], ◌∷◌, ◌++◌, Bool, true, false, eqb, cond, ◌&&◌, refl, sym, ap, ◌∙◌, subst}
+use Rattle.std.proofs.Common.{◌≡◌, ◌⊎◌, inl, inr, ℕ, List, [], ◌∷◌, ◌++◌, Bool, true, false, eqb, cond, ◌&&◌, refl, sym, ap, ◌∙◌}
 use Rattle.std.proofs.lemmas.Bool.{eqb-true}
 use Rattle.run_trace.specs.Items.{Subject, Thread, same_subject}
 use Rattle.run_trace.specs.Stands.{Word, word_subject, words_about, Way, on_link}

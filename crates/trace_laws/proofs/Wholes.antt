@@ -1,6 +1,6 @@
 -- The whole run: order and run give the whole of legality.
 use Rattle.std.proofs.Common.{◌≡◌, ℕ, ◌%◌, List, [], ◌∷◌, ◌++◌, Some, None, true, false, eqb, ltb, cond, refl, sym, ap, ◌∙◌, subst, arith}
-use Rattle.std.proofs.lemmas.Bool.{eq-eqb, ltb-true}
+use Rattle.std.proofs.lemmas.Bool.{ltb-true}
 use Rattle.slot_space.specs.Sets.{has, run}
 use Rattle.slot_space.specs.Places.{starting_slots}
 use Rattle.slot_space.specs.declared.names.Tid.{Tid}
@@ -12,10 +12,10 @@ use Rattle.run_trace.specs.Program.{Program, nodes_of, slots_in}
 use Rattle.run_trace.specs.Local.{Doing}
 use Rattle.run_trace.specs.Cluster.{Event, Net, net_after, fresh_net, next_packet}
 use Rattle.run_trace.specs.Trace.{IsRun, event_of, events_of, net_after_trace, sends_or, done_for}
-use Rattle.run_trace.specs.Spots.{Ready, Running, Due, Served, Told_next, Told_then, Departs, Ends, Leaves, Halts, Stays, Shows, Showing, Shown_there, Asks, Awaits, Answers, Answered, Life, Unborn, On, Moving, Noting, Gone, Spots, Of_node, Nobody, unborn, at_first, first_holder}
+use Rattle.run_trace.specs.Spots.{Spots, Of_node, Nobody, unborn, at_first, first_holder}
 use Rattle.run_trace.specs.Rules.{is_free, spots_of}
 use Rattle.run_trace.specs.Console.{console_of, printed}
-use Rattle.run_trace.specs.Stands.{Stands, link_part, busy_part, busy, is_thread}
+use Rattle.run_trace.specs.Stands.{Stands, link_part, busy, is_thread}
 use Rattle.run_trace.specs.Holding.{EachHeldOnce}
 use Rattle.run_trace.specs.Alone.{EachRunsAlone}
 use Rattle.run_trace.specs.Legality.{AfterEach}
