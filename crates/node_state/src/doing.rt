@@ -3,8 +3,8 @@
 ghost use Rattle.std.specs.Prelude.{◌≡◌, ◌<◌, ◌≤◌, ◌%◌, ◌∷◌, [], IfOk, IfSome, None};
 ghost use Rattle.run_trace.specs.Local.{nothing, with_booted};
 ghost use Rattle.run_trace.specs.Guests.{stack_end, unwaiting};
-ghost use Rattle.run_trace.specs.Steps.{say, put, arrive, take_off, thread_at, at_thread, thread_in, thread_out, slots_out, slots_in, name_in, change_name, next_name, birth, asks, asks_show, asks_join, halts, judge, extra_of, tell, reply_by_link, line_of, shows, acknowledges, hears, knows};
-ghost use Rattle.run_trace.specs.Calls.{number_of, args_of};
+ghost use Rattle.run_trace.specs.Steps.{say, put, arrive, take_off, thread_at, at_thread, thread_in, thread_out, slots_out, slots_in, name_in, change_name, next_name, birth, asks, asks_show, asks_join, halts, judge, tell, reply_by_link, line_of, shows, acknowledges, hears, knows};
+ghost use Rattle.run_trace.specs.Calls.{args_of, extra_of, number_of};
 ghost use Rattle.run_trace.specs.declared.label.Label.TheVariants as label_of;
 ghost use Rattle.run_trace.specs.Machine.{free_slot, end_thread};
 ghost use Rattle.marcel_core.specs.Homes.{joined as joined_by, ended as ended_by};
