@@ -64,14 +64,14 @@ on_node_is n t s x h = by s.life refl h
 
 -- ## Where a thread is, its life and its guest are those that are told
 
-abbrev LivesAt : Place → Life → Type 0
+abbrev pub LivesAt : Place → Life → Type 0
 LivesAt (On_node n) life = (stage : Stage) × (life ≡ On n stage)
 LivesAt (On_link from to) life = life ≡ Moving from to
 
-record Found (place : Place) (s : Spot) (g : Guest) : Type 0 where
-  life : LivesAt place s.life
-  guest : s.guest ≡ g
-  slots : slots_held (held s.life s.guest) ≡ guest_slots g
+pub record Found (place : Place) (s : Spot) (g : Guest) : Type 0 where
+  pub life : LivesAt place s.life
+  pub guest : s.guest ≡ g
+  pub slots : slots_held (held s.life s.guest) ≡ guest_slots g
 
 -- what a packet on a link says stands there once
 word_found : (j : ℕ) (ps : List Packet) (body : Body) → AreApart is_tid word_name (words_of j ps) → IsAmong body ps → item_of is_tid word_name (words_of j ps) (word_name (word_of j body)) ≡ Some (word_of j body)
@@ -88,7 +88,7 @@ word_found j (x ∷ xs) body a i = elim i as (λ v. item_of is_tid word_name (wo
     by true e f = absurd (cc (f, a.0, ap (item_of is_tid word_name (words_of j xs)) (is-true t (word_name (word_of j x.body)) e)))
     by false e f = f
 
-found : (p : Program) (w : Spots) (net : Net) → Stands p w net → (place : Place) (t : Tid) (g : Guest) → IsAt net place t g → Found place (w.threads t) g
+pub found : (p : Program) (w : Spots) (net : Net) → Stands p w net → (place : Place) (t : Tid) (g : Guest) → IsAt net place t g → Found place (w.threads t) g
 found p w net s (On_node n) t g h =
     let on : OnNode n (w.threads t) (waits h.0 g) = on_node_is n t (w.threads t) (waits h.0 g) (sym ((s.nodes n).threads.shows t) ∙ h.1) in
     record { life = (on.stage, on.life); guest = on.guest; slots = on.slots }

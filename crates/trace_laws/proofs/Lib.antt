@@ -25,3 +25,6 @@ pub mod Beginnings
 pub mod NoStrays
 pub mod NothingOutside
 pub mod RunLists
+pub mod OwnLives
+pub mod OwnLabels
+pub mod SameLives

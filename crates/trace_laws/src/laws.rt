@@ -7,7 +7,7 @@ ghost use Rattle.rv_step.specs.declared.hart.Stop.{Stop};
 ghost use Rattle.slot_space.specs.declared.names.Tid.{Tid};
 ghost use Rattle.run_trace.specs.declared.entry.Entry.{Entry};
 ghost use Rattle.run_trace.specs.declared.node.Row.{Row};
-ghost use Rattle.run_trace.specs.Program.{Program, nodes_of};
+ghost use Rattle.run_trace.specs.Program.{Program, code_of, nodes_of};
 ghost use Rattle.trace_laws.specs.Beginnings.{BeginsSo};
 ghost use Rattle.trace_laws.specs.Gathers.{events_in, Gathers};
 ghost use Rattle.trace_laws.specs.Strays.{AllExpected};
@@ -22,6 +22,7 @@ ghost use Rattle.run_trace.specs.Local.{fresh};
 ghost use Rattle.run_trace.specs.Outcome.{AllLinksEmpty, IsStuck, Lives};
 ghost use Rattle.run_trace.specs.Places.{best, is_listed};
 ghost use Rattle.run_trace.specs.Rules.{spots_of};
+ghost use Rattle.run_trace.specs.Same.{HasLivedLike, HasWritten, lived};
 ghost use Rattle.run_trace.specs.Spots.{On, Spots, Stage, at_first};
 ghost use Rattle.run_trace.specs.Stands.{Stands};
 ghost use Rattle.run_trace.specs.Trace.{IsRun, entry_of, events_of, Fits, net_after_trace};
@@ -79,6 +80,15 @@ pub fn one_holder()
 /// replies that it was told.
 pub fn alone()
     ensures { (p : Program) (lines : List Entry) → Legal p lines → EachRunsAlone p (net_after_trace p (fresh_net p) lines) lines }
+{}
+
+/// No thread can tell where it is, who it is or what has moved, but by asking: in two legal traces of one image, whatever their
+/// nodes, slots, order, preemptions and moves, two threads that were born the same, were given the same slots and the same
+/// replies, and have done as many instructions have the same registers, bytes and blocks, wherever they are, and have written
+/// the same lines.
+pub fn same_wherever()
+    ensures guest { (p q : Program) (xs ys : List Entry) → Legal p xs → Legal q ys → code_of p ≡ code_of q → (t u : Tid) → HasLivedLike (lived t xs) (lived u ys) → (a b : Place) (g h : Guest) → IsAt (net_after_trace p (fresh_net p) xs) a t g → IsAt (net_after_trace q (fresh_net q) ys) b u h → g.solo ≡ h.solo }
+    ensures lines { (p q : Program) (xs ys : List Entry) → Legal p xs → Legal q ys → code_of p ≡ code_of q → (t u : Tid) → HasLivedLike (lived t xs) (lived u ys) → (before : List (List ℕ)) × (next : List ℕ) × HasWritten p xs t before next × HasWritten q ys u before next }
 {}
 
 /// What does a run's steps and stops by a run's reason is the run that the machine makes.

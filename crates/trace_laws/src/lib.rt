@@ -6,5 +6,5 @@ mod laws;
 
 pub use laws::{
     alone, begun, expected, gathered, inside, joined, judged, legal, merged, one_holder, picked,
-    quiet, ran, ready, started, whole,
+    quiet, ran, ready, same_wherever, started, whole,
 };
