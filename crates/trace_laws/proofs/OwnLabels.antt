@@ -1,6 +1,6 @@
 -- What the labels tell of a thread is what it comes to by what it has lived through: each label keeps it.
-use Rattle.std.proofs.Common.{◌≡◌, ℕ, zero, suc, ◌+◌, ◌*◌, ◌/◌, ◌<◌, ◌⊎◌, List, [], ◌∷◌, ◌++◌, Option, Some, None, Bool, true, false, eqb, ltb, cond, not, refl, sym, ap, ◌∙◌, subst, arith, inl, inr, filter}
-use Rattle.std.specs.Prelude.{slice_get, nat_lt, unwrap_or}
+use Rattle.std.proofs.Common.{◌≡◌, ℕ, zero, suc, ◌+◌, ◌*◌, ◌/◌, ◌<◌, ◌⊎◌, List, [], ◌∷◌, ◌++◌, Option, Some, None, Bool, true, false, eqb, cond, refl, sym, ap, ◌∙◌, subst, arith, inl, inr}
+use Rattle.std.specs.Prelude.{slice_get, unwrap_or}
 use Rattle.std.specs.Option.{option_and_then, option_map}
 use Rattle.std.proofs.lemmas.List.{append-nil}
 use Rattle.std.proofs.lemmas.Bool.Decides.{nat_tests}
@@ -15,19 +15,18 @@ use Rattle.marcel_core.specs.declared.birth.Verdict.{Verdict}
 use Rattle.marcel_core.specs.declared.birth.Verdict.TheVariants as verdicts
 use Rattle.marcel_core.specs.declared.end.End.{End}
 use Rattle.marcel_core.specs.Homes.{verdict, joiner}
-use Rattle.slot_space.specs.Sets.{run, has, lowest_run}
+use Rattle.slot_space.specs.Sets.{run, lowest_run}
 use Rattle.slot_space.specs.Places.{slot_base}
 use Rattle.slot_space.specs.Replies.{reply_code, tid_value}
 use Rattle.slot_space.specs.declared.names.Tid.{Tid}
 use Rattle.slot_space.specs.declared.names.Reply.{Reply}
-use Rattle.slot_space.specs.declared.names.Reply.TheVariants as replies
 use Rattle.slot_space.proofs.Runs.{lowest_run-found}
 use Rattle.iso_blocks.specs.Heap.{Heap, rounded, place, placed, has_room, with_block, without, emptied}
 use Rattle.run_trace.specs.declared.call.Call.{Call}
 use Rattle.run_trace.specs.declared.call.Call.TheVariants.{Exit, Name, Node, Nodes, Yield, Create, Join, Isomalloc, Isofree, MigrateSelf, Print, Halt, Unknown}
 use Rattle.run_trace.specs.declared.label.Extra.{Extra}
 use Rattle.run_trace.specs.declared.label.Label.{Label}
-use Rattle.run_trace.specs.declared.label.Label.TheVariants.{Born, Ran, Asked, Heard, Judged, Told, Took, Gave, Ended, Known, Left, Came, Lent, InHand, Decided, Returned, Home, Down, Burst, Gathered, Shown, Halted, Dropped}
+use Rattle.run_trace.specs.declared.label.Label.TheVariants.{Born, Ran, Asked, Heard, Judged, Told, Took, Gave, Ended, Known, Left, Came, Shown, Halted}
 use Rattle.run_trace.specs.declared.label.Why.{Why}
 use Rattle.run_trace.specs.declared.label.Why.TheVariants as why
 use Rattle.run_trace.specs.Names.{is_tid}
@@ -39,10 +38,10 @@ use Rattle.run_trace.specs.Console.{asked_bytes}
 use Rattle.run_trace.specs.Same.{Start, Stretch, Lived, lived_then, written_then}
 use Rattle.run_trace.specs.Alone.{subject, is_subject}
 use Rattle.run_trace.specs.Rules.{IsBorn, MayHear, MayJudge, MayTell, MayTake, MayGive, MayLeave, MayCome, MayShow, MayKnow, JoinerAwaits, IsReply, SoloRule, LifeRule, RepliesRule}
-use Rattle.run_trace.specs.Spots.{Stage, Ready, Running, Due, Served, Told_next, Told_then, Departs, Ends, Leaves, Halts, Stays, Shows, Showing, Shown_there, Asks, Awaits, Answers, Answered, Life, Unborn, On, Moving, Noting, Gone, Response, Spot, Spots, update, creator_served, priority_by, joiner_served, born_spot, ran_spot, ran_stage, stepped, passed_stage, asked_stage, stage_of_call, heard_life, heard_at, judged_stage, judged_life, judged_guest, told_stage, gave_life, shown_life, end_in, second_of, after_label}
+use Rattle.run_trace.specs.Spots.{Stage, Ready, Running, Due, Served, Told_next, Told_then, Departs, Ends, Leaves, Halts, Stays, Shows, Showing, Shown_there, Asks, Awaits, Answers, Answered, Life, Unborn, On, Moving, Noting, Gone, Response, Spot, Spots, creator_served, priority_by, joiner_served, born_spot, ran_spot, ran_stage, stepped, passed_stage, asked_stage, stage_of_call, heard_life, heard_at, judged_life, judged_guest, told_stage, gave_life, shown_life, end_in, second_of, after_label}
 use Rattle.trace_laws.proofs.Tids.{is-true}
 use Rattle.trace_laws.proofs.Heaps.{gave_all}
-use Rattle.trace_laws.proofs.OwnLives.{began, with_slots, free_of, is_address, allotted, given_to, goes_on, ran_on, answered_with, solo_after, printed_by, printed_at, named_line, lines_after, CallsAt, EachCalls}
+use Rattle.trace_laws.proofs.OwnLives.{began, with_slots, free_of, is_address, allotted, given_to, goes_on, ran_on, answered_with, solo_after, printed_by, printed_at, named_line, lines_after, EachCalls}
 
 -- ## Steps
 

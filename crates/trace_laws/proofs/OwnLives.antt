@@ -1,7 +1,7 @@
 -- A thread's life by what it was given alone: what it comes to with these slots and replies, and what it writes. Two lives
 -- with the same gifts and as many instructions are one.
-use Rattle.std.proofs.Common.{◌≡◌, ℕ, zero, suc, ◌+◌, ◌<◌, List, [], ◌∷◌, ◌++◌, Option, Some, None, Bool, true, false, eqb, ltb, cond, refl, sym, ap, ◌∙◌, subst, arith, map}
-use Rattle.std.specs.Prelude.{nat_lt, ◌==◌, if◌then◌else◌, unwrap_or, ⊤}
+use Rattle.std.proofs.Common.{◌≡◌, ℕ, suc, ◌+◌, List, [], ◌∷◌, ◌++◌, Some, Bool, true, false, refl, sym, ap, ◌∙◌, subst, arith, map}
+use Rattle.std.specs.Prelude.{nat_lt, ◌==◌, if◌then◌else◌, ⊤}
 use Rattle.rv_step.specs.Access.{bytes_from}
 use Rattle.rv_step.specs.Step.{State, Call as ecall, step_of}
 use Rattle.rv_step.specs.Run.{after}
@@ -14,9 +14,9 @@ use Rattle.run_trace.specs.declared.call.Call.TheVariants.{Isomalloc, Isofree, P
 use Rattle.run_trace.specs.declared.label.Extra.{Extra}
 use Rattle.run_trace.specs.Calls.{call_of}
 use Rattle.run_trace.specs.Guests.{Solo, Run, newborn, stack_end, run_of, with_zero_slots, without_slots, heap_of}
-use Rattle.run_trace.specs.Same.{Start, Gift, Stretch, Lived, HasLivedLike, gifts, instructions, instructions_of}
+use Rattle.run_trace.specs.Same.{Start, Gift, Stretch, Lived, HasLivedLike, instructions_of}
 use Rattle.run_trace.specs.Spots.{stepped, second_of}
-use Rattle.trace_laws.proofs.RunLemmas.{Does, run_is}
+use Rattle.trace_laws.proofs.RunLemmas.{run_is}
 
 -- ## What it comes to
 

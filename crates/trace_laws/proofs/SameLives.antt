@@ -1,5 +1,5 @@
 -- Two threads that have lived through the same are the same, and have written the same.
-use Rattle.std.proofs.Common.{◌≡◌, ℕ, List, [], ◌∷◌, ◌++◌, Option, Some, None, Bool, true, false, cond, refl, sym, ap, ◌∙◌, subst, arith}
+use Rattle.std.proofs.Common.{◌≡◌, ℕ, List, [], ◌∷◌, ◌++◌, cond, refl, sym, ap, ◌∙◌, subst, arith}
 use Rattle.slot_space.specs.declared.names.Tid.{Tid}
 use Rattle.run_trace.specs.declared.entry.Entry.{Entry}
 use Rattle.run_trace.specs.declared.label.Label.{Label}
@@ -12,13 +12,13 @@ use Rattle.run_trace.specs.Holding.{Place, On_node, On_link, IsAt}
 use Rattle.run_trace.specs.Legality.{Legal}
 use Rattle.run_trace.specs.Rules.{spots_of, SoloRule, LifeRule, RepliesRule, ObeyEach, Obey, IsSettled, quantum_in}
 use Rattle.run_trace.specs.Same.{Start, Stretch, Lived, lived_then, lived_in, lived, written_then, written_in, written, IsUpTo, HasLivedLike, HasWritten}
-use Rattle.run_trace.specs.Spots.{Stage, Ready, Running, Due, Served, Told_next, Told_then, Departs, Ends, Leaves, Halts, Stays, Shows, Showing, Shown_there, Asks, Awaits, Answers, Answered, Life, Unborn, On, Moving, Noting, Gone, Response, Spot, Spots, at_first, after_label, after_labels}
+use Rattle.run_trace.specs.Spots.{Stage, Ready, Stays, Shows, Shown_there, Asks, Awaits, Answered, Life, Unborn, On, Moving, Noting, Gone, Response, Spots, at_first, after_label, after_labels}
 use Rattle.run_trace.specs.Stands.{Stands}
 use Rattle.run_trace.specs.Trace.{net_after_trace}
 use Rattle.trace_laws.proofs.Consequences.{Found, found, LivesAt}
 use Rattle.trace_laws.proofs.OwnLives.{ran_on, solo_after, named_line, lines_after, EachCalls, SamePast, same_past}
 use Rattle.trace_laws.proofs.OwnLabels.{Comes, lines_before, LifeTale, Tale, came_so, label_tale}
-use Rattle.trace_laws.proofs.Wholes.{settled_at, starts, run_whole, Whole}
+use Rattle.trace_laws.proofs.Wholes.{settled_at, starts, run_whole}
 
 -- ## Over a trace
 
