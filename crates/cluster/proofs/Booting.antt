@@ -8,7 +8,7 @@ use Rattle.run_trace.specs.declared.entry.Entry.{Entry}
 use Rattle.run_trace.specs.declared.label.Label.{Label}
 use Rattle.run_trace.specs.declared.packet.Packet.{Packet}
 use Rattle.run_trace.specs.declared.packet.Send.{Send}
-use Rattle.run_trace.specs.Cluster.{Net, fresh_net, after_or, packets_to, sent, received}
+use Rattle.run_trace.specs.Cluster.{Net, fresh_net, after_or, sent, received}
 use Rattle.run_trace.specs.Console.{console_of, printed}
 use Rattle.run_trace.specs.Histories.{own_entries, seen}
 use Rattle.run_trace.specs.Legality.{boot_entry, boot_entries}
@@ -32,6 +32,7 @@ use Rattle.cluster.specs.Between.{AllOf, AreNumbered, AreReady, HasBegun, HaveBe
 use Rattle.cluster.specs.Standing.{StandsFor, IsNodeOf, entries_at, net_after, newest_stamp, newest_round}
 use Rattle.cluster.specs.View.{ClusterView, view_of, ends_of, console_at}
 use Rattle.cluster.proofs.Lists.{wires-get, wires-length}
+use Rattle.run_trace.specs.Links.{packets_to}
 
 -- ## One node
 

@@ -10,7 +10,7 @@ use Rattle.run_trace.specs.declared.packet.Packet.{Packet}
 use Rattle.run_trace.specs.Program.{Program, nodes_of}
 use Rattle.run_trace.specs.Local.{Local, Doing}
 use Rattle.run_trace.specs.Machine.{local_event, turn_event, is_beyond, stamp_limit, is_range}
-use Rattle.run_trace.specs.Cluster.{Net, fresh_net, after_or, first_of, next_packet, IsTaken}
+use Rattle.run_trace.specs.Cluster.{Net, fresh_net, after_or, next_packet, IsTaken}
 use Rattle.run_trace.specs.Console.{console_of, printed}
 use Rattle.run_trace.specs.Histories.{seen, IsShape, IsInOrder}
 use Rattle.run_trace.specs.Legality.{Legal, Begins}
@@ -18,7 +18,7 @@ use Rattle.run_trace.specs.Spots.{at_first}
 use Rattle.run_trace.specs.Trace.{IsRun, done_for, events_of, prints_or}
 use Rattle.trace_laws.specs.Gathers.{AllWithin}
 use Rattle.trace_laws.proofs.Determined.{fits_exactly}
-use Rattle.trace_laws.proofs.Wholes.{whole, starts, run_whole}
+use Rattle.trace_laws.proofs.Wholes.{starts, run_whole}
 use Rattle.wires.specs.Ends.{known_from}
 use Rattle.node_loop.specs.View.{NodeView, raised}
 use Rattle.node_loop.specs.Turns.{IsActInRange, TakesKnown, Does, can}
@@ -26,6 +26,8 @@ use Rattle.cluster.specs.Standing.{StandsFor, IsNodeOf, net_after, newest_stamp,
 use Rattle.cluster.specs.View.{ClusterView}
 use Rattle.cluster.proofs.Linking.{known_first}
 use Rattle.cluster.proofs.Runs.{NoneLater, above, links_within, newest_last, none_above}
+use Rattle.run_trace.specs.Links.{first_of}
+use Rattle.trace_laws.proofs.Legals.{whole}
 
 -- a packet that comes in time
 abbrev IsTimely : ℕ → Option Packet → Type 0

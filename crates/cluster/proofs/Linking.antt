@@ -6,7 +6,7 @@ use Rattle.run_trace.specs.declared.entry.Act.{Act}
 use Rattle.run_trace.specs.declared.entry.Act.TheVariants.{Boot, Run, Take, Move}
 use Rattle.run_trace.specs.declared.entry.Entry.{Entry}
 use Rattle.run_trace.specs.declared.packet.Packet.{Packet}
-use Rattle.run_trace.specs.Cluster.{Net, first_of}
+use Rattle.run_trace.specs.Cluster.{Net}
 use Rattle.run_trace.specs.Local.{Local}
 use Rattle.run_trace.specs.Program.{Program, nodes_of}
 use Rattle.run_trace.specs.Places.{is_listed}
@@ -25,6 +25,7 @@ use Rattle.cluster.specs.Standing.{StandsFor, net_after}
 use Rattle.cluster.specs.View.{ClusterView, wires_of}
 use Rattle.cluster.proofs.Lists.{wires-get, wires-length}
 use Rattle.cluster.proofs.Runs.{carried_run}
+use Rattle.run_trace.specs.Links.{first_of}
 
 same_rest : {A : Type 0} (xs ys zs : List A) → xs ++ ys ≡ xs ++ zs → ys ≡ zs
 same_rest [] ys zs e = e

@@ -9,10 +9,11 @@ use Rattle.run_trace.specs.declared.entry.Act.{Act}
 use Rattle.run_trace.specs.declared.entry.Entry.{Entry}
 use Rattle.run_trace.specs.declared.packet.Packet.{Packet}
 use Rattle.run_trace.specs.Program.{Program, nodes_of}
-use Rattle.run_trace.specs.Cluster.{Event, Net, fresh_net, sent, received, packets_to, taken_of, next_packet, left_after}
+use Rattle.run_trace.specs.Cluster.{Event, Net, fresh_net, sent, received, taken_of, next_packet}
 use Rattle.run_trace.specs.Console.{console_of, shown_by_all}
+use Rattle.run_trace.specs.Telling.{world_of, first_world}
 use Rattle.run_trace.specs.Histories.{own_entries, seen}
-use Rattle.run_trace.specs.Rules.{quantum_in, spots_of}
+use Rattle.run_trace.specs.Rules.{spots_of}
 use Rattle.run_trace.specs.Spots.{at_first}
 use Rattle.run_trace.specs.Trace.{done_for, events_of, sends_or}
 use Rattle.trace_laws.proofs.NothingOutside.{run_inside}
@@ -30,7 +31,8 @@ use Rattle.cluster.specs.View.{ClusterView, wires_of, view_of, console_at}
 use Rattle.cluster.proofs.Acting.{raised_ends, raised_length, get_raised}
 use Rattle.cluster.proofs.Keeping as keeping
 use Rattle.cluster.proofs.Lists.{wires-get, wires-set, wires-length}
-use Rattle.cluster.proofs.Silent.{silent}
+use Rattle.cluster.proofs.Silent.{silent, told_spots}
+use Rattle.run_trace.specs.Links.{packets_to, left_after}
 
 no_more : {A : Type 0} (xs ys : List A) → xs ++ ys ≡ [] → ys ≡ []
 no_more [] ys h = h
@@ -232,7 +234,8 @@ module _ (c : ClusterView) (lines : List Entry) (s : StandsFor c lines) (few : c
       ∙ sym (ap (λ (z : NodeView). z.console) d.after) ∙ ap (λ (z : NodeView). z.console) (sym (new_at u.0 gn)) ∙ sym (first (slice_get nodes 0) u.0 u.1))
       (λ ne.
       let o = old_at 0 u.0 ne u.1 in
-      let none : shown ≡ [] = silent p (quantum_in act) n d.done.labels (spots_of p (at_first p) lines) (λ e. ne (sym e)) (keeping.legal c lines s few n inside v at act range able new d).life.1 in
+      let rules = (keeping.legal c lines s few n inside v at act range able new d).rules.1 in
+      let none : shown ≡ [] = subst (λ w. shown_by_all p n d.done.labels w ≡ []) (told_spots p (first_world p) lines) (silent p _ n d.done.labels (world_of p (first_world p) lines) rules.to_do (λ e. ne (sym e)) rules.goes) in
       ap (λ bs. console_of p (at_first p) lines ++ bs) none ∙ append-nil (console_of p (at_first p) lines) ∙ s.console ∙ first (slice_get c.nodes 0) o.old o.was
       ∙ ap (λ (z : NodeView). z.console) (sym o.is) ∙ sym (first (slice_get nodes 0) u.0 u.1))
 

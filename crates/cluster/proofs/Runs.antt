@@ -8,12 +8,13 @@ use Rattle.run_trace.specs.declared.entry.Entry.{Entry}
 use Rattle.run_trace.specs.declared.packet.Packet.{Packet}
 use Rattle.run_trace.specs.declared.packet.Send.{Send}
 use Rattle.run_trace.specs.Program.{Program}
-use Rattle.run_trace.specs.Cluster.{Net, fresh_net, first_of, rest_of, left_after, packets_to, taken_of, next_packet, received, sent}
+use Rattle.run_trace.specs.Cluster.{Net, fresh_net, taken_of, next_packet, received, sent}
 use Rattle.run_trace.specs.Histories.{IsInOrder, IsEntryAbove, own_entries}
 use Rattle.run_trace.specs.Legality.{AreRising, NoneAbove}
 use Rattle.run_trace.specs.Trace.{done_for, events_of, sends_or}
 use Rattle.trace_laws.specs.Gathers.{AllWithin}
 use Rattle.cluster.specs.Standing.{net_after, newest_stamp, newest_round}
+use Rattle.run_trace.specs.Links.{first_of, rest_of, left_after, packets_to}
 
 -- ## What was received, and what the link holds, is what was sent
 

@@ -1,19 +1,30 @@
 -- No node but the first shows a line.
 use Rattle.std.proofs.Common.{◌≡◌, ◌≢◌, ℕ, List, [], ◌∷◌, ◌++◌, refl, arith, ap, ◌∙◌}
+use Rattle.run_trace.specs.declared.entry.Entry.{Entry}
 use Rattle.run_trace.specs.declared.label.Label.{Label}
 use Rattle.run_trace.specs.declared.label.Label.TheVariants.{Shown}
 use Rattle.run_trace.specs.Program.{Program}
 use Rattle.run_trace.specs.Console.{shown_by, shown_by_all}
-use Rattle.run_trace.specs.Rules.{LifeRule, MayShow, ObeyEach}
-use Rattle.run_trace.specs.Spots.{Life, Spots, after_label}
+use Rattle.run_trace.specs.Spots.{Life, after_label, after_labels}
+use Rattle.run_trace.specs.World.{World, world_after}
+use Rattle.run_trace.specs.Items.{Item, past_sends, to_do_after}
+use Rattle.run_trace.specs.Telling.{world_of}
+use Rattle.run_trace.specs.Rules.{Occasion, saying, LifeRule, MayShow, spots_of}
+use Rattle.run_trace.specs.Obeying.{GoesOn}
 
 never_shows : (n : ℕ) (life : Life) → n ≢ 0 → MayShow n life → ⊥
 never_shows n life ne h = grind (arith, ne, h)
 
-no_line : (p : Program) (q n : ℕ) (l : Label) (w : Spots) → n ≢ 0 → LifeRule p q n l w → shown_by l w ≡ []
-no_line p q n (Shown t) w ne h = absurd (never_shows n (w.threads t).life ne h)
-no_line p q n l w ne h = refl
+no_line : (p : Program) (o : Occasion) (n : ℕ) (l : Label) (w : World) → n ≢ 0 → LifeRule p o n l w → shown_by l w.spots ≡ []
+no_line p o n (Shown t) w ne h = absurd (never_shows n (w.spots.threads t).life ne h)
+no_line p o n l w ne h = refl
 
-pub silent : (p : Program) (q n : ℕ) (ls : List Label) (w : Spots) → n ≢ 0 → ObeyEach LifeRule p q n ls w → shown_by_all p n ls w ≡ []
-silent p q n [] w ne h = refl
-silent p q n (l ∷ ls) w ne h = ap (λ xs. xs ++ shown_by_all p n ls (after_label p n l w)) (no_line p q n l w ne h.0) ∙ silent p q n ls (after_label p n l w) ne h.1
+pub silent : (p : Program) (o : Occasion) (n : ℕ) (ls : List Label) (w : World) (to_do : List Item) → n ≢ 0 → GoesOn p o n ls w to_do → shown_by_all p n ls w.spots ≡ []
+silent p o n [] w to_do ne h = refl
+silent p o n (l ∷ ls) w to_do ne h =
+    ap (λ xs. xs ++ shown_by_all p n ls (after_label p n l w.spots)) (no_line p o n l w ne h.1.life)
+    ∙ silent p (saying l o) n ls (world_after p n l w) (to_do_after p n l w.spots (past_sends to_do)) ne h.2
+
+pub told_spots : (p : Program) (old : World) (lines : List Entry) → (world_of p old lines).spots ≡ spots_of p old.spots lines
+told_spots p old [] = refl
+told_spots p old (x ∷ xs) = ap (λ w. after_labels p x.node x.labels w) (told_spots p old xs)

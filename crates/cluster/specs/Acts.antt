@@ -9,7 +9,8 @@ use Rattle.run_trace.specs.declared.packet.Packet.{Packet}
 use Rattle.run_trace.specs.Program.{Program, nodes_of, processors_of}
 use Rattle.run_trace.specs.Local.{Local}
 use Rattle.run_trace.specs.Places.{is_listed}
-use Rattle.run_trace.specs.Cluster.{Net, first_of}
+use Rattle.run_trace.specs.Cluster.{Net}
+use Rattle.run_trace.specs.Links.{first_of}
 
 -- a thread is on the node's run list
 abbrev pub has_pick : Net → ℕ → Bool

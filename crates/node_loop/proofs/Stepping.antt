@@ -13,7 +13,7 @@ use Rattle.run_trace.specs.declared.packet.Send.{Send}
 use Rattle.run_trace.specs.Program.{Program, nodes_of}
 use Rattle.run_trace.specs.Local.{Local, Doing, fresh, nothing}
 use Rattle.run_trace.specs.Machine.{local_event, turn_event, is_beyond, is_range, acts, boots, stamp_limit}
-use Rattle.run_trace.specs.Cluster.{packets_to, taken_of}
+use Rattle.run_trace.specs.Cluster.{taken_of}
 use Rattle.run_trace.specs.Histories.{IsShape, seen}
 use Rattle.wires.specs.declared.ends.Ends.{Ends}
 use Rattle.wires.specs.Ends.{received_from}
@@ -27,6 +27,7 @@ use Rattle.node_loop.specs.declared.node.Turned.{Turned}
 use Rattle.node_loop.specs.declared.node.Turned.TheVariants.{Did, Idle}
 use Rattle.node_loop.proofs.Booted.{turn_booted, boot_booted, StaysBooted}
 use Rattle.node_loop.proofs.Wiring.{boot_takes, nothing_carried}
+use Rattle.run_trace.specs.Links.{packets_to}
 
 -- a packet counts for less than the limit
 seen_small : (o : Option Packet) → seen o < 2 ^ 62

@@ -7,7 +7,7 @@ use Rattle.run_trace.specs.declared.entry.Act.TheVariants.{Boot, Run, Take, Move
 use Rattle.slot_space.specs.declared.names.Tid.{Tid}
 use Rattle.run_trace.specs.declared.packet.Packet.{Packet}
 use Rattle.run_trace.specs.declared.packet.Send.{Send}
-use Rattle.run_trace.specs.Cluster.{packets_to, taken_of}
+use Rattle.run_trace.specs.Cluster.{taken_of}
 use Rattle.wires.specs.declared.ends.Ends.{Ends}
 use Rattle.wires.specs.declared.link.Link.{Link}
 use Rattle.wires.specs.Ends.{node_of, width, link_of, of_link, count_of_link, sent_to, received_from, spare_to, LinkChanged}
@@ -18,6 +18,7 @@ use Rattle.wires.proofs.Gets.{by_eq}
 use Rattle.wires.proofs.Rings.{stays_refl, stays_trans}
 use Rattle.node_loop.specs.Turns.{CarriesNothing}
 use Rattle.node_loop.specs.Links.{TakesFirst, Took, Reserved, HasRoom, Sent}
+use Rattle.run_trace.specs.Links.{packets_to}
 
 -- ## Taking
 

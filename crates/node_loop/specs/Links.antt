@@ -4,13 +4,14 @@ use Rattle.run_trace.specs.declared.entry.Act.{Act}
 use Rattle.run_trace.specs.declared.entry.Act.TheVariants.{Boot, Run, Take, Move}
 use Rattle.run_trace.specs.declared.packet.Packet.{Packet}
 use Rattle.run_trace.specs.declared.packet.Send.{Send}
-use Rattle.run_trace.specs.Cluster.{packets_to, taken_of}
+use Rattle.run_trace.specs.Cluster.{taken_of}
 use Rattle.wires.specs.declared.ends.Ends.{Ends}
 use Rattle.wires.specs.Ends.{node_of, width, sent_to, received_from, known_from, spare_to}
 use Rattle.wires.specs.Wires.{StaysWired}
 use Rattle.node_state.specs.declared.done.Done.{Done}
 use Rattle.node_loop.specs.View.{NodeView, with_ends}
 use Rattle.node_loop.specs.Turns.{CarriesNothing}
+use Rattle.run_trace.specs.Links.{packets_to}
 
 -- only a Take takes; it takes what is known first, and nothing only where nothing is known
 abbrev pub TakesFirst : Ends Packet → Act → Option Packet → Type 0

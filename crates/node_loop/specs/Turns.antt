@@ -7,7 +7,7 @@ use Rattle.run_trace.specs.declared.packet.Send.{Send}
 use Rattle.run_trace.specs.Program.{Program, nodes_of, processors_of, quantum_limit}
 use Rattle.run_trace.specs.Local.{Doing}
 use Rattle.run_trace.specs.Machine.{turn_event}
-use Rattle.run_trace.specs.Cluster.{packets_to, taken_of}
+use Rattle.run_trace.specs.Cluster.{taken_of}
 use Rattle.run_trace.specs.Histories.{IsShape, Turn, seen}
 use Rattle.run_trace.specs.Places.{is_listed}
 use Rattle.wires.specs.declared.ends.Ends.{Ends}
@@ -16,6 +16,7 @@ use Rattle.wires.specs.Wires.{StaysWired}
 use Rattle.node_loop.specs.View.{NodeView}
 use Rattle.node_loop.specs.declared.node.Turned.{Turned}
 use Rattle.node_loop.specs.declared.node.Turned.TheVariants.{Did, Idle}
+use Rattle.run_trace.specs.Links.{packets_to}
 
 -- ## What goes by the links
 

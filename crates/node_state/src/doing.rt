@@ -3,8 +3,9 @@
 ghost use Rattle.std.specs.Prelude.{◌≡◌, ◌<◌, ◌≤◌, ◌%◌, ◌∷◌, [], IfOk, IfSome, None};
 ghost use Rattle.run_trace.specs.Local.{nothing, with_booted};
 ghost use Rattle.run_trace.specs.Guests.{stack_end, unwaiting};
-ghost use Rattle.run_trace.specs.Steps.{say, put, print, arrive, take_off, thread_at, at_thread, thread_in, thread_out, slots_out, slots_in, name_in, change_name, halt, next_name, birth, asks, asks_show, asks_join, halts, judge, extra_of, tell, reply_by_link, line_of, shows, acknowledges, hears, knows};
+ghost use Rattle.run_trace.specs.Steps.{say, put, print, arrive, take_off, thread_at, at_thread, thread_in, thread_out, slots_out, slots_in, name_in, change_name, halt, next_name, birth, asks, asks_show, asks_join, halts, judge, tell, reply_by_link, line_of, shows, acknowledges, hears, knows};
 ghost use Rattle.run_trace.specs.Machine.{free_slot, end_thread};
+ghost use Rattle.run_trace.specs.Calls.{extra_of};
 ghost use Rattle.marcel_core.specs.Homes.{joined as joined_by, ended as ended_by};
 ghost use Rattle.node_state.specs.Events.{fresh_in};
 ghost use Rattle.node_state.specs.Runs.{ran_at, stop_found};

@@ -4,7 +4,8 @@ ghost use Rattle.std.specs.Prelude.{◌≡◌, ◌<◌, ◌≤◌, ◌+◌, ◌^
 ghost use Rattle.slot_space.specs.Sets.{has, minus, run};
 ghost use Rattle.iso_blocks.specs.Heap.{rounded};
 ghost use Rattle.run_trace.specs.Steps.{at_thread, thread_at};
-ghost use Rattle.run_trace.specs.Machine.{free_run, places, allocates, frees, place_code};
+ghost use Rattle.run_trace.specs.Machine.{free_run, places, allocates, frees};
+ghost use Rattle.run_trace.specs.Calls.{place_code};
 ghost use Rattle.run_trace.specs.Guests.{slots_for};
 ghost use Rattle.node_state.specs.Asking.{HasBlock};
 ghost use Rattle.node_state.specs.Heaps.{CanBeTaken, claim_found, takes_at, drops_at, gives_back};

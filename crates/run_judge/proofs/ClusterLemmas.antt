@@ -10,7 +10,7 @@ use Rattle.run_trace.specs.declared.packet.Send.{Send}
 use Rattle.run_trace.specs.Program.{Program, nodes_of}
 use Rattle.run_trace.specs.Local.{Local, Doing, fresh}
 use Rattle.run_trace.specs.Machine.{local_event, is_range}
-use Rattle.run_trace.specs.Cluster.{Net, next_packet, IsTaken, net_after, after_or, left_after, packets_to, fresh_net}
+use Rattle.run_trace.specs.Cluster.{Net, next_packet, IsTaken, net_after, after_or, fresh_net}
 use Rattle.run_trace.specs.Trace.{Fits, event_of, done_for, sends_or}
 use Rattle.node_state.specs.declared.done.Done.{Done}
 use Rattle.node_state.specs.Events.{event_of as doing_of}
@@ -18,6 +18,7 @@ use Rattle.run_judge.specs.declared.flights.Flight.{Flight}
 use Rattle.run_judge.specs.Links.{link_of, next_on, flights_of}
 use Rattle.run_judge.specs.Nets.{net_in, LeftBy}
 use Rattle.run_judge.proofs.LinkLemmas.{link_append, link_sent}
+use Rattle.run_trace.specs.Links.{left_after, packets_to}
 
 -- no node stands at this number
 pub outside : (p : Program) (me : ℕ) (s : Local) (act : Act) (took : Option Packet) → nodes_of p ≤ me → local_event p me s act took ≡ None

@@ -6,7 +6,7 @@ use Rattle.std.proofs.lemmas.List.{append-nil}
 use Rattle.run_trace.specs.declared.entry.Act.TheVariants.{Take}
 use Rattle.run_trace.specs.declared.packet.Packet.{Packet}
 use Rattle.run_trace.specs.declared.packet.Send.{Send}
-use Rattle.run_trace.specs.Cluster.{first_of, rest_of, packets_to}
+use Rattle.run_trace.specs.Links.{first_of, rest_of, packets_to}
 use Rattle.run_judge.specs.declared.flights.Flight.{Flight}
 use Rattle.run_judge.specs.Links.{is_on, link_of, flights_of}
 use Rattle.run_judge.specs.Nets.{LeftBy}

@@ -4,7 +4,7 @@ use Rattle.run_trace.specs.declared.entry.Act.{Act}
 use Rattle.run_trace.specs.declared.entry.Act.TheVariants.{Boot, Run, Take, Move}
 use Rattle.run_trace.specs.declared.packet.Packet.{Packet}
 use Rattle.run_trace.specs.declared.packet.Send.{Send}
-use Rattle.run_trace.specs.Cluster.{first_of}
+use Rattle.run_trace.specs.Links.{first_of}
 use Rattle.run_judge.specs.declared.flights.Flight.{Flight}
 
 -- it goes from node i to node j

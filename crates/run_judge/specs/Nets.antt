@@ -5,11 +5,12 @@ use Rattle.run_trace.specs.declared.packet.Packet.{Packet}
 use Rattle.run_trace.specs.Program.{Program}
 use Rattle.run_trace.specs.Local.{Local, fresh}
 use Rattle.run_trace.specs.Machine.{local_event}
-use Rattle.run_trace.specs.Cluster.{Net, left_after}
+use Rattle.run_trace.specs.Cluster.{Net}
 use Rattle.node_state.specs.declared.done.Done.{Done}
 use Rattle.node_state.specs.Events.{event_of}
 use Rattle.run_judge.specs.declared.flights.Flight.{Flight}
 use Rattle.run_judge.specs.Links.{link_of}
+use Rattle.run_trace.specs.Links.{left_after}
 
 -- each node's state, and what each link holds
 abbrev pub net_in : Program → List Local → List Flight → Net

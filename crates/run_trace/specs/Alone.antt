@@ -4,7 +4,7 @@ use Rattle.rv_step.specs.Birth.{told as hart_told}
 use Rattle.slot_space.specs.declared.names.Tid.{Tid}
 use Rattle.run_trace.specs.declared.entry.Entry.{Entry}
 use Rattle.run_trace.specs.declared.label.Label.{Label}
-use Rattle.run_trace.specs.declared.label.Label.TheVariants.{Born, Ran, Asked, Heard, Judged, Told, Took, Gave, Ended, Known, Left, Came, Lent, InHand, Decided, Returned, Home, Down, Burst, Gathered, Shown, Halted, Dropped}
+use Rattle.run_trace.specs.declared.label.Label.TheVariants.{Born, Ran, Asked, Judged, Told, Took, Gave}
 use Rattle.run_trace.specs.Names.{is_tid}
 use Rattle.run_trace.specs.Program.{Program, code_of}
 use Rattle.slot_space.specs.Sets.{run}
@@ -17,36 +17,11 @@ use Rattle.run_trace.specs.Guests.{Solo, Guest, newborn, with_zero_slots, withou
 use Rattle.run_trace.specs.Cluster.{Net}
 use Rattle.run_trace.specs.Holding.{Place, IsAt}
 use Rattle.run_trace.specs.Spots.{Response, no_response, stepped, second_of, Life, On, Served, Spot, unborn}
+use Rattle.run_trace.specs.Items.{Subject, Thread, subject}
 
--- whose label it is
-abbrev pub subject : Label → Option Tid
-subject (Born t why entry a0 a1 sp slot) = Some t
-subject (Ran t vp count stop) = Some t
-subject (Asked t call args bytes) = Some t
-subject (Heard t) = Some t
-subject (Judged t reply extra) = Some t
-subject (Told t) = Some t
-subject (Took t first count) = Some t
-subject (Gave t slots) = Some t
-subject (Ended t end) = Some t
-subject (Known t) = Some t
-subject (Left t to) = Some t
-subject (Came t) = Some t
-subject (Lent to slots) = None
-subject (InHand lender slots) = None
-subject (Decided t count first) = Some t
-subject (Returned to slots) = None
-subject (Home slots) = None
-subject (Down bubble list) = None
-subject (Burst bubble list) = None
-subject (Gathered bubble count) = None
-subject (Shown t) = Some t
-subject (Halted t) = Some t
-subject (Dropped t count reply) = Some t
-
-abbrev pub is_subject : Tid → Option Tid → Bool
-is_subject t None = false
-is_subject t (Some u) = is_tid u t
+abbrev pub is_about : Tid → Option Subject → Bool
+is_about t None = false
+is_about t (Some (Thread u)) = is_tid u t
 
 -- registers, pc, memory and blocks; the call of its heap that it waits for; and the reply that was judged last
 pub record Alone : Type 0 where
@@ -91,7 +66,7 @@ alone_then p t _ a = a
 -- only labels of thread t count
 abbrev pub alone_after : Program → Tid → List Label → Alone → Alone
 alone_after p t [] a = a
-alone_after p t (l ∷ ls) a = alone_after p t ls (if is_subject t (subject l) then alone_then p t l a else a)
+alone_after p t (l ∷ ls) a = alone_after p t ls (if is_about t (subject l) then alone_then p t l a else a)
 
 abbrev pub asked_in : Life → Option Call
 asked_in (On n (Served c)) = heap_call c

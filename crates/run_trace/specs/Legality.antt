@@ -1,6 +1,6 @@
--- A legal trace, newest entry first: it is in order, begins with the nodes' beginnings, the cluster can make it, and it
--- keeps each rule in the rule's own words, by the labels alone.
-use Rattle.std.specs.Prelude.{◌≡◌, ◌≤◌, ◌⊎◌, ℕ, zero, suc, List, [], ◌∷◌, ◌++◌, ◌==◌, if◌then◌else◌, ⊤}
+-- A legal trace, newest entry first: it is in order, begins with the nodes' beginnings, its rounds never fall, and it keeps the
+-- rules, which speak of labels alone. So it is what the machine does; and what that says of nodes and links stands beside.
+use Rattle.std.specs.Prelude.{◌≡◌, ◌≤◌, ◌⊎◌, ℕ, zero, suc, List, [], ◌∷◌, ◌++◌, ◌==◌, if◌then◌else◌, map, ⊤}
 use Rattle.run_trace.specs.declared.entry.Act.TheVariants.{Boot}
 use Rattle.run_trace.specs.declared.entry.Entry.{Entry}
 use Rattle.run_trace.specs.declared.label.Label.{Label}
@@ -14,8 +14,10 @@ use Rattle.run_trace.specs.Trace.{IsRun, net_after_trace}
 use Rattle.run_trace.specs.Holding.{EachHeldOnce}
 use Rattle.run_trace.specs.Alone.{EachRunsAlone}
 use Rattle.run_trace.specs.Histories.{IsInOrder}
-use Rattle.run_trace.specs.Spots.{Spots, at_first}
-use Rattle.run_trace.specs.Rules.{Obey, SoloRule, HoldersRule, LifeRule, RepliesRule, GrantsRule, Picks, Carried, EachSettled}
+use Rattle.run_trace.specs.Stands.{Stands, listed}
+use Rattle.run_trace.specs.World.{World}
+use Rattle.run_trace.specs.Telling.{world_of, first_world}
+use Rattle.run_trace.specs.Obeying.{KeepsRules}
 
 -- node 0 begins with the main thread 0.0, at the image's main, with slot 0 as its stack
 abbrev pub first_labels : Program → ℕ → List Label
@@ -47,41 +49,25 @@ abbrev pub AfterEach : (Net → List Entry → Type 0) → Program → List Entr
 AfterEach P p [] = ⊤
 AfterEach P p (x ∷ xs) = AfterEach P p xs × P (net_after_trace p (fresh_net p) (x ∷ xs)) (x ∷ xs)
 
--- the rules, for a trace after what was told of old, of a cluster that had come to base
-pub record ObeysFrom (p : Program) (old : Spots) (base : Net) (lines : List Entry) : Type 0 where
-  pub solo : Obey SoloRule p old lines
-  pub holders : Obey HoldersRule p old lines
-  pub life : Obey LifeRule p old lines
-  pub replies : Obey RepliesRule p old lines
-  pub grants : Obey GrantsRule p old lines
-  pub picks : Picks p base lines
-  pub carried : Carried p old base lines
-  pub settled : EachSettled p old lines
+-- nodes and links are exactly what the labels tell
+pub record IsTold (p : Program) (w : World) (net : Net) : Type 0 where
+  pub stands : Stands p w.spots net
+  pub lists : (n : ℕ) → map listed (net.nodes n).places.rows ≡ w.lists n
+  pub links : (i j : ℕ) → net.links i j ≡ w.links i j
+  pub begun : (n : ℕ) → (net.nodes n).booted ≡ w.begun n
 
 pub record Legal (p : Program) (lines : List Entry) : Type 0 where
   -- it is a trace
   pub order : IsInOrder lines
   pub begins : Begins p lines
   pub rounds : AreRising lines
-  -- nothing is missing and nothing else stands there
+  -- each entry is what its act and the entries before it allow, by the labels alone; there is no other
+  pub rules : KeepsRules p (first_world p) lines
+  -- the cluster can make it, and does nothing else
   pub runs : IsRun p (fresh_net p) lines
-  -- each thread's registers and memory are those of its code run alone with the replies that it got
-  pub solo : Obey SoloRule p (at_first p) lines
-  -- and so they are wherever it has moved, its blocks with them: on each node, and on its way
+  -- after each entry nodes and links are exactly what the labels tell
+  pub stands : AfterEach (λ net xs. IsTold p (world_of p (first_world p) xs) net) p lines
+  -- each thread's registers, bytes and blocks are those of its code run alone with the replies that it was told, wherever it is
   pub alone : AfterEach (EachRunsAlone p) p lines
   -- no slot has two holders, through births, grants, moves and ends
   pub one_holder : AfterEach (λ net xs. EachHeldOnce net) p lines
-  -- a slot goes only from the holder that the rule names
-  pub holders : Obey HoldersRule p (at_first p) lines
-  -- each call is asked, judged and told once, in this order, and told where its thread is
-  pub life : Obey LifeRule p (at_first p) lines
-  -- each reply is the library's
-  pub replies : Obey RepliesRule p (at_first p) lines
-  -- a birth takes the node's least slot; Full is answered only where the node has none
-  pub grants : Obey GrantsRule p (at_first p) lines
-  -- the thread that runs is the best of the run list
-  pub picks : Picks p (fresh_net p) lines
-  -- what is sent is what the labels cause
-  pub carried : Carried p (at_first p) (fresh_net p) lines
-  -- each entry does all that it begins
-  pub settled : EachSettled p (at_first p) lines

@@ -16,26 +16,34 @@ use Rattle.run_trace.specs.declared.label.Label.TheVariants.{Born, Ran, Asked, H
 use Rattle.run_trace.specs.declared.label.Why.{Why}
 use Rattle.run_trace.specs.declared.label.Why.TheVariants as why
 use Rattle.run_trace.specs.declared.label.Extra.{Extra}
-use Rattle.run_trace.specs.declared.node.Row.{Row}
-use Rattle.run_trace.specs.declared.packet.Body.{Body}
-use Rattle.run_trace.specs.declared.packet.Body.TheVariants.{Mover, Show, ShowDone, JoinAsk, Answer, EndNote}
-use Rattle.run_trace.specs.declared.packet.Send.{Send}
+use Rattle.run_trace.specs.declared.packet.Packet.{Packet}
 use Rattle.run_trace.specs.Names.{tid}
 use Rattle.run_trace.specs.Program.{Program, nodes_of, code_of}
-use Rattle.run_trace.specs.Guests.{Solo, Guest, stack_end, guest_slots, heap_of, slots_for, packed}
+use Rattle.run_trace.specs.Guests.{Solo, Guest, stack_end, guest_slots, heap_of, slots_for}
 use Rattle.run_trace.specs.declared.call.Call.{Call}
 use Rattle.run_trace.specs.declared.call.Call.TheVariants.{Create, Isomalloc, Isofree, MigrateSelf}
-use Rattle.run_trace.specs.Calls.{call_of, number_of, args_of, refusal, said_bytes}
-use Rattle.run_trace.specs.Places.{IsBest, is_listed}
-use Rattle.run_trace.specs.Steps.{extra_of}
-use Rattle.run_trace.specs.Machine.{place_code}
-use Rattle.run_trace.specs.Cluster.{Net}
-use Rattle.run_trace.specs.Trace.{net_after_trace, sends_or, done_for}
-use Rattle.run_trace.specs.Spots.{Stage, Ready, Running, Due, Served, Told_next, Told_then, Departs, Ends, Leaves, Halts, Shows, Showing, Shown_there, Asks, Awaits, Answers, Answered, Life, Unborn, On, Moving, Noting, Spots, Holder, Of_node, Of_thread, stepped, stage_of_call, after_label, after_labels}
+use Rattle.run_trace.specs.Calls.{extra_of, place_code, call_of, number_of, args_of, refusal, said_bytes}
+use Rattle.run_trace.specs.World.{World}
+use Rattle.run_trace.specs.Spots.{Ready, Running, Due, Served, Told_next, Told_then, Departs, Ends, Leaves, Halts, Shows, Showing, Shown_there, Asks, Awaits, Answers, Answered, Life, Unborn, On, Moving, Noting, Spots, Holder, Of_node, Of_thread, stepped, after_labels}
 
--- a rule says of a label on node n, in an act of this quantum, what must have been told before
+abbrev pub quantum_in : Act → ℕ
+quantum_in (Run vp quantum) = quantum
+quantum_in Boot = 0
+quantum_in (Take from) = 0
+quantum_in (Move t to) = 0
+
+-- in which act a label is said, on which packet, and after which labels of the same entry
+pub record Occasion : Type 0 where
+  pub act : Act
+  pub took : Option Packet
+  pub said : List Label
+
+abbrev pub saying : Label → Occasion → Occasion
+saying l o = record o { said = o.said ++ l ∷ [] }
+
+-- a rule says of a label on node n, on this occasion, what must have been told before
 abbrev pub Rule : Type 1
-Rule = Program → (quantum n : ℕ) → Label → Spots → Type 0
+Rule = Program → Occasion → (n : ℕ) → Label → World → Type 0
 
 -- ## Solo: each thread is its code run alone with the replies that it got
 
@@ -46,22 +54,22 @@ IsBorn p n (why.Create by) entry a0 w = (priority : ℕ) × ((w.threads by).life
 IsBorn p n _ entry a0 w = ⊥
 
 abbrev pub SoloRule : Rule
-SoloRule p quantum n (Born t why entry a0 a1 sp slot) w = IsBorn p n why entry a0 w × (a1 ≡ 0) × (sp ≡ stack_end slot)
-SoloRule p quantum n (Ran t vp count stop) w =
-    let s : State = (w.threads t).guest.solo.state in
-    (after (code_of p) s count ≡ Some (stepped (code_of p) count s)) × StopsBy (code_of p) (stepped (code_of p) count s) quantum count stop
-SoloRule p quantum n (Asked t call args bytes) w =
-    let x : Solo = (w.threads t).guest.solo in let c : Call = call_of x.state in
+SoloRule p o n (Born t why entry a0 a1 sp slot) w = IsBorn p n why entry a0 w.spots × (a1 ≡ 0) × (sp ≡ stack_end slot)
+SoloRule p o n (Ran t vp count stop) w =
+    let s : State = (w.spots.threads t).guest.solo.state in
+    (after (code_of p) s count ≡ Some (stepped (code_of p) count s)) × StopsBy (code_of p) (stepped (code_of p) count s) (quantum_in o.act) count stop
+SoloRule p o n (Asked t call args bytes) w =
+    let x : Solo = (w.spots.threads t).guest.solo in let c : Call = call_of x.state in
     (call ≡ number_of c) × (args ≡ args_of c) × (bytes ≡ said_bytes p x.state c (refusal p t x c))
-SoloRule p quantum n _ w = ⊤
+SoloRule p o n _ w = ⊤
 
 -- ## Holders: a slot goes only from the holder that the rule names
 
 abbrev pub HoldersRule : Rule
-HoldersRule p quantum n (Born t why entry a0 a1 sp slot) w = w.slots slot ≡ Of_node n
-HoldersRule p quantum n (Took t first count) w = (s : ℕ) → has s (run first count) ≡ true → w.slots s ≡ Of_node n
-HoldersRule p quantum n (Gave t slots) w = (s : ℕ) → has s slots ≡ true → w.slots s ≡ Of_thread t
-HoldersRule p quantum n _ w = ⊤
+HoldersRule p o n (Born t why entry a0 a1 sp slot) w = w.spots.slots slot ≡ Of_node n
+HoldersRule p o n (Took t first count) w = (s : ℕ) → has s (run first count) ≡ true → w.spots.slots s ≡ Of_node n
+HoldersRule p o n (Gave t slots) w = (s : ℕ) → has s slots ≡ true → w.spots.slots s ≡ Of_thread t
+HoldersRule p o n _ w = ⊤
 
 -- ## Life: what a thread goes through, in this order
 
@@ -119,22 +127,22 @@ JoinerAwaits t None w = ⊤
 JoinerAwaits t (Some by) w = (w.threads by.0).life ≡ On by.1 (Awaits t)
 
 abbrev pub LifeRule : Rule
-LifeRule p quantum n (Born t why entry a0 a1 sp slot) w = ((w.threads t).life ≡ Unborn) × (t ≡ tid n (length (w.births n)))
-LifeRule p quantum n (Ran t vp count stop) w = (w.threads t).life ≡ On n Ready
-LifeRule p quantum n (Asked t call args bytes) w = (w.threads t).life ≡ On n Running
-LifeRule p quantum n (Heard t) w = MayHear n (w.threads t).life
-LifeRule p quantum n (Judged t reply extra) w = MayJudge n (w.threads t).life
-LifeRule p quantum n (Told t) w = MayTell n (w.threads t).life
-LifeRule p quantum n (Took t first count) w = MayTake n (w.threads t).life
-LifeRule p quantum n (Gave t slots) w = MayGive n (w.threads t).life (w.threads t).guest slots
-LifeRule p quantum n (Ended t end) w = (w.threads t).life ≡ On n (Leaves end)
-LifeRule p quantum n (Known t) w =
-    MayKnow (w.threads t).life × (t.home ≡ n) × JoinerAwaits t (joiner (slice_get (w.births t.home) t.seq)) w
-LifeRule p quantum n (Left t to) w = MayLeave n to (w.threads t).life × (to < nodes_of p) × (to ≡ n → ⊥)
-LifeRule p quantum n (Came t) w = MayCome n (w.threads t).life
-LifeRule p quantum n (Shown t) w = MayShow n (w.threads t).life
-LifeRule p quantum n (Halted t) w = (w.threads t).life ≡ On n Halts
-LifeRule p quantum n _ w = ⊥
+LifeRule p o n (Born t why entry a0 a1 sp slot) w = ((w.spots.threads t).life ≡ Unborn) × (t ≡ tid n (length (w.spots.births n)))
+LifeRule p o n (Ran t vp count stop) w = (w.spots.threads t).life ≡ On n Ready
+LifeRule p o n (Asked t call args bytes) w = (w.spots.threads t).life ≡ On n Running
+LifeRule p o n (Heard t) w = MayHear n (w.spots.threads t).life
+LifeRule p o n (Judged t reply extra) w = MayJudge n (w.spots.threads t).life
+LifeRule p o n (Told t) w = MayTell n (w.spots.threads t).life
+LifeRule p o n (Took t first count) w = MayTake n (w.spots.threads t).life
+LifeRule p o n (Gave t slots) w = MayGive n (w.spots.threads t).life (w.spots.threads t).guest slots
+LifeRule p o n (Ended t end) w = (w.spots.threads t).life ≡ On n (Leaves end)
+LifeRule p o n (Known t) w =
+    MayKnow (w.spots.threads t).life × (t.home ≡ n) × JoinerAwaits t (joiner (slice_get (w.spots.births t.home) t.seq)) w.spots
+LifeRule p o n (Left t to) w = MayLeave n to (w.spots.threads t).life × (to < nodes_of p) × (to ≡ n → ⊥)
+LifeRule p o n (Came t) w = MayCome n (w.spots.threads t).life
+LifeRule p o n (Shown t) w = MayShow n (w.spots.threads t).life
+LifeRule p o n (Halted t) w = (w.spots.threads t).life ≡ On n Halts
+LifeRule p o n _ w = ⊥
 
 -- ## Replies: each is the library's
 
@@ -156,8 +164,8 @@ IsReply (On m (Answers h answer second)) g reply extra = (reply ≡ reply_code a
 IsReply _ g reply extra = ⊤
 
 abbrev pub RepliesRule : Rule
-RepliesRule p quantum n (Judged t reply extra) w = IsReply (w.threads t).life (w.threads t).guest reply extra
-RepliesRule p quantum n _ w = ⊤
+RepliesRule p o n (Judged t reply extra) w = IsReply (w.spots.threads t).life (w.spots.threads t).guest reply extra
+RepliesRule p o n _ w = ⊤
 
 -- ## Grants: the lowest run of slots that no thread holds, of the node; Full only where it has none
 
@@ -185,96 +193,13 @@ IsRefusedRightly n w (On m (Served c)) g = IsRefusedFull n w c g
 IsRefusedRightly n w _ g = ⊤
 
 abbrev pub GrantsRule : Rule
-GrantsRule p quantum n (Born t why entry a0 a1 sp slot) w = lowest_free n 1 w ≡ Some slot
-GrantsRule p quantum n (Took t first count) w =
-    IsClaim (w.threads t).life (w.threads t).guest count × (lowest_free n count w ≡ Some first)
-GrantsRule p quantum n (Judged t reply extra) w = IsRefusedRightly n w (w.threads t).life (w.threads t).guest
-GrantsRule p quantum n _ w = ⊤
-
--- ## A rule over a trace
-
-abbrev pub quantum_in : Act → ℕ
-quantum_in (Run vp quantum) = quantum
-quantum_in Boot = 0
-quantum_in (Take from) = 0
-quantum_in (Move t to) = 0
-
-abbrev pub ObeyEach : Rule → Program → (quantum n : ℕ) → List Label → Spots → Type 0
-ObeyEach rule p quantum n [] w = ⊤
-ObeyEach rule p quantum n (l ∷ ls) w = rule p quantum n l w × ObeyEach rule p quantum n ls (after_label p n l w)
+GrantsRule p o n (Born t why entry a0 a1 sp slot) w = lowest_free n 1 w.spots ≡ Some slot
+GrantsRule p o n (Took t first count) w =
+    IsClaim (w.spots.threads t).life (w.spots.threads t).guest count × (lowest_free n count w.spots ≡ Some first)
+GrantsRule p o n (Judged t reply extra) w = IsRefusedRightly n w.spots (w.spots.threads t).life (w.spots.threads t).guest
+GrantsRule p o n _ w = ⊤
 
 -- what the labels of a trace tell, newest entry first
 abbrev pub spots_of : Program → Spots → List Entry → Spots
 spots_of p old [] = old
 spots_of p old (x ∷ xs) = after_labels p x.node x.labels (spots_of p old xs)
-
-abbrev pub Obey : Rule → Program → Spots → List Entry → Type 0
-Obey rule p old [] = ⊤
-Obey rule p old (x ∷ xs) = Obey rule p old xs × ObeyEach rule p (quantum_in x.act) x.node x.labels (spots_of p old xs)
-
--- ## Picks: the best of the run list runs; a thread that is sent away is on it
-
-abbrev pub RunsFirst : Tid → ℕ → List Label → Type 0
-RunsFirst t vp (Ran u v count stop ∷ ls) = (u ≡ t) × (v ≡ vp)
-RunsFirst t vp _ = ⊥
-
-abbrev pub PicksBest : Act → List Row → List Label → Type 0
-PicksBest (Run vp quantum) rows labels = (r : Row) × IsBest r rows × RunsFirst r.tid vp labels
-PicksBest Boot rows labels = ⊤
-PicksBest (Take from) rows labels = ⊤
-PicksBest (Move t to) rows labels = (is_listed t rows ≡ true) × (labels ≡ Left t to ∷ [])
-
-abbrev pub Picks : Program → Net → List Entry → Type 0
-Picks p base [] = ⊤
-Picks p base (x ∷ xs) = Picks p base xs × PicksBest x.act ((net_after_trace p base xs).nodes x.node).places.rows x.labels
-
--- ## Carried: an entry sends what its labels cause, and nothing else
-
-abbrev pub send_to : ℕ → Body → List Send
-send_to to body = (record { to = to; body = body }) ∷ []
-
-abbrev pub asked_causes : Tid → Stage → List Send
-asked_causes t (Shows bytes) = send_to 0 (Show t bytes)
-asked_causes t (Asks u) = send_to u.home (JoinAsk t u.seq)
-asked_causes t _ = []
-
-abbrev pub judged_causes : Tid → Life → List Send
-judged_causes t (On m Showing) = send_to m (ShowDone t)
-judged_causes t (On m (Answers h reply second)) = send_to m (Answer t reply second)
-judged_causes t _ = []
-
-abbrev pub causes : Program → ℕ → Label → Spots → List Send
-causes p n (Asked t call args bytes) w = asked_causes t (stage_of_call p n t (w.threads t).guest.solo)
-causes p n (Judged t reply extra) w = judged_causes t (w.threads t).life
-causes p n (Left t to) w = send_to to (Mover (packed t (w.threads t).guest))
-causes p n (Ended t end) w = send_to t.home (EndNote t.seq end)
-causes p n _ w = []
-
-abbrev pub all_causes : Program → ℕ → List Label → Spots → List Send
-all_causes p n [] w = []
-all_causes p n (l ∷ ls) w = causes p n l w ++ all_causes p n ls (after_label p n l w)
-
-abbrev pub Carried : Program → Spots → Net → List Entry → Type 0
-Carried p old base [] = ⊤
-Carried p old base (x ∷ xs) = Carried p old base xs
-    × (sends_or (done_for p (net_after_trace p base xs) x) ≡ all_causes p x.node x.labels (spots_of p old xs))
-
--- ## Settled: nothing is missing. At the end of an entry no thread is in the midst of a call, a reply or its end
-
-abbrev pub IsSettled : Life → Type 0
-IsSettled (On m Running) = ⊥
-IsSettled (On m (Due code)) = ⊥
-IsSettled (On m (Served c)) = ⊥
-IsSettled (On m Told_next) = ⊥
-IsSettled (On m (Told_then to)) = ⊥
-IsSettled (On m (Departs to)) = ⊥
-IsSettled (On m (Ends end)) = ⊥
-IsSettled (On m (Leaves end)) = ⊥
-IsSettled (On m Halts) = ⊥
-IsSettled (On m Showing) = ⊥
-IsSettled (On m (Answers h reply second)) = ⊥
-IsSettled _ = ⊤
-
-abbrev pub EachSettled : Program → Spots → List Entry → Type 0
-EachSettled p old [] = ⊤
-EachSettled p old (x ∷ xs) = EachSettled p old xs × ((t : Tid) → IsSettled ((spots_of p old (x ∷ xs)).threads t).life)

@@ -3,6 +3,7 @@
 use Rattle.std.specs.Prelude.{◌≡◌, ℕ, ◌+◌, List, [], ◌∷◌, ◌++◌, map, if◌then◌else◌}
 use Rattle.slot_space.specs.Sets.{run}
 use Rattle.slot_space.specs.declared.names.Tid.{Tid}
+use Rattle.marcel_core.specs.declared.end.End.{End}
 use Rattle.run_trace.specs.declared.entry.Entry.{Entry}
 use Rattle.run_trace.specs.declared.label.Label.{Label}
 use Rattle.run_trace.specs.declared.label.Label.TheVariants.{Born, Ran, Judged, Told, Took, Shown}
@@ -10,10 +11,11 @@ use Rattle.run_trace.specs.declared.label.Extra.{Extra}
 use Rattle.run_trace.specs.declared.label.Extra.TheVariants.{Nothing}
 use Rattle.run_trace.specs.Names.{is_tid}
 use Rattle.run_trace.specs.Program.{Program}
-use Rattle.run_trace.specs.Alone.{subject, is_subject}
+use Rattle.run_trace.specs.Items.{subject}
+use Rattle.run_trace.specs.Alone.{is_about}
 use Rattle.run_trace.specs.Console.{asked_bytes}
 use Rattle.run_trace.specs.Rules.{spots_of}
-use Rattle.run_trace.specs.Spots.{Life, On, Shown_there, Spots, after_label, at_first}
+use Rattle.run_trace.specs.Spots.{Life, On, Noting, Gone, Shown_there, Spots, after_label, at_first}
 
 -- how a thread is born
 pub record Start : Type 0 where
@@ -59,7 +61,7 @@ lived_then _ a = a
 
 abbrev pub lived_in : Tid → List Label → Lived → Lived
 lived_in t [] a = a
-lived_in t (l ∷ ls) a = lived_in t ls (if is_subject t (subject l) then lived_then l a else a)
+lived_in t (l ∷ ls) a = lived_in t ls (if is_about t (subject l) then lived_then l a else a)
 
 -- what thread t has lived through in a trace, newest entry first
 abbrev pub lived : Tid → List Entry → Lived
@@ -109,3 +111,11 @@ IsUpTo before next life lines = lines ≡ before
 -- thread t has written these lines, and the next one too where its print is shown and hasn't returned yet
 abbrev pub HasWritten : Program → List Entry → Tid → List (List ℕ) → List ℕ → Type 0
 HasWritten p lines t before next = IsUpTo before next ((spots_of p (at_first p) lines).threads t).life (written p t lines)
+
+-- ## Ends
+
+-- a thread has ended so, and perhaps its home knows
+abbrev pub HasEnded : Life → End → Type 0
+HasEnded (Noting n end) how = end ≡ how
+HasEnded (Gone end) how = end ≡ how
+HasEnded _ how = ⊥

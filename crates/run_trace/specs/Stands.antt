@@ -19,12 +19,15 @@ use Rattle.run_trace.specs.Names.{is_tid, tid}
 use Rattle.run_trace.specs.Program.{Program, nodes_of}
 use Rattle.run_trace.specs.Guests.{Guest, Thread, waits, guest_slots, packed}
 use Rattle.run_trace.specs.Local.{Local}
+use Rattle.run_trace.specs.Places.{IsRising}
 use Rattle.run_trace.specs.Cluster.{Net}
-use Rattle.run_trace.specs.Keyed.{StandsFor, MapStandsFor}
+use Rattle.run_trace.specs.Keyed.{about, StandsFor, MapStandsFor}
 use Rattle.run_trace.specs.Rules.{is_free}
 use Rattle.run_trace.specs.declared.call.Call.{Call}
 use Rattle.run_trace.specs.declared.call.Call.TheVariants.{Isofree}
-use Rattle.run_trace.specs.Spots.{Stage, Ready, Running, Due, Served, Told_next, Told_then, Departs, Ends, Leaves, Halts, Stays, Shows, Showing, Shown_there, Asks, Awaits, Answers, Answered, Life, Unborn, On, Moving, Noting, Gone, Response, Spot, Spots, Holder, Of_node, Of_thread, Nobody}
+use Rattle.run_trace.specs.Spots.{Stage, Ready, Served, Departs, Leaves, Stays, Shows, Showing, Shown_there, Asks, Awaits, Answers, Answered, Life, Unborn, On, Moving, Noting, Gone, Response, Spot, Spots, Holder, Of_node, Of_thread, Nobody}
+use Rattle.run_trace.specs.World.{Listed}
+use Rattle.run_trace.specs.Items.{is_busy, Subject, Thread as Thread_of, same_subject}
 
 -- ## The threads of a node: those that are there, but one that has given its slots
 
@@ -51,10 +54,6 @@ abbrev pub thread_part : ℕ → Tid → Spot → Option Thread
 thread_part n t s = thread_in_life n s.life s.guest
 
 -- ## The run list: the ready threads, with their priorities
-
-pub record Listed : Type 0 where
-  pub tid : Tid
-  pub priority : ℕ
 
 abbrev pub listed_name : Listed → Tid
 listed_name x = x.tid
@@ -86,24 +85,10 @@ busy t life = record { tid = t; life = life }
 abbrev pub busy_name : Busy → Tid
 busy_name x = x.tid
 
-abbrev pub is_busy : ℕ → Life → Bool
-is_busy n (On m Running) = m == n
-is_busy n (On m (Due code)) = m == n
-is_busy n (On m (Served c)) = m == n
-is_busy n (On m Told_next) = m == n
-is_busy n (On m (Told_then to)) = m == n
-is_busy n (On m (Departs to)) = m == n
-is_busy n (On m (Ends end)) = m == n
-is_busy n (On m (Leaves end)) = m == n
-is_busy n (On m Halts) = m == n
-is_busy n (On m Showing) = 0 == n
-is_busy n (On m (Answers h reply second)) = h == n
-is_busy n _ = false
-
 abbrev pub busy_part : ℕ → Tid → Spot → Option Busy
 busy_part n t s = if is_busy n s.life then Some (busy t s.life) else None
 
--- ## Links: each thread has at most one packet under way, which is the thread itself where it moves
+-- ## Links: what is under way of each subject; of a thread at most one packet as yet, which is the thread itself where it moves
 
 -- what a packet says of a thread
 pub data Word : Type 0 where
@@ -114,13 +99,13 @@ pub data Word : Type 0 where
   Reply : (t : Tid) (code : ℕ) (second : Option ℕ) → Word
   Ended_word : (t : Tid) (end : End) → Word
 
-abbrev pub word_name : Word → Tid
-word_name (Travels x) = x.tid
-word_name (Line t bytes) = t
-word_name (Line_shown t code second) = t
-word_name (Joins t u) = t
-word_name (Reply t code second) = t
-word_name (Ended_word t end) = t
+abbrev pub word_subject : Word → Subject
+word_subject (Travels x) = Thread_of x.tid
+word_subject (Line t bytes) = Thread_of t
+word_subject (Line_shown t code second) = Thread_of t
+word_subject (Joins t u) = Thread_of t
+word_subject (Reply t code second) = Thread_of t
+word_subject (Ended_word t end) = Thread_of t
 
 -- of a packet on a link to node j
 abbrev pub word_of : ℕ → Body → Word
@@ -141,24 +126,29 @@ pub record Way : Type 0 where
   pub to : ℕ
   pub word : Word
 
-abbrev pub way : ℕ → ℕ → Word → Option Way
-way from to word = Some (record { from = from; to = to; word = word })
+abbrev pub way : ℕ → ℕ → Word → List Way
+way from to word = (record { from = from; to = to; word = word }) ∷ []
 
-abbrev pub way_of : Tid → Life → Response → Guest → Option Way
-way_of t (Moving m to) v g = way m to (Travels (packed t g))
-way_of t (On m (Shows bytes)) v g = way m 0 (Line t bytes)
-way_of t (On m Shown_there) v g = way 0 m (Line_shown t v.code v.second)
-way_of t (On m (Asks u)) v g = way m u.home (Joins t u)
-way_of t (On m (Answered h)) v g = way h m (Reply t v.code v.second)
-way_of t (Noting m end) v g = way m t.home (Ended_word t end)
-way_of t _ v g = None
+-- what is under way of a thread, oldest first
+abbrev pub ways_of : Tid → Life → Response → Guest → List Way
+ways_of t (Moving m to) v g = way m to (Travels (packed t g))
+ways_of t (On m (Shows bytes)) v g = way m 0 (Line t bytes)
+ways_of t (On m Shown_there) v g = way 0 m (Line_shown t v.code v.second)
+ways_of t (On m (Asks u)) v g = way m u.home (Joins t u)
+ways_of t (On m (Answered h)) v g = way h m (Reply t v.code v.second)
+ways_of t (Noting m end) v g = way m t.home (Ended_word t end)
+ways_of t _ v g = []
 
-abbrev pub on_link : ℕ → ℕ → Option Way → Option Word
-on_link i j None = None
-on_link i j (Some x) = if x.from == i && x.to == j then Some x.word else None
+abbrev pub on_link : ℕ → ℕ → List Way → List Word
+on_link i j [] = []
+on_link i j (x ∷ xs) = if x.from == i && x.to == j then x.word ∷ on_link i j xs else on_link i j xs
 
-abbrev pub link_part : ℕ → ℕ → Tid → Spot → Option Word
-link_part i j t s = on_link i j (way_of t s.life s.verdict s.guest)
+abbrev pub words_about : List Word → Subject → List Word
+words_about xs s = about same_subject word_subject xs s
+
+-- the packets of a subject on the link from i to j
+abbrev pub link_part : ℕ → ℕ → Subject → (Tid → Spot) → List Word
+link_part i j (Thread_of t) w = on_link i j (ways_of t (w t).life (w t).verdict (w t).guest)
 
 -- ## A node, and what all nodes share
 
@@ -248,5 +238,6 @@ pub record Agrees (p : Program) (w : Spots) : Type 0 where
 -- the nodes and links are exactly their parts of what the labels tell
 pub record Stands (p : Program) (w : Spots) (net : Net) : Type 0 where
   pub nodes : (n : ℕ) → Here n w (net.nodes n) []
-  pub links : (i j : ℕ) → StandsFor is_tid word_name (link_part i j) (words_of j (net.links i j)) w.threads
+  pub links : (i j : ℕ) (s : Subject) → words_about (words_of j (net.links i j)) s ≡ link_part i j s w.threads
   pub agrees : Agrees p w
+  pub rising : (n : ℕ) → IsRising (net.nodes n).places

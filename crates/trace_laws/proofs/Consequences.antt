@@ -1,5 +1,5 @@
 -- Consequences: no thread is at two places, no slot has two holders, and a thread is its code run alone.
-use Rattle.std.proofs.Common.{◌≡◌, ℕ, List, [], ◌∷◌, Option, Some, None, Bool, true, false, eqb, cond, refl, sym, ap, ◌∙◌, arith, inl, inr}
+use Rattle.std.proofs.Common.{◌≡◌, ℕ, List, [], ◌∷◌, Option, Some, None, Bool, true, false, eqb, cond, refl, sym, ap, ◌∙◌, arith, inl, inr, subst}
 use Rattle.std.specs.Prelude.{slice_get}
 use Rattle.marcel_core.specs.Homes.{joiner}
 use Rattle.std.proofs.lemmas.Bool.{eqb-true}
@@ -24,15 +24,20 @@ use Rattle.run_trace.specs.Guests.{Solo, Guest, Thread, waits, guest_slots, told
 use Rattle.run_trace.specs.declared.packet.Body.{Body}
 use Rattle.run_trace.specs.declared.packet.Body.TheVariants.{Mover}
 use Rattle.run_trace.specs.declared.packet.Packet.{Packet}
-use Rattle.run_trace.specs.Keyed.{AreApart, item_of}
 use Rattle.run_trace.specs.Cluster.{Net}
-use Rattle.run_trace.specs.Rules.{spots_of, is_free, IsBorn, JoinerAwaits, MayHear, MayJudge, MayTell, MayKnow, MayLeave, MayCome, MayShow, SoloRule, LifeRule, ObeyEach, Obey, quantum_in}
+use Rattle.run_trace.specs.World.{World, world_after}
+use Rattle.run_trace.specs.Trace.{net_after_trace}
+use Rattle.trace_laws.specs.Obeys.{Obey, world_at, ObeyEach}
+use Rattle.run_trace.specs.Rules.{Occasion, saying, spots_of, is_free, IsBorn, JoinerAwaits, MayHear, MayJudge, MayTell, MayKnow, MayLeave, MayCome, MayShow, SoloRule, LifeRule}
+use Rattle.run_trace.specs.Obeying.{occasion}
 use Rattle.run_trace.specs.Spots.{Stage, Life, Unborn, On, Moving, Noting, Gone, Response, Spot, Spots, Holder, Of_node, Of_thread, Nobody, update, creator_served, joiner_served, end_in, at_first, after_label, after_labels, stepped, ran_stage, ran_spot, passed_stage, asked_stage, heard_at, judged_life, judged_guest, told_stage, gave_life, shown_life, second_of}
-use Rattle.run_trace.specs.Stands.{Stands, thread_part, thread_in_life, thread_in_stage, held, slots_held, is_thread, Word, Travels, word_name, word_of, words_of, way_of, on_link}
-use Rattle.run_trace.specs.Alone.{Alone, alone_then, alone_after, alone_in, alone_of, asked_in, heap_call, unless_refused, answered, subject, is_subject, EachRunsAlone}
+use Rattle.run_trace.specs.Stands.{Stands, thread_part, thread_in_life, thread_in_stage, held, slots_held, is_thread, Word, Travels, word_subject, word_of, words_of, words_about, ways_of, on_link}
+use Rattle.run_trace.specs.Alone.{Alone, alone_then, alone_after, alone_in, alone_of, asked_in, heap_call, unless_refused, answered, is_about, EachRunsAlone}
 use Rattle.run_trace.specs.Holding.{Place, On_node, On_link, IsAmong, IsAt, Has, EachHeldOnce}
 use Rattle.trace_laws.proofs.Tids.{is-true, is-refl}
-use Rattle.trace_laws.proofs.Parts.{Tells, on_way, at_way}
+use Rattle.trace_laws.proofs.Parts.{Tells, at_way}
+use Rattle.trace_laws.proofs.Subjects.{IsOneOf, on_way}
+use Rattle.run_trace.specs.Items.{subject, same_subject, Thread as Subject_of}
 
 -- ## A thread that is on a node, by its spot
 
@@ -73,20 +78,12 @@ pub record Found (place : Place) (s : Spot) (g : Guest) : Type 0 where
   pub guest : s.guest ≡ g
   pub slots : slots_held (held s.life s.guest) ≡ guest_slots g
 
--- what a packet on a link says stands there once
-word_found : (j : ℕ) (ps : List Packet) (body : Body) → AreApart is_tid word_name (words_of j ps) → IsAmong body ps → item_of is_tid word_name (words_of j ps) (word_name (word_of j body)) ≡ Some (word_of j body)
-word_found j [] body a i = absurd i
-word_found j (x ∷ xs) body a i = elim i as (λ v. item_of is_tid word_name (words_of j (x ∷ xs)) t ≡ Some (word_of j body)) [
-  | inl e ↦ rw e (rw (is-refl t) refl)
-  | inr k ↦ by (is_tid t (word_name (word_of j x.body))) refl (word_found j xs body a.1 k)
-]
-  where
-    t : Tid
-    t = word_name (word_of j body)
-
-    by : (v : Bool) → is_tid t (word_name (word_of j x.body)) ≡ v → item_of is_tid word_name (words_of j xs) t ≡ Some (word_of j body) → cond v (Some (word_of j x.body)) (item_of is_tid word_name (words_of j xs) t) ≡ Some (word_of j body)
-    by true e f = absurd (cc (f, a.0, ap (item_of is_tid word_name (words_of j xs)) (is-true t (word_name (word_of j x.body)) e)))
-    by false e f = f
+-- what a packet on a link says stands there
+word_found : (j : ℕ) (ps : List Packet) (body : Body) (t : Tid) → word_subject (word_of j body) ≡ Subject_of t → IsAmong body ps → IsOneOf (word_of j body) (words_about (words_of j ps) (Subject_of t))
+word_found j [] body t name i = absurd i
+word_found j (x ∷ xs) body t name (inl e) = rw (e, name, is-refl t) (inl refl)
+word_found j (x ∷ xs) body t name (inr k) = elim (same_subject (Subject_of t) (word_subject (word_of j x.body))) as (λ v. IsOneOf (word_of j body) (cond v (word_of j x.body ∷ words_about (words_of j xs) (Subject_of t)) (words_about (words_of j xs) (Subject_of t))))
+    [ true ↦ inr (word_found j xs body t name k) | false ↦ word_found j xs body t name k ]
 
 pub found : (p : Program) (w : Spots) (net : Net) → Stands p w net → (place : Place) (t : Tid) (g : Guest) → IsAt net place t g → Found place (w.threads t) g
 found p w net s (On_node n) t g h =
@@ -95,8 +92,8 @@ found p w net s (On_node n) t g h =
 found p w net s (On_link i j) t g h =
     let o : Spot = w.threads t in
     let word : Word = Travels (packed t g) in
-    let item : on_link i j (way_of t o.life o.verdict o.guest) ≡ Some word = sym ((s.links i j).shows t) ∙ word_found j (net.links i j) (Mover (packed t g)) (s.links i j).apart h in
-    let tells : Tells t i j word o.life o.verdict o.guest = at_way t o.life o.verdict o.guest (record { from = i; to = j; word = word }) (on_way i j (way_of t o.life o.verdict o.guest) word item) in
+    let item : IsOneOf word (on_link i j (ways_of t o.life o.verdict o.guest)) = subst (λ xs. IsOneOf word xs) (s.links i j (Subject_of t)) (word_found j (net.links i j) (Mover (packed t g)) t refl h) in
+    let tells : Tells t i j word o.life o.verdict o.guest = at_way t o.life o.verdict o.guest (record { from = i; to = j; word = word }) (on_way i j (ways_of t o.life o.verdict o.guest) word item) in
     let same : o.guest ≡ g = ap unpacked (sym tells.1) in
     record { life = tells.0; guest = same; slots = ap (λ z. slots_held (held z o.guest)) tells.0 ∙ ap guest_slots same }
 
@@ -213,44 +210,44 @@ leave_asks n to life h = grind (arith, h)
 come_asks : (n : ℕ) (life : Life) → MayCome n life → asked_in life ≡ None
 come_asks n life h = grind (arith, h)
 
-label_alone : (p : Program) (q n : ℕ) (l : Label) (w : Spots) (t : Tid) → SoloRule p q n l w → LifeRule p q n l w
-    → alone_in ((after_label p n l w).threads t) ≡ cond (is_subject t (subject l)) (alone_then p t l (alone_in (w.threads t))) (alone_in (w.threads t))
+label_alone : (p : Program) (q : Occasion) (n : ℕ) (l : Label) (w : World) (t : Tid) → SoloRule p q n l w → LifeRule p q n l w
+    → alone_in ((after_label p n l w.spots).threads t) ≡ cond (is_about t (subject l)) (alone_then p t l (alone_in (w.spots.threads t))) (alone_in (w.spots.threads t))
 label_alone p q n (Born u why entry a0 a1 sp slot) w t solo life =
-    seen (creator_served n u why w.threads) u t _ (λ z a. alone_then p z (Born u why entry a0 a1 sp slot) a) refl
-    ∙ ap (λ a. cond (is_tid u t) (alone_then p t (Born u why entry a0 a1 sp slot) a) a) (served_creator p n u why entry a0 w t solo.0)
+    seen (creator_served n u why w.spots.threads) u t _ (λ z a. alone_then p z (Born u why entry a0 a1 sp slot) a) refl
+    ∙ ap (λ a. cond (is_tid u t) (alone_then p t (Born u why entry a0 a1 sp slot) a) a) (served_creator p n u why entry a0 w.spots t solo.0)
 label_alone p q n (Ran u vp count stop) w t solo life =
-    let next : State = stepped (code_of p) count (w.threads u).guest.solo.state in
-    seen w.threads u t _ (λ z a. alone_then p z (Ran u vp count stop) a) (ap (asking (ran_spot p n count stop (w.threads u))) (ran_asks n stop next ∙ sym (ap asked_in life)))
+    let next : State = stepped (code_of p) count (w.spots.threads u).guest.solo.state in
+    seen w.spots.threads u t _ (λ z a. alone_then p z (Ran u vp count stop) a) (ap (asking (ran_spot p n count stop (w.spots.threads u))) (ran_asks n stop next ∙ sym (ap asked_in life)))
 label_alone p q n (Asked u call args bytes) w t solo life =
-    let x : Solo = (w.threads u).guest.solo in
-    seen w.threads u t _ (λ z a. alone_then p z (Asked u call args bytes) a) (ap (asking (w.threads u)) (call_asks p n u x (call_of x.state) (refusal p u x (call_of x.state))))
-label_alone p q n (Heard u) w t solo life = seen_so w.threads u t _ (heard_asks n w.births (w.threads u).life life)
+    let x : Solo = (w.spots.threads u).guest.solo in
+    seen w.spots.threads u t _ (λ z a. alone_then p z (Asked u call args bytes) a) (ap (asking (w.spots.threads u)) (call_asks p n u x (call_of x.state) (refusal p u x (call_of x.state))))
+label_alone p q n (Heard u) w t solo life = seen_so w.spots.threads u t _ (heard_asks n w.spots.births (w.spots.threads u).life life)
 label_alone p q n (Judged u reply extra) w t solo life =
-    let o : Spot = w.threads u in
+    let o : Spot = w.spots.threads u in
     let v : Response = record { code = reply; second = second_of extra } in
-    seen w.threads u t _ (λ z a. alone_then p z (Judged u reply extra) a)
+    seen w.spots.threads u t _ (λ z a. alone_then p z (Judged u reply extra) a)
     (ap (λ z. record { solo = (judged_guest o.life o.guest).solo; asked = z; reply = v }) (judged_asks n o.life life)
     ∙ ap (λ z. record { solo = z; asked = None; reply = v }) (judged_solo o.life o.guest))
 label_alone p q n (Told u) w t solo life =
-    let o : Spot = w.threads u in
-    seen w.threads u t _ (λ z a. alone_then p z (Told u) a)
+    let o : Spot = w.spots.threads u in
+    seen w.spots.threads u t _ (λ z a. alone_then p z (Told u) a)
     (ap (λ z. record { solo = (told o.verdict.code o.verdict.second o.guest).solo; asked = z; reply = o.verdict }) (told_asks n o.life ∙ sym (tell_asks n o.life life)))
-label_alone p q n (Took u first count) w t solo life = seen w.threads u t _ (λ z a. alone_then p z (Took u first count) a) refl
+label_alone p q n (Took u first count) w t solo life = seen w.spots.threads u t _ (λ z a. alone_then p z (Took u first count) a) refl
 label_alone p q n (Gave u slots) w t solo life =
-    let o : Spot = w.threads u in
-    seen w.threads u t _ (λ z a. alone_then p z (Gave u slots) a)
+    let o : Spot = w.spots.threads u in
+    seen w.spots.threads u t _ (λ z a. alone_then p z (Gave u slots) a)
     (ap (λ z. record { solo = (gives_slots slots o.guest).solo; asked = z; reply = o.verdict }) (gave_asks o.life))
-label_alone p q n (Ended u end) w t solo life = seen_so w.threads u t _ (sym (ap asked_in life))
+label_alone p q n (Ended u end) w t solo life = seen_so w.spots.threads u t _ (sym (ap asked_in life))
 label_alone p q n (Known u) w t solo life =
-    let end : End = end_in (w.threads u).life in
-    let o : Option (Tid × ℕ) = joiner (slice_get (w.births u.home) u.seq) in
-    seen (joiner_served u end o w.threads) u t _ (λ z a. a)
-    (ap (asking (w.threads u)) (sym (known_asks (w.threads u).life life.0)) ∙ sym (served_joiner u end o w u life.2))
-    ∙ ap (λ a. cond (is_tid u t) a a) (served_joiner u end o w t life.2)
-label_alone p q n (Shown u) w t solo life = seen_so w.threads u t _ (shown_asks n (w.threads u).life life)
-label_alone p q n (Halted u) w t solo life = seen_so w.threads u t _ (sym (ap asked_in life))
-label_alone p q n (Left u to) w t solo life = seen_so w.threads u t _ (sym (leave_asks n to (w.threads u).life life.0))
-label_alone p q n (Came u) w t solo life = seen_so w.threads u t _ (sym (come_asks n (w.threads u).life life))
+    let end : End = end_in (w.spots.threads u).life in
+    let o : Option (Tid × ℕ) = joiner (slice_get (w.spots.births u.home) u.seq) in
+    seen (joiner_served u end o w.spots.threads) u t _ (λ z a. a)
+    (ap (asking (w.spots.threads u)) (sym (known_asks (w.spots.threads u).life life.0)) ∙ sym (served_joiner u end o w.spots u life.2))
+    ∙ ap (λ a. cond (is_tid u t) a a) (served_joiner u end o w.spots t life.2)
+label_alone p q n (Shown u) w t solo life = seen_so w.spots.threads u t _ (shown_asks n (w.spots.threads u).life life)
+label_alone p q n (Halted u) w t solo life = seen_so w.spots.threads u t _ (sym (ap asked_in life))
+label_alone p q n (Left u to) w t solo life = seen_so w.spots.threads u t _ (sym (leave_asks n to (w.spots.threads u).life life.0))
+label_alone p q n (Came u) w t solo life = seen_so w.spots.threads u t _ (sym (come_asks n (w.spots.threads u).life life))
 label_alone p q n (Decided u count first) w t solo life = absurd life
 label_alone p q n (Dropped u count reply) w t solo life = absurd life
 label_alone p q n (Lent to slots) w t solo life = absurd life
@@ -261,17 +258,17 @@ label_alone p q n (Down bubble list) w t solo life = absurd life
 label_alone p q n (Burst bubble list) w t solo life = absurd life
 label_alone p q n (Gathered bubble count) w t solo life = absurd life
 
-labels_alone : (p : Program) (q n : ℕ) (ls : List Label) (w : Spots) (t : Tid) → ObeyEach SoloRule p q n ls w → ObeyEach LifeRule p q n ls w
-    → alone_in ((after_labels p n ls w).threads t) ≡ alone_after p t ls (alone_in (w.threads t))
+labels_alone : (p : Program) (q : Occasion) (n : ℕ) (ls : List Label) (w : World) (t : Tid) → ObeyEach SoloRule p q n ls w → ObeyEach LifeRule p q n ls w
+    → alone_in ((after_labels p n ls w.spots).threads t) ≡ alone_after p t ls (alone_in (w.spots.threads t))
 labels_alone p q n [] w t solo life = refl
-labels_alone p q n (l ∷ ls) w t solo life = labels_alone p q n ls (after_label p n l w) t solo.1 life.1 ∙ ap (alone_after p t ls) (label_alone p q n l w t solo.0 life.0)
+labels_alone p q n (l ∷ ls) w t solo life = labels_alone p (saying l q) n ls (world_after p n l w) t solo.1 life.1 ∙ ap (alone_after p t ls) (label_alone p q n l w t solo.0 life.0)
 
-spots_alone : (p : Program) (lines : List Entry) (t : Tid) → Obey SoloRule p (at_first p) lines → Obey LifeRule p (at_first p) lines
+spots_alone : (p : Program) (base : Net) (lines : List Entry) (t : Tid) → Obey SoloRule p (at_first p) base lines → Obey LifeRule p (at_first p) base lines
     → alone_in ((spots_of p (at_first p) lines).threads t) ≡ alone_of p t lines
-spots_alone p [] t solo life = refl
-spots_alone p (x ∷ xs) t solo life = labels_alone p (quantum_in x.act) x.node x.labels (spots_of p (at_first p) xs) t solo.1 life.1 ∙ ap (alone_after p t x.labels) (spots_alone p xs t solo.0 life.0)
+spots_alone p base [] t solo life = refl
+spots_alone p base (x ∷ xs) t solo life = labels_alone p (occasion x (world_at (spots_of p (at_first p) xs) (net_after_trace p base xs))) x.node x.labels (world_at (spots_of p (at_first p) xs) (net_after_trace p base xs)) t solo.1 life.1 ∙ ap (alone_after p t x.labels) (spots_alone p base xs t solo.0 life.0)
 
-pub runs_alone : (p : Program) (lines : List Entry) (net : Net) → Obey SoloRule p (at_first p) lines → Obey LifeRule p (at_first p) lines → Stands p (spots_of p (at_first p) lines) net → EachRunsAlone p net lines
-runs_alone p lines net solo life s t place g h =
+pub runs_alone : (p : Program) (base : Net) (lines : List Entry) (net : Net) → Obey SoloRule p (at_first p) base lines → Obey LifeRule p (at_first p) base lines → Stands p (spots_of p (at_first p) lines) net → EachRunsAlone p net lines
+runs_alone p base lines net solo life s t place g h =
     let at : Found place ((spots_of p (at_first p) lines).threads t) g = found p _ net s place t g h in
-    ap (λ (z : Guest). z.solo) (sym at.guest) ∙ ap (λ (a : Alone). a.solo) (spots_alone p lines t solo life)
+    ap (λ (z : Guest). z.solo) (sym at.guest) ∙ ap (λ (a : Alone). a.solo) (spots_alone p base lines t solo life)

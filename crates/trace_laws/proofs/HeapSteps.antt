@@ -18,33 +18,36 @@ use Rattle.run_trace.specs.Places.{Places}
 use Rattle.run_trace.specs.Keyed.{StandsFor, MapStandsFor}
 use Rattle.run_trace.specs.Local.{Local, Doing}
 use Rattle.run_trace.specs.Steps.{at_thread, say, keep, slots_out, slots_in, takes_run, returns}
-use Rattle.run_trace.specs.Machine.{free_run, place_code, places, claimed, allocates_with, allocates, returns_any, frees_block, frees}
+use Rattle.run_trace.specs.Machine.{free_run, places, claimed, allocates_with, allocates, returns_any, frees_block, frees}
 use Rattle.run_trace.specs.Cluster.{Net}
 use Rattle.run_trace.specs.Spots.{Stage, Served, On, Spot, Spots, Of_node, Of_thread, update, gave_life}
-use Rattle.run_trace.specs.Rules.{is_free, lowest_free, MayGive}
+use Rattle.run_trace.specs.Rules.{Occasion, is_free, lowest_free, MayGive}
 use Rattle.run_trace.specs.Stands.{Busy, busy, busy_name, busy_part, thread_part, row_part, listed, listed_name, held, slots_held, IsWellHeld, is_thread}
 use Rattle.trace_laws.proofs.Tids.{is-true, is-refl}
 use Rattle.trace_laws.proofs.KeyedLemmas.{kept, map_set}
-use Rattle.trace_laws.proofs.Midst.{Links, Midst, keeps, spots_with, spots_at, spot_then, updated}
-use Rattle.trace_laws.proofs.Steps.{Ties, in_hand, thread_was, row_was, busy_was, at_ok, settles_ok}
+use Rattle.run_trace.specs.World.{World, world_after}
+use Rattle.trace_laws.proofs.Midst.{Links, Midst, keeps, spots_with, Then, updated}
+use Rattle.trace_laws.proofs.Steps.{own_stays, Ties, in_hand, thread_was, row_was, busy_was, at_ok, settles_ok}
 use Rattle.trace_laws.proofs.Lifetimes.{slots_step, given, taken, gives_change, takes_change, thread_holds, lowest_held}
 use Rattle.run_trace.proofs.HeldSlots.{has_gives, has_takes}
 use Rattle.trace_laws.proofs.Heaps.{empty_held, gave_well, gave_all, placed_well, takes_well, has_place}
+use Rattle.run_trace.specs.Calls.{place_code}
+use Rattle.run_trace.specs.Items.{is_busy}
 
-module _ (p : Program) (net : Net) (q n : ℕ) (w : Spots) (L : Links) where
+module _ (p : Program) (net : Net) (q : Occasion) (n : ℕ) (w : World) (L : Links) where
   abbrev Is : Doing → List Busy → Type 0
   Is d hand = Midst p net q n w L d hand
 
-  abbrev spot : Doing → Tid → Spot
-  spot d t = (spots_at p net q n w d).threads t
+  abbrev spot : Spots → Tid → Spot
+  spot v t = v.threads t
 
   -- the lists of node n, where only the guest of its thread has changed
-  served_ties : (d : Doing) (t : Tid) (c : Call) (g : Guest) (hs : List Busy) (now : Local) → Is d (busy t (On n (Served c)) ∷ hs) → (spot d t).life ≡ On n (Served c)
+  served_ties : (d : Doing) (t : Tid) (c : Call) (g : Guest) (hs : List Busy) (now : Local) → (m : Is d (busy t (On n (Served c)) ∷ hs)) → (spot m.now.spots t).life ≡ On n (Served c)
       → now.threads ≡ set_value (is_tid t) d.node.threads (waits wait.No g) → now.places ≡ d.node.places
-      → Ties p net q n w L (spots_at p net q n w d) t (record (spot d t) { guest = g }) now (busy t (On n (Served c)) ∷ hs)
+      → Ties p net q n w L m.now.spots t (record (spot m.now.spots t) { guest = g }) now (busy t (On n (Served c)) ∷ hs)
   served_ties d t c g hs now m x threads places =
-      let v : Spots = spots_at p net q n w d in
-      let s : Spot = spot d t in
+      let v : Spots = m.now.spots in
+      let s : Spot = spot m.now.spots t in
       let r : Spot = record s { guest = g } in
       record {
         threads = subst (λ es. MapStandsFor is_tid (thread_part n) es (update v.threads t r)) (sym threads)
@@ -58,26 +61,26 @@ module _ (p : Program) (net : Net) (q n : ℕ) (w : Spots) (L : Links) where
   -- ## isomalloc
 
   -- the block is placed, or the node has no run for it
-  places_ok : (d : Doing) (t : Tid) (len : ℕ) (hs : List Busy) → Is d (busy t (On n (Served (Isomalloc len))) ∷ hs)
-      → (place (heap_of (spot d t).guest.solo) (rounded len) ≡ None → lowest_free n (slots_for (rounded len)) (spots_at p net q n w d) ≡ None)
-      → Is (places t (rounded len) (waits wait.No (spot d t).guest) d) hs
+  places_ok : (d : Doing) (t : Tid) (len : ℕ) (hs : List Busy) → (m : Is d (busy t (On n (Served (Isomalloc len))) ∷ hs))
+      → (place (heap_of (spot m.now.spots t).guest.solo) (rounded len) ≡ None → lowest_free n (slots_for (rounded len)) m.now.spots ≡ None)
+      → Is (places t (rounded len) (waits wait.No (spot m.now.spots t).guest) d) hs
   places_ok d t len hs m full =
-      let g : Guest = (spot d t).guest in
-      let x : (spot d t).life ≡ On n (Served (Isomalloc len)) = in_hand p net q n w L d t (On n (Served (Isomalloc len))) hs m in
+      let g : Guest = (spot m.now.spots t).guest in
+      let x : (spot m.now.spots t).life ≡ On n (Served (Isomalloc len)) = in_hand p net q n w L d t (On n (Served (Isomalloc len))) hs m in
       let address : Option ℕ = place (heap_of g.solo) (rounded len) in
       settles_ok p net q n w L d t (place_code address) (with_placed (rounded len) address g) (Isomalloc len) hs m refl refl
       (record { solo = tt; holders = tt; life = rw x refl; replies = rw x (refl, refl); grants = rw x full })
       (record { slots = refl; well = λ h. placed_well g (rounded len) address refl h })
 
   -- the thread takes a run of the node's slots, since its block has no place
-  takes_run_ok : (d : Doing) (t : Tid) (len first : ℕ) (hs : List Busy) → Is d (busy t (On n (Served (Isomalloc len))) ∷ hs)
-      → place (heap_of (spot d t).guest.solo) (rounded len) ≡ None
-      → lowest_free n (slots_for (rounded len)) (spots_at p net q n w d) ≡ Some first
-      → Is (takes_run t first (slots_for (rounded len)) (spot d t).guest d) (busy t (On n (Served (Isomalloc len))) ∷ hs)
+  takes_run_ok : (d : Doing) (t : Tid) (len first : ℕ) (hs : List Busy) → (m : Is d (busy t (On n (Served (Isomalloc len))) ∷ hs))
+      → place (heap_of (spot m.now.spots t).guest.solo) (rounded len) ≡ None
+      → lowest_free n (slots_for (rounded len)) m.now.spots ≡ Some first
+      → Then p net q n w L m.now (Took t first (slots_for (rounded len))) (takes_run t first (slots_for (rounded len)) (spot m.now.spots t).guest d) (busy t (On n (Served (Isomalloc len))) ∷ hs)
   unfolding takes_run keep slots_out say
   takes_run_ok d t len first hs m none free =
-      let v : Spots = spots_at p net q n w d in
-      let s : Spot = spot d t in
+      let v : Spots = m.now.spots in
+      let s : Spot = spot m.now.spots t in
       let g : Guest = s.guest in
       let count : ℕ = slots_for (rounded len) in
       let got : List ℕ = run first count in
@@ -91,16 +94,16 @@ module _ (p : Program) (net : Net) (q n : ℕ) (w : Spots) (L : Links) where
       (takes_change p n v t r d.node.slots.own got m.agrees m.here.own holder
       (λ y. ap (λ z. has y (slots_held (held z (takes_slots got g)))) x ∙ has_takes y got g.solo.state.memory ∙ ap (λ z. cond (has y got) true (has y (slots_held (held z g)))) (sym x)))
       (subst (λ z. IsWellHeld (held z (takes_slots got g))) (sym x) (takes_well g got (subst (λ z. IsWellHeld (held z g)) x (m.agrees.blocks t))))
+      (own_stays p net q n w L d t (On n a) hs (Took t first count) s.life (On n a) m refl refl (ap (is_busy n) x ∙ eq-eqb n n refl)) refl refl
 
-  taken_guest : (d : Doing) (t : Tid) (first count : ℕ) → (spot (takes_run t first count (spot d t).guest d) t).guest ≡ takes_slots (run first count) (spot d t).guest
-  unfolding takes_run keep slots_out say
-  taken_guest d t first count = ap (λ (z : Spot). z.guest) (spot_then p net q n w d (Took t first count) _ t refl ∙ updated (spots_at p net q n w d).threads t _)
+  taken_guest : (v u : World) (t : Tid) (first count : ℕ) → u ≡ world_after p n (Took t first count) v → (u.spots.threads t).guest ≡ takes_slots (run first count) (spot v.spots t).guest
+  taken_guest v u t first count e = ap (λ (z : World). (z.spots.threads t).guest) e ∙ ap (λ (z : Spot). z.guest) (updated v.spots.threads t _)
 
-  pub allocates_ok : (d : Doing) (t : Tid) (len : ℕ) (hs : List Busy) → Is d (busy t (On n (Served (Isomalloc len))) ∷ hs) → Is (allocates t (rounded len) (waits wait.No (spot d t).guest) d) hs
+  pub allocates_ok : (d : Doing) (t : Tid) (len : ℕ) (hs : List Busy) → (m : Is d (busy t (On n (Served (Isomalloc len))) ∷ hs)) → Is (allocates t (rounded len) (waits wait.No (spot m.now.spots t).guest) d) hs
   allocates_ok d t len hs m = by_place (place (heap_of g.solo) size) refl
     where
       g : Guest
-      g = (spot d t).guest
+      g = (spot m.now.spots t).guest
 
       size : ℕ
       size = rounded len
@@ -111,39 +114,40 @@ module _ (p : Program) (net : Net) (q n : ℕ) (w : Spots) (L : Links) where
       a : Stage
       a = Served (Isomalloc len)
 
-      x : (spot d t).life ≡ On n a
+      x : (spot m.now.spots t).life ≡ On n a
       x = in_hand p net q n w L d t (On n a) hs m
 
       well : IsWellHeld (held (On n a) g)
       well = subst (λ z. IsWellHeld (held z g)) x (m.agrees.blocks t)
 
       -- the node's slots aren't the thread's
-      apart : (first : ℕ) → lowest_free n count (spots_at p net q n w d) ≡ Some first → (y : ℕ) → has y (run first count) ≡ true → has y (guest_slots g) ≡ false
-      apart first free y h = ap (λ z. has y (slots_held (held z g))) (sym x) ∙ m.agrees.slots t y ∙ ap (is_thread t) (lowest_held n count (spots_at p net q n w d) first y free h)
+      apart : (first : ℕ) → lowest_free n count m.now.spots ≡ Some first → (y : ℕ) → has y (run first count) ≡ true → has y (guest_slots g) ≡ false
+      apart first free y h = ap (λ z. has y (slots_held (held z g))) (sym x) ∙ m.agrees.slots t y ∙ ap (is_thread t) (lowest_held n count m.now.spots first y free h)
 
       -- none of the node's slots is the thread's, so its lowest run is one of those that aren't
-      lowest : lowest_free n count (spots_at p net q n w d) ≡ free_run (minus d.node.slots.own (guest_slots g)) count
-      lowest = lowest_run-same (λ y. is_free n ((spots_at p net q n w d).slots y)) (λ y. has y (minus d.node.slots.own (guest_slots g))) count 4096
+      lowest : lowest_free n count m.now.spots ≡ free_run (minus d.node.slots.own (guest_slots g)) count
+      lowest = lowest_run-same (λ y. is_free n (m.now.spots.slots y)) (λ y. has y (minus d.node.slots.own (guest_slots g))) count 4096
           (λ y. by_holder y (has y (guest_slots g)) (had y) ∙ sym (has-minus y d.node.slots.own (guest_slots g)))
         where
-          had : (y : ℕ) → is_thread t ((spots_at p net q n w d).slots y) ≡ has y (guest_slots g)
+          had : (y : ℕ) → is_thread t (m.now.spots.slots y) ≡ has y (guest_slots g)
           had y = sym (m.agrees.slots t y) ∙ ap (λ z. has y (slots_held (held z g))) x
 
-          by_holder : (y : ℕ) (b : Bool) → is_thread t ((spots_at p net q n w d).slots y) ≡ b → is_free n ((spots_at p net q n w d).slots y) ≡ cond b false (has y d.node.slots.own)
-          by_holder y true e = ap (is_free n) (thread_holds t ((spots_at p net q n w d).slots y) e)
+          by_holder : (y : ℕ) (b : Bool) → is_thread t (m.now.spots.slots y) ≡ b → is_free n (m.now.spots.slots y) ≡ cond b false (has y d.node.slots.own)
+          by_holder y true e = ap (is_free n) (thread_holds t (m.now.spots.slots y) e)
           by_holder y false e = sym (m.here.own y)
 
       by_run : place (heap_of g.solo) size ≡ None → (o : Option ℕ) → free_run (minus d.node.slots.own (guest_slots g)) count ≡ o → Is (allocates_with t size o (waits wait.No g) d) hs
       by_run none None f = places_ok d t len hs m (λ e. lowest ∙ f)
       by_run none (Some first) f =
-          let free : lowest_free n count (spots_at p net q n w d) ≡ Some first = lowest ∙ f in
-          let low : first < 4096 = (lowest_run-found (λ y. is_free n ((spots_at p net q n w d).slots y)) count 4096 first free).below in
+          let free : lowest_free n count m.now.spots ≡ Some first = lowest ∙ f in
+          let low : first < 4096 = (lowest_run-found (λ y. is_free n (m.now.spots.slots y)) count 4096 first free).below in
           let after : Doing = takes_run t first count g d in
-          let k : Is after (busy t (On n a) ∷ hs) = takes_run_ok d t len first hs m none free in
+          let then = takes_run_ok d t len first hs m none free in
+          let k : Is after (busy t (On n a) ∷ hs) = then.midst in
           at_ok p net q n w L after _ hs t a (places t size) k (in_hand p net q n w L after t (On n a) hs k) refl
           (places_ok after t len hs k
           (λ e. absurd (has_place g size first count well (omega arith) low (apart first free)
-          (subst (λ (z : Guest). place (heap_of z.solo) size ≡ None) (taken_guest d t first count) e))))
+          (subst (λ (z : Guest). place (heap_of z.solo) size ≡ None) (taken_guest m.now k.now t first count then.now) e))))
 
       by_place : (o : Option ℕ) → place (heap_of g.solo) size ≡ o → Is (allocates_with t size (claimed o (free_run (minus d.node.slots.own (guest_slots g)) count)) (waits wait.No g) d) hs
       by_place None e = by_run e (free_run (minus d.node.slots.own (guest_slots g)) count) refl
@@ -151,13 +155,13 @@ module _ (p : Program) (net : Net) (q n : ℕ) (w : Spots) (L : Links) where
 
   -- ## isofree
 
-  returns_ok : (d : Doing) (t : Tid) (address : ℕ) (hs : List Busy) → Is d (busy t (On n (Served (Isofree address))) ∷ hs)
-      → (emptied (heap_of (spot d t).guest.solo) address ≡ [] → ⊥)
-      → Is (returns t (emptied (heap_of (spot d t).guest.solo) address) (spot d t).guest d) (busy t (On n (Served (Isofree address))) ∷ hs)
+  returns_ok : (d : Doing) (t : Tid) (address : ℕ) (hs : List Busy) → (m : Is d (busy t (On n (Served (Isofree address))) ∷ hs))
+      → (emptied (heap_of (spot m.now.spots t).guest.solo) address ≡ [] → ⊥)
+      → Then p net q n w L m.now (Gave t (emptied (heap_of (spot m.now.spots t).guest.solo) address)) (returns t (emptied (heap_of (spot m.now.spots t).guest.solo) address) (spot m.now.spots t).guest d) (busy t (On n (Served (Isofree address))) ∷ hs)
   unfolding returns keep slots_in say
   returns_ok d t address hs m some =
-      let v : Spots = spots_at p net q n w d in
-      let s : Spot = spot d t in
+      let v : Spots = m.now.spots in
+      let s : Spot = spot m.now.spots t in
       let g : Guest = s.guest in
       let back : List ℕ = emptied (heap_of g.solo) address in
       let a : Stage = Served (Isofree address) in
@@ -172,30 +176,30 @@ module _ (p : Program) (net : Net) (q n : ℕ) (w : Spots) (L : Links) where
       (gives_change p n v t r d.node.slots.own back m.agrees m.here.own holder
       (λ y. ap (λ z. has y (slots_held (held z (gives_slots back g)))) x ∙ has_gives y back g.solo.state.memory ∙ ap (λ z. cond (has y back) false (has y (slots_held (held z g)))) (sym x)))
       (subst (λ z. IsWellHeld (held z (gives_slots back g))) (sym x) (gave_well g address (subst (λ z. IsWellHeld (held z g)) x (m.agrees.blocks t))))
+      (own_stays p net q n w L d t (On n a) hs (Gave t back) s.life (On n a) m refl refl (ap (is_busy n) x ∙ eq-eqb n n refl)) refl refl
 
-  returned_guest : (d : Doing) (t : Tid) (slots : List ℕ) → (spot (returns t slots (spot d t).guest d) t).guest ≡ gives_slots slots (spot d t).guest
-  unfolding returns keep slots_in say
-  returned_guest d t slots = ap (λ (z : Spot). z.guest) (spot_then p net q n w d (Gave t slots) _ t refl ∙ updated (spots_at p net q n w d).threads t _)
+  returned_guest : (v u : World) (t : Tid) (slots : List ℕ) → u ≡ world_after p n (Gave t slots) v → (u.spots.threads t).guest ≡ gives_slots slots (spot v.spots t).guest
+  returned_guest v u t slots e = ap (λ (z : World). (z.spots.threads t).guest) e ∙ ap (λ (z : Spot). z.guest) (updated v.spots.threads t _)
 
   -- the block is gone, once no slot is left to be given
-  freed_ok : (d : Doing) (t : Tid) (address : ℕ) (hs : List Busy) → Is d (busy t (On n (Served (Isofree address))) ∷ hs)
-      → emptied (heap_of (spot d t).guest.solo) address ≡ []
+  freed_ok : (d : Doing) (t : Tid) (address : ℕ) (hs : List Busy) → (m : Is d (busy t (On n (Served (Isofree address))) ∷ hs))
+      → emptied (heap_of (spot m.now.spots t).guest.solo) address ≡ []
       → Is (at_thread t (frees_block t address) d) hs
   freed_ok d t address hs m none =
-      let x : (spot d t).life ≡ On n (Served (Isofree address)) = in_hand p net q n w L d t (On n (Served (Isofree address))) hs m in
+      let x : (spot m.now.spots t).life ≡ On n (Served (Isofree address)) = in_hand p net q n w L d t (On n (Served (Isofree address))) hs m in
       at_ok p net q n w L d _ hs t (Served (Isofree address)) (frees_block t address) m x refl
-      (settles_ok p net q n w L d t 0 (without_block address (spot d t).guest) (Isofree address) hs m refl refl
+      (settles_ok p net q n w L d t 0 (without_block address (spot m.now.spots t).guest) (Isofree address) hs m refl refl
       (record { solo = tt; holders = tt; life = rw x refl; replies = rw x ((refl, none), refl); grants = rw x tt })
       (keeps _ _ refl))
 
-  pub frees_ok : (d : Doing) (t : Tid) (address : ℕ) (hs : List Busy) → Is d (busy t (On n (Served (Isofree address))) ∷ hs) → Is (frees t address (waits wait.No (spot d t).guest) d) hs
+  pub frees_ok : (d : Doing) (t : Tid) (address : ℕ) (hs : List Busy) → (m : Is d (busy t (On n (Served (Isofree address))) ∷ hs)) → Is (frees t address (waits wait.No (spot m.now.spots t).guest) d) hs
   frees_ok d t address hs m = by (emptied (heap_of g.solo) address) refl
     where
       g : Guest
-      g = (spot d t).guest
+      g = (spot m.now.spots t).guest
 
       by : (slots : List ℕ) → emptied (heap_of g.solo) address ≡ slots → Is (at_thread t (frees_block t address) (returns_any t slots g d)) hs
       by [] e = freed_ok d t address hs m e
-      by (y ∷ slots) e = subst (λ (back : List ℕ). Is (at_thread t (frees_block t address) (returns t back g d)) hs) e
-          (freed_ok (returns t (emptied (heap_of g.solo) address) g d) t address hs (returns_ok d t address hs m (λ none. absurd (cc (none, e))))
-          (subst (λ (z : Guest). emptied (heap_of z.solo) address ≡ []) (sym (returned_guest d t (emptied (heap_of g.solo) address))) (gave_all g address)))
+      by (y ∷ slots) e = let k = returns_ok d t address hs m (λ none. absurd (cc (none, e))) in subst (λ (back : List ℕ). Is (at_thread t (frees_block t address) (returns t back g d)) hs) e
+          (freed_ok (returns t (emptied (heap_of g.solo) address) g d) t address hs k.midst
+          (subst (λ (z : Guest). emptied (heap_of z.solo) address ≡ []) (sym (returned_guest m.now k.midst.now t (emptied (heap_of g.solo) address) k.now)) (gave_all g address)))

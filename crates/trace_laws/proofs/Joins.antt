@@ -1,5 +1,5 @@
 -- A join that is taken up at the home, and an end that the home comes to know.
-use Rattle.std.proofs.Common.{◌≡◌, ℕ, List, [], ◌∷◌, Option, Some, None, true, false, eqb, cond, refl, sym, ap, ◌∙◌, subst, map}
+use Rattle.std.proofs.Common.{◌++◌, ◌≡◌, ℕ, List, [], ◌∷◌, Option, Some, None, true, false, eqb, cond, refl, sym, ap, ◌∙◌, subst, map}
 use Rattle.std.specs.Prelude.{slice_get}
 use Rattle.std.proofs.lemmas.Bool.{eq-eqb, eqb-true}
 use Rattle.slot_space.specs.Sets.{has}
@@ -21,15 +21,18 @@ use Rattle.run_trace.specs.Machine.{judges_join, tells_joiner}
 use Rattle.run_trace.specs.Cluster.{Net}
 use Rattle.run_trace.specs.Keyed.{StandsFor}
 use Rattle.run_trace.specs.Spots.{Stays, Asks, Awaits, Answers, Life, Unborn, On, Noting, Gone, Spot, Spots, update, at_node, heard_life, heard_at, joined_at, end_in, joiner_served}
-use Rattle.run_trace.specs.Rules.{JoinerAwaits}
-use Rattle.run_trace.specs.Stands.{Agrees, Busy, busy, busy_name, is_busy, busy_part, thread_part, thread_in_life, row_part, row_in_life, listed, listed_name, Joins, Ended_word, way_of, phase_of, phase_at, During, After, held, holding_of, slots_held, IsWellHeld, is_thread}
-use Rattle.trace_laws.proofs.Tids.{is-true, is-refl, is-false, is-other, same_name}
+use Rattle.run_trace.specs.Rules.{Occasion, JoinerAwaits}
+use Rattle.run_trace.specs.Stands.{way, Agrees, Busy, busy, busy_name, busy_part, thread_part, thread_in_life, row_part, row_in_life, listed, listed_name, Joins, Ended_word, ways_of, phase_of, phase_at, During, After, held, holding_of, slots_held, IsWellHeld, is_thread}
+use Rattle.trace_laws.proofs.Tids.{is-true, is-refl, is-false, is-other, is-flip, same_name}
 use Rattle.trace_laws.proofs.KeyedLemmas.{kept, fronted, map_kept}
 use Rattle.trace_laws.proofs.Births.{get-with, with-none}
-use Rattle.trace_laws.proofs.Midst.{Links, Midst, spots_with, labelled, here_kept, links_kept, take_link, nothing_sent, updated}
+use Rattle.run_trace.specs.Spots.{after_label}
+use Rattle.run_trace.specs.World.{World}
+use Rattle.trace_laws.proofs.Midst.{Own, beside, Links, Midst, spots_with, labelled, here_kept, links_kept, take_link, nothing_sent, updated}
 use Rattle.trace_laws.proofs.Parts.{busy_none}
 use Rattle.trace_laws.proofs.Takes.{Left, reply_ok, links_whole}
-use Rattle.trace_laws.proofs.Steps.{idle_was}
+use Rattle.trace_laws.proofs.Steps.{idle_was, life_then}
+use Rattle.run_trace.specs.Items.{Thread, Does, is_busy, joiner_in, as_list, busy_among}
 
 -- ## What a home has of its births, after one of them has changed
 
@@ -129,101 +132,106 @@ joins_agree p n seq from w by r births new gets a x during slots phase awaited w
     was : phase_of r.life ≡ phase_of (w.threads by).life
     was = during ∙ sym (ap phase_of x)
 
-module _ (p : Program) (net : Net) (q n : ℕ) (w : Spots) (L : Links) where
+module _ (p : Program) (net : Net) (q : Occasion) (n : ℕ) (w : World) (L : Links) where
   -- a join is heard, and its thread comes to this life
-  hears_as : (s : Local) (from seq : ℕ) (by : Tid) (life : Life) (more : List Busy) → Midst p net q n w L (nothing s) [] → (w.threads by).life ≡ On from (Asks (tid n seq))
-      → heard_life from (tid n seq) (verdict (slice_get (w.births n) seq)) ≡ life
-      → ((k : ℕ) → thread_in_life k life (w.threads by).guest ≡ thread_in_life k (On from (Asks (tid n seq))) (w.threads by).guest)
-      → ((k : ℕ) → row_in_life k by life (w.threads by).guest.priority ≡ row_in_life k by (On from (Asks (tid n seq))) (w.threads by).guest.priority)
-      → way_of by life (w.threads by).verdict (w.threads by).guest ≡ None
+  hears_as : (s : Local) (from seq : ℕ) (by : Tid) (life : Life) (more : List Busy) → (m : Midst p net q n w L (nothing s) []) → (m.now.spots.threads by).life ≡ On from (Asks (tid n seq))
+      → heard_life from (tid n seq) (verdict (slice_get (m.now.spots.births n) seq)) ≡ life
+      → ((k : ℕ) → thread_in_life k life (m.now.spots.threads by).guest ≡ thread_in_life k (On from (Asks (tid n seq))) (m.now.spots.threads by).guest)
+      → ((k : ℕ) → row_in_life k by life (m.now.spots.threads by).guest.priority ≡ row_in_life k by (On from (Asks (tid n seq))) (m.now.spots.threads by).guest.priority)
+      → ways_of by life (m.now.spots.threads by).verdict (m.now.spots.threads by).guest ≡ []
       → ((k : ℕ) → eqb n k ≡ false → is_busy k life ≡ false)
-      → StandsFor is_tid busy_name (busy_part n) more (update w.threads by (record (w.threads by) { life = life }))
-      → Agrees p (spots_with (update w.threads by (record (w.threads by) { life = life })) w.slots (at_node w.births n (with_birth (w.births n) seq (joined by from))) w.halts)
+      → StandsFor is_tid busy_name (busy_part n) more (update m.now.spots.threads by (record (m.now.spots.threads by) { life = life }))
+      → Agrees p (spots_with (update m.now.spots.threads by (record (m.now.spots.threads by) { life = life })) m.now.spots.slots (at_node m.now.spots.births n (with_birth (m.now.spots.births n) seq (joined by from))) m.now.spots.halts)
+      → Own n (Heard by) by m.now.spots [] [] more life
       → Midst p net q n w (Left p net q n w L from by) (hears by seq from (nothing s)) more
   unfolding hears change_name say
-  hears_as s from seq by life more m x heard threads rows ways idle hand agrees =
-      let o : Spot = w.threads by in
+  hears_as s from seq by life more m x heard threads rows ways idle hand agrees own =
+      let o : Spot = m.now.spots.threads by in
       let r : Spot = record o { life = life } in
-      let births : List Birth = with_birth (w.births n) seq (joined by from) in
-      labelled p net q n w L (Left p net q n w L from by) (nothing s) [] more (Heard by) (spots_with (update w.threads by r) w.slots (at_node w.births n births) w.halts) _ [] [] m
-      (ap (λ z. spots_with (update w.threads by (record o { life = heard_at w.births z })) w.slots (joined_at by z w.births) w.halts) x
-      ∙ ap (λ z. spots_with (update w.threads by (record o { life = z })) w.slots (at_node w.births n births) w.halts) heard)
+      let births : List Birth = with_birth (m.now.spots.births n) seq (joined by from) in
+      let same = ap (λ z. spots_with (update m.now.spots.threads by (record o { life = heard_at m.now.spots.births z })) m.now.spots.slots (joined_at by z m.now.spots.births) m.now.spots.halts) x
+      ∙ ap (λ z. spots_with (update m.now.spots.threads by (record o { life = z })) m.now.spots.slots (at_node m.now.spots.births n births) m.now.spots.halts) heard in
+      (labelled p net q n w L (Left p net q n w L from by) (nothing s) [] more (Heard by) (spots_with (update m.now.spots.threads by r) m.now.spots.slots (at_node m.now.spots.births n births) m.now.spots.halts) _ [] [] m
+      same
       (record { solo = tt; holders = tt; life = rw x refl; replies = tt; grants = tt }) refl refl
       (record {
-        threads = map_kept is_tid is-true is-refl (thread_part n) w.threads by r s.threads m.here.threads (threads n ∙ sym (ap (λ z. thread_in_life n z o.guest) x));
-        rows = kept is_tid is-true is-refl listed_name (row_part n) w.threads by r (map listed s.places.rows) m.here.rows (rows n ∙ sym (ap (λ z. row_in_life n by z o.guest.priority) x));
+        threads = map_kept is_tid is-true is-refl (thread_part n) m.now.spots.threads by r s.threads m.here.threads (threads n ∙ sym (ap (λ z. thread_in_life n z o.guest) x));
+        rows = kept is_tid is-true is-refl listed_name (row_part n) m.now.spots.threads by r (map listed s.places.rows) m.here.rows (rows n ∙ sym (ap (λ z. row_in_life n by z o.guest.priority) x));
         busy = hand;
         names = rw (eq-eqb n n refl) (ap (λ bs. with_birth bs seq (joined by from)) m.here.names);
         own = m.here.own;
         halted = m.here.halted;
       })
-      (λ k e. here_kept k w by r w.slots (at_node w.births n births) w.halts (net.nodes k) [] (m.there k e)
+      (λ k e. here_kept k m.now.spots by r m.now.spots.slots (at_node m.now.spots.births n births) m.now.spots.halts (net.nodes k) [] (m.there k e)
       (record {
         thread = threads k ∙ sym (ap (λ z. thread_in_life k z o.guest) x);
         row = rows k ∙ sym (ap (λ z. row_in_life k by z o.guest.priority) x);
         busy = busy_none k by r life refl (idle k e) ∙ sym (busy_none k by o (On from (Asks (tid n seq))) x refl);
       })
       (rw e refl) (λ y. refl) refl)
-      (λ i j. nothing_sent n (Left p net q n w L from by) i j (update w.threads by r) (take_link from n (Joins by (tid n seq)) by r L w.threads (links_whole p net q n w L s m) (ap (λ z. way_of by z o.verdict o.guest) x) ways i j))
+      (λ i j. nothing_sent n (Left p net q n w L from by) i j (update m.now.spots.threads by r) (take_link from n (Joins by (tid n seq)) by r L m.now.spots.threads (links_whole p net q n w L s m) (ap (λ z. ways_of by z o.verdict o.guest) x ∙ ap (λ xs. way from n (Joins by (tid n seq)) ++ xs) (sym ways)) i j))
       agrees
+      (beside p n m.now.spots (Heard by) by [] s _ [] more life own (life_then p net q n w L m.now.spots (Heard by) by r _ same refl) refl refl)).midst
 
   -- the home answers the join
-  hears_answer : (s : Local) (from seq : ℕ) (by : Tid) (reply : TheReply) (second : Option ℕ) (new : Option Birth) → Midst p net q n w L (nothing s) [] → (w.threads by).life ≡ On from (Asks (tid n seq))
-      → heard_life from (tid n seq) (verdict (slice_get (w.births n) seq)) ≡ On from (Answers n reply second)
-      → ((j : ℕ) → slice_get (with_birth (w.births n) seq (joined by from)) j ≡ cond (eqb seq j) new (slice_get (w.births n) j))
-      → phase_at new ≡ phase_at (slice_get (w.births n) seq)
-      → ((b : Tid) (at : ℕ) → new ≡ Some (Awaited b at) → slice_get (w.births n) seq ≡ Some (Awaited b at))
-      → ((b : Tid) (at : ℕ) → slice_get (w.births n) seq ≡ Some (Awaited b at) → new ≡ Some (Awaited b at))
+  hears_answer : (s : Local) (from seq : ℕ) (by : Tid) (reply : TheReply) (second : Option ℕ) (new : Option Birth) → (m : Midst p net q n w L (nothing s) []) → (m.now.spots.threads by).life ≡ On from (Asks (tid n seq))
+      → heard_life from (tid n seq) (verdict (slice_get (m.now.spots.births n) seq)) ≡ On from (Answers n reply second)
+      → ((j : ℕ) → slice_get (with_birth (m.now.spots.births n) seq (joined by from)) j ≡ cond (eqb seq j) new (slice_get (m.now.spots.births n) j))
+      → phase_at new ≡ phase_at (slice_get (m.now.spots.births n) seq)
+      → ((b : Tid) (at : ℕ) → new ≡ Some (Awaited b at) → slice_get (m.now.spots.births n) seq ≡ Some (Awaited b at))
+      → ((b : Tid) (at : ℕ) → slice_get (m.now.spots.births n) seq ≡ Some (Awaited b at) → new ≡ Some (Awaited b at))
       → Midst p net q n w (Left p net q n w L from by) (reply_by_link by from reply second (hears by seq from (nothing s))) []
   hears_answer s from seq by reply second new m x heard gets phase awaited keeps =
-      let o : Spot = w.threads by in
+      let o : Spot = m.now.spots.threads by in
       let life : Life = On from (Answers n reply second) in
       let r : Spot = record o { life = life } in
       reply_ok p net q n w (Left p net q n w L from by) (hears by seq from (nothing s)) by from reply second []
       (hears_as s from seq by life (busy by life ∷ []) m x heard (λ k. refl) (λ k. refl) refl (λ k e. e)
-      (fronted is_tid is-true is-refl busy_name (busy_part n) w.threads by r [] (busy by life) m.here.busy refl (idle_was p net q n w L o by (On from (Asks (tid n seq))) x refl) (rw (eq-eqb n n refl) refl))
-      (joins_agree p n seq from w by r (with_birth (w.births n) seq (joined by from)) new gets m.agrees x refl refl phase
-      (λ b at e. awaits_same w.threads by r b (tid n seq) at (λ g. absurd (cc (g, x))) (m.agrees.awaits (tid n seq) b at (awaited b at e)))
-      (λ u at f. absurd (cc f)) keeps (λ k f. absurd (cc f))))
+      (fronted is_tid is-true is-refl busy_name (busy_part n) m.now.spots.threads by r [] (busy by life) m.here.busy refl (idle_was p net q n w L o by (On from (Asks (tid n seq))) x refl) (rw (eq-eqb n n refl) refl))
+      (joins_agree p n seq from m.now.spots by r (with_birth (m.now.spots.births n) seq (joined by from)) new gets m.agrees x refl refl phase
+      (λ b at e. awaits_same m.now.spots.threads by r b (tid n seq) at (λ g. absurd (cc (g, x))) (m.agrees.awaits (tid n seq) b at (awaited b at e)))
+      (λ u at f. absurd (cc f)) keeps (λ k f. absurd (cc f)))
+      (record { heir = refl; next = tt; still = rw (eq-eqb n n refl) refl }))
 
-  pub hears_ok : (s : Local) (from seq : ℕ) (by : Tid) → Midst p net q n w L (nothing s) [] → (w.threads by).life ≡ On from (Asks (tid n seq))
+  pub hears_ok : (s : Local) (from seq : ℕ) (by : Tid) → (m : Midst p net q n w L (nothing s) []) → (m.now.spots.threads by).life ≡ On from (Asks (tid n seq))
       → Midst p net q n w (Left p net q n w L from by) (judges_join by from (verdict (slice_get s.names seq)) (hears by seq from (nothing s))) []
-  hears_ok s from seq by m x = subst (λ bs. Midst p net q n w (Left p net q n w L from by) (judges_join by from (verdict (slice_get bs seq)) (hears by seq from (nothing s))) []) (sym m.here.names) (by_birth (slice_get (w.births n) seq) refl)
+  hears_ok s from seq by m x = subst (λ bs. Midst p net q n w (Left p net q n w L from by) (judges_join by from (verdict (slice_get bs seq)) (hears by seq from (nothing s))) []) (sym m.here.names) (by_birth (slice_get (m.now.spots.births n) seq) refl)
     where
       o : Spot
-      o = w.threads by
+      o = m.now.spots.threads by
 
-      answer : (reply : TheReply) (second : Option ℕ) (b : Birth) (v : Verdict) → slice_get (w.births n) seq ≡ Some b → verdict (Some b) ≡ v → heard_life from (tid n seq) v ≡ On from (Answers n reply second)
+      answer : (reply : TheReply) (second : Option ℕ) (b : Birth) (v : Verdict) → slice_get (m.now.spots.births n) seq ≡ Some b → verdict (Some b) ≡ v → heard_life from (tid n seq) v ≡ On from (Answers n reply second)
           → ((c : Tid) (at : ℕ) → Some (joined by from b) ≡ Some (Awaited c at) → Some b ≡ Some (Awaited c at))
           → ((c : Tid) (at : ℕ) → Some b ≡ Some (Awaited c at) → Some (joined by from b) ≡ Some (Awaited c at))
           → Midst p net q n w (Left p net q n w L from by) (reply_by_link by from reply second (hears by seq from (nothing s))) []
       answer reply second b v e f h awaited keeps = hears_answer s from seq by reply second (Some (joined by from b)) m x (ap (λ z. heard_life from (tid n seq) (verdict z)) e ∙ ap (heard_life from (tid n seq)) f ∙ h)
-          (λ j. get-with (w.births n) seq j (joined by from) b e) (joined_phase b by from ∙ ap phase_at (sym e)) (λ c at g. e ∙ awaited c at g) (λ c at g. keeps c at (sym e ∙ g))
+          (λ j. get-with (m.now.spots.births n) seq j (joined by from) b e) (joined_phase b by from ∙ ap phase_at (sym e)) (λ c at g. e ∙ awaited c at g) (λ c at g. keeps c at (sym e ∙ g))
 
-      by_birth : (b : Option Birth) → slice_get (w.births n) seq ≡ b → Midst p net q n w (Left p net q n w L from by) (judges_join by from (verdict b) (hears by seq from (nothing s))) []
+      by_birth : (b : Option Birth) → slice_get (m.now.spots.births n) seq ≡ b → Midst p net q n w (Left p net q n w L from by) (judges_join by from (verdict b) (hears by seq from (nothing s))) []
       by_birth None e = hears_answer s from seq by replies.NoSuch None None m x (ap (λ z. heard_life from (tid n seq) (verdict z)) e)
-          (λ j. ap (λ bs. slice_get bs j) (with-none (w.births n) seq (joined by from) e) ∙ elim (eqb seq j) as (λ v. eqb seq j ≡ v → slice_get (w.births n) j ≡ cond v None (slice_get (w.births n) j)) [ true ↦ λ f. ap (λ i. slice_get (w.births n) i) (sym (eqb-true seq j f)) ∙ e | false ↦ λ f. refl ] refl)
+          (λ j. ap (λ bs. slice_get bs j) (with-none (m.now.spots.births n) seq (joined by from) e) ∙ elim (eqb seq j) as (λ v. eqb seq j ≡ v → slice_get (m.now.spots.births n) j ≡ cond v None (slice_get (m.now.spots.births n) j)) [ true ↦ λ f. ap (λ i. slice_get (m.now.spots.births n) i) (sym (eqb-true seq j f)) ∙ e | false ↦ λ f. refl ] refl)
           (ap phase_at (sym e)) (λ b at f. absurd (cc f)) (λ b at f. absurd (cc (e, f)))
       by_birth (Some Lives) e =
           let life : Life = On from (Awaits (tid n seq)) in
           let r : Spot = record o { life = life } in
           hears_as s from seq by life [] m x (ap (λ z. heard_life from (tid n seq) (verdict z)) e) (λ k. refl) (λ k. refl) refl (λ k f. refl)
-          (kept is_tid is-true is-refl busy_name (busy_part n) w.threads by r [] m.here.busy (sym (idle_was p net q n w L o by (On from (Asks (tid n seq))) x refl)))
-          (joins_agree p n seq from w by r (with_birth (w.births n) seq (joined by from)) (Some (Awaited by from)) (λ j. get-with (w.births n) seq j (joined by from) Lives e) m.agrees x refl refl (ap phase_at (sym e))
+          (kept is_tid is-true is-refl busy_name (busy_part n) m.now.spots.threads by r [] m.here.busy (sym (idle_was p net q n w L o by (On from (Asks (tid n seq))) x refl)))
+          (joins_agree p n seq from m.now.spots by r (with_birth (m.now.spots.births n) seq (joined by from)) (Some (Awaited by from)) (λ j. get-with (m.now.spots.births n) seq j (joined by from) Lives e) m.agrees x refl refl (ap phase_at (sym e))
           (λ b at f.
           let same : Awaited by from ≡ Awaited b at = cc f in
           let who : by ≡ b = cc same in
           let node : from ≡ at = cc same in
-          subst (λ k. (update w.threads by r b).life ≡ On k (Awaits (tid n seq))) node (subst (λ z. (update w.threads by r z).life ≡ On from (Awaits (tid n seq))) who (ap (λ (z : Spot). z.life) (updated w.threads by r))))
+          subst (λ k. (update m.now.spots.threads by r b).life ≡ On k (Awaits (tid n seq))) node (subst (λ z. (update m.now.spots.threads by r z).life ≡ On from (Awaits (tid n seq))) who (ap (λ (z : Spot). z.life) (updated m.now.spots.threads by r))))
           (λ u at f.
           let of : Awaits (tid n seq) ≡ Awaits u = cc f in
           let one : tid n seq ≡ u = cc of in
           let node : from ≡ at = cc f in
-          subst (λ (z : Tid). slice_get (at_node w.births n (with_birth (w.births n) seq (joined by from)) z.home) z.seq ≡ Some (Awaited by at)) one
-          (subst (λ k. slice_get (at_node w.births n (with_birth (w.births n) seq (joined by from)) n) seq ≡ Some (Awaited by k)) node
-          (own_birth p n seq w (with_birth (w.births n) seq (joined by from)) (Some (Awaited by from)) (λ j. get-with (w.births n) seq j (joined by from) Lives e))))
+          subst (λ (z : Tid). slice_get (at_node m.now.spots.births n (with_birth (m.now.spots.births n) seq (joined by from)) z.home) z.seq ≡ Some (Awaited by at)) one
+          (subst (λ k. slice_get (at_node m.now.spots.births n (with_birth (m.now.spots.births n) seq (joined by from)) n) seq ≡ Some (Awaited by k)) node
+          (own_birth p n seq m.now.spots (with_birth (m.now.spots.births n) seq (joined by from)) (Some (Awaited by from)) (λ j. get-with (m.now.spots.births n) seq j (joined by from) Lives e))))
           (λ b at f. absurd (cc (e, f)))
           (λ k f. absurd (cc f)))
+          (record { heir = refl; next = tt; still = refl })
       by_birth (Some (Awaited c at)) e = answer replies.Taken None (Awaited c at) verdicts.Taken e refl refl (λ d k f. f) (λ d k f. f)
       by_birth (Some Detached) e = answer replies.NoSuch None Detached verdicts.NoSuch e refl refl (λ d k f. absurd (cc f)) (λ d k f. absurd (cc f))
       by_birth (Some (Ended_birth end)) e = answer (end_reply end) (Some (end_value end)) (Ended_birth end) (verdicts.Now end) e refl refl (λ d k f. absurd (cc f)) (λ d k f. absurd (cc f))
@@ -286,83 +294,86 @@ ends_agree p n seq from end w f r births new gets a x gone phases slots unborn a
     t : Tid
     t = tid n seq
 
-module _ (p : Program) (net : Net) (q n : ℕ) (w : Spots) (L : Links) where
+module _ (p : Program) (net : Net) (q : Occasion) (n : ℕ) (w : World) (L : Links) where
   -- an end that nobody waits for
-  knows_alone : (s : Local) (from seq : ℕ) (end : End) (b : Birth) → Midst p net q n w L (nothing s) [] → (w.threads (tid n seq)).life ≡ Noting from end
-      → slice_get (w.births n) seq ≡ Some b → joiner (Some b) ≡ None → ((c : Tid) (at : ℕ) → Some (ended end b) ≡ Some (Awaited c at) → ⊥)
+  knows_alone : (s : Local) (from seq : ℕ) (end : End) (b : Birth) → (m : Midst p net q n w L (nothing s) []) → (m.now.spots.threads (tid n seq)).life ≡ Noting from end
+      → slice_get (m.now.spots.births n) seq ≡ Some b → joiner (Some b) ≡ None → ((c : Tid) (at : ℕ) → Some (ended end b) ≡ Some (Awaited c at) → ⊥)
       → Midst p net q n w (Left p net q n w L from (tid n seq)) (knows n seq end (nothing s)) []
   unfolding knows change_name say
   knows_alone s from seq end b m x e none nobody =
       let t : Tid = tid n seq in
-      let o : Spot = w.threads t in
+      let o : Spot = m.now.spots.threads t in
       let r : Spot = record o { life = Gone end } in
-      let births : List Birth = with_birth (w.births n) seq (ended end) in
-      labelled p net q n w L (Left p net q n w L from t) (nothing s) [] [] (Known t) (spots_with (update w.threads t r) w.slots (at_node w.births n births) w.halts) _ [] [] m
-      (ap (λ z. spots_with (update (joiner_served t (end_in z) (joiner (slice_get (w.births n) seq)) w.threads) t (record o { life = Gone (end_in z) })) w.slots (at_node w.births n (with_birth (w.births n) seq (ended (end_in z)))) w.halts) x
-      ∙ ap (λ z. spots_with (update (joiner_served t end z w.threads) t r) w.slots (at_node w.births n births) w.halts) (ap joiner e ∙ none))
-      (record { solo = tt; holders = tt; life = (rw x tt, refl, subst (λ z. JoinerAwaits t z w) (sym (ap joiner e ∙ none)) tt); replies = tt; grants = tt }) refl refl
+      let births : List Birth = with_birth (m.now.spots.births n) seq (ended end) in
+      (labelled p net q n w L (Left p net q n w L from t) (nothing s) [] [] (Known t) (spots_with (update m.now.spots.threads t r) m.now.spots.slots (at_node m.now.spots.births n births) m.now.spots.halts) _ [] [] m
+      (ap (λ z. spots_with (update (joiner_served t (end_in z) (joiner (slice_get (m.now.spots.births n) seq)) m.now.spots.threads) t (record o { life = Gone (end_in z) })) m.now.spots.slots (at_node m.now.spots.births n (with_birth (m.now.spots.births n) seq (ended (end_in z)))) m.now.spots.halts) x
+      ∙ ap (λ z. spots_with (update (joiner_served t end z m.now.spots.threads) t r) m.now.spots.slots (at_node m.now.spots.births n births) m.now.spots.halts) (ap joiner e ∙ none))
+      (record { solo = tt; holders = tt; life = (rw x tt, refl, subst (λ z. JoinerAwaits t z m.now.spots) (sym (ap joiner e ∙ none)) tt); replies = tt; grants = tt }) refl refl
       (record {
-        threads = map_kept is_tid is-true is-refl (thread_part n) w.threads t r s.threads m.here.threads (sym (ap (λ z. thread_in_life n z o.guest) x));
-        rows = kept is_tid is-true is-refl listed_name (row_part n) w.threads t r (map listed s.places.rows) m.here.rows (sym (ap (λ z. row_in_life n t z o.guest.priority) x));
-        busy = kept is_tid is-true is-refl busy_name (busy_part n) w.threads t r [] m.here.busy (sym (busy_none n t o (Noting from end) x refl));
+        threads = map_kept is_tid is-true is-refl (thread_part n) m.now.spots.threads t r s.threads m.here.threads (sym (ap (λ z. thread_in_life n z o.guest) x));
+        rows = kept is_tid is-true is-refl listed_name (row_part n) m.now.spots.threads t r (map listed s.places.rows) m.here.rows (sym (ap (λ z. row_in_life n t z o.guest.priority) x));
+        busy = kept is_tid is-true is-refl busy_name (busy_part n) m.now.spots.threads t r [] m.here.busy (sym (busy_none n t o (Noting from end) x refl));
         names = rw (eq-eqb n n refl) (ap (λ bs. with_birth bs seq (ended end)) m.here.names);
         own = m.here.own;
         halted = m.here.halted;
       })
-      (λ k f. here_kept k w t r w.slots (at_node w.births n births) w.halts (net.nodes k) [] (m.there k f)
+      (λ k f. here_kept k m.now.spots t r m.now.spots.slots (at_node m.now.spots.births n births) m.now.spots.halts (net.nodes k) [] (m.there k f)
       (record {
         thread = sym (ap (λ z. thread_in_life k z o.guest) x);
         row = sym (ap (λ z. row_in_life k t z o.guest.priority) x);
         busy = sym (busy_none k t o (Noting from end) x refl);
       })
       (rw f refl) (λ y. refl) refl)
-      (λ i j. nothing_sent n (Left p net q n w L from t) i j (update w.threads t r) (take_link from n (Ended_word t end) t r L w.threads (links_whole p net q n w L s m) (ap (λ z. way_of t z o.verdict o.guest) x) refl i j))
-      (ends_agree p n seq from end w w.threads r births (Some (ended end b)) (λ j. get-with (w.births n) seq j (ended end) b e) m.agrees x refl (λ u. refl) (λ u. refl) (λ u f. f) (λ u c at f g. g) (ended_phase end b) nobody
+      (λ i j. nothing_sent n (Left p net q n w L from t) i j (update m.now.spots.threads t r) (take_link from n (Ended_word t end) t r L m.now.spots.threads (links_whole p net q n w L s m) (ap (λ z. ways_of t z o.verdict o.guest) x) i j))
+      (ends_agree p n seq from end m.now.spots m.now.spots.threads r births (Some (ended end b)) (λ j. get-with (m.now.spots.births n) seq j (ended end) b e) m.agrees x refl (λ u. refl) (λ u. refl) (λ u f. f) (λ u c at f g. g) (ended_phase end b) nobody
       (λ u c at g. (
         g,
         is-other t u (λ k.
-            let was : slice_get (w.births n) seq ≡ Some (Awaited c at) = m.agrees.waits t c at (subst (λ z. (w.threads c).life ≡ On at (Awaits z)) (sym k) g) in
+            let was : slice_get (m.now.spots.births n) seq ≡ Some (Awaited c at) = m.agrees.waits t c at (subst (λ z. (m.now.spots.threads c).life ≡ On at (Awaits z)) (sym k) g) in
             let joins : joiner (Some b) ≡ Some (c, at) = ap joiner (sym e ∙ was) in
             absurd (cc (joins, none))),
       ))
       (λ u k g. g))
+      (record { places = refl; booted = refl; next = tt; still = sym (ap (λ z. busy_among n (as_list (joiner_in z)) (after_label p n (Known t) m.now.spots) ++ []) (ap joiner e ∙ none)) })).midst
 
   -- an end that a joiner waits for
-  knows_awaited : (s : Local) (from seq at : ℕ) (end : End) (by : Tid) → Midst p net q n w L (nothing s) [] → (w.threads (tid n seq)).life ≡ Noting from end
-      → slice_get (w.births n) seq ≡ Some (Awaited by at)
+  knows_awaited : (s : Local) (from seq at : ℕ) (end : End) (by : Tid) → (m : Midst p net q n w L (nothing s) []) → (m.now.spots.threads (tid n seq)).life ≡ Noting from end
+      → slice_get (m.now.spots.births n) seq ≡ Some (Awaited by at)
       → Midst p net q n w (Left p net q n w L from (tid n seq)) (knows n seq end (nothing s)) (busy by (On at (Answers n (end_reply end) (Some (end_value end)))) ∷ [])
   unfolding knows change_name say
   knows_awaited s from seq at end by m x e =
       let t : Tid = tid n seq in
-      let o : Spot = w.threads t in
-      let c : Spot = w.threads by in
+      let o : Spot = m.now.spots.threads t in
+      let c : Spot = m.now.spots.threads by in
       let y : c.life ≡ On at (Awaits t) = m.agrees.awaits t by at e in
-      let apart : is_tid by t ≡ false = is-other by t (λ g. absurd (cc (x, y, ap (λ z. (w.threads z).life) g))) in
+      let apart : is_tid by t ≡ false = is-other by t (λ g. absurd (cc (x, y, ap (λ z. (m.now.spots.threads z).life) g))) in
       let life : Life = On at (Answers n (end_reply end) (Some (end_value end))) in
       let r1 : Spot = record c { life = life } in
-      let f : Tid → Spot = update w.threads by r1 in
+      let f : Tid → Spot = update m.now.spots.threads by r1 in
       let here : f t ≡ o = rw apart refl in
       let r : Spot = record o { life = Gone end } in
-      let births : List Birth = with_birth (w.births n) seq (ended end) in
-      let w1 : Spots = spots_with f w.slots w.births w.halts in
+      let births : List Birth = with_birth (m.now.spots.births n) seq (ended end) in
+      let w1 : Spots = spots_with f m.now.spots.slots m.now.spots.births m.now.spots.halts in
       let x1 : (f t).life ≡ Noting from end = ap (λ (z : Spot). z.life) here ∙ x in
-      labelled p net q n w L (Left p net q n w L from t) (nothing s) [] (busy by life ∷ []) (Known t) (spots_with (update f t r) w.slots (at_node w.births n births) w.halts) _ [] [] m
-      (ap (λ z. spots_with (update (joiner_served t (end_in z) (joiner (slice_get (w.births n) seq)) w.threads) t (record o { life = Gone (end_in z) })) w.slots (at_node w.births n (with_birth (w.births n) seq (ended (end_in z)))) w.halts) x
-      ∙ ap (λ z. spots_with (update (joiner_served t end z w.threads) t r) w.slots (at_node w.births n births) w.halts) (ap joiner e))
-      (record { solo = tt; holders = tt; life = (rw x tt, refl, subst (λ z. JoinerAwaits t z w) (sym (ap joiner e)) y); replies = tt; grants = tt }) refl refl
+      let same = ap (λ z. spots_with (update (joiner_served t (end_in z) (joiner (slice_get (m.now.spots.births n) seq)) m.now.spots.threads) t (record o { life = Gone (end_in z) })) m.now.spots.slots (at_node m.now.spots.births n (with_birth (m.now.spots.births n) seq (ended (end_in z)))) m.now.spots.halts) x
+      ∙ ap (λ z. spots_with (update (joiner_served t end z m.now.spots.threads) t r) m.now.spots.slots (at_node m.now.spots.births n births) m.now.spots.halts) (ap joiner e) in
+      let at_by : (update f t r by).life ≡ life = rw (is-flip by t apart) (rw (is-refl by) refl) in
+      (labelled p net q n w L (Left p net q n w L from t) (nothing s) [] (busy by life ∷ []) (Known t) (spots_with (update f t r) m.now.spots.slots (at_node m.now.spots.births n births) m.now.spots.halts) _ [] [] m
+      same
+      (record { solo = tt; holders = tt; life = (rw x tt, refl, subst (λ z. JoinerAwaits t z m.now.spots) (sym (ap joiner e)) y); replies = tt; grants = tt }) refl refl
       (record {
         threads = map_kept is_tid is-true is-refl (thread_part n) f t r s.threads
-            (map_kept is_tid is-true is-refl (thread_part n) w.threads by r1 s.threads m.here.threads (sym (ap (λ z. thread_in_life n z c.guest) y))) (sym (ap (λ z. thread_in_life n z (f t).guest) x1));
+            (map_kept is_tid is-true is-refl (thread_part n) m.now.spots.threads by r1 s.threads m.here.threads (sym (ap (λ z. thread_in_life n z c.guest) y))) (sym (ap (λ z. thread_in_life n z (f t).guest) x1));
         rows = kept is_tid is-true is-refl listed_name (row_part n) f t r (map listed s.places.rows)
-            (kept is_tid is-true is-refl listed_name (row_part n) w.threads by r1 (map listed s.places.rows) m.here.rows (sym (ap (λ z. row_in_life n by z c.guest.priority) y))) (sym (ap (λ z. row_in_life n t z (f t).guest.priority) x1));
+            (kept is_tid is-true is-refl listed_name (row_part n) m.now.spots.threads by r1 (map listed s.places.rows) m.here.rows (sym (ap (λ z. row_in_life n by z c.guest.priority) y))) (sym (ap (λ z. row_in_life n t z (f t).guest.priority) x1));
         busy = kept is_tid is-true is-refl busy_name (busy_part n) f t r (busy by life ∷ [])
-            (fronted is_tid is-true is-refl busy_name (busy_part n) w.threads by r1 [] (busy by life) m.here.busy refl (busy_none n by c (On at (Awaits t)) y refl) (rw (eq-eqb n n refl) refl)) (sym (busy_none n t (f t) (Noting from end) x1 refl));
+            (fronted is_tid is-true is-refl busy_name (busy_part n) m.now.spots.threads by r1 [] (busy by life) m.here.busy refl (busy_none n by c (On at (Awaits t)) y refl) (rw (eq-eqb n n refl) refl)) (sym (busy_none n t (f t) (Noting from end) x1 refl));
         names = rw (eq-eqb n n refl) (ap (λ bs. with_birth bs seq (ended end)) m.here.names);
         own = m.here.own;
         halted = m.here.halted;
       })
-      (λ k g. here_kept k w1 t r w.slots (at_node w.births n births) w.halts (net.nodes k) []
-      (here_kept k w by r1 w.slots w.births w.halts (net.nodes k) [] (m.there k g)
+      (λ k g. here_kept k w1 t r m.now.spots.slots (at_node m.now.spots.births n births) m.now.spots.halts (net.nodes k) []
+      (here_kept k m.now.spots by r1 m.now.spots.slots m.now.spots.births m.now.spots.halts (net.nodes k) [] (m.there k g)
       (record {
         thread = sym (ap (λ z. thread_in_life k z c.guest) y);
         row = sym (ap (λ z. row_in_life k by z c.guest.priority) y);
@@ -376,34 +387,40 @@ module _ (p : Program) (net : Net) (q n : ℕ) (w : Spots) (L : Links) where
       })
       (rw g refl) (λ z. refl) refl)
       (λ i j. nothing_sent n (Left p net q n w L from t) i j (update f t r)
-      (take_link from n (Ended_word t end) t r L f (λ a b. links_kept by r1 w.threads L (links_whole p net q n w L s m) (sym (ap (λ z. way_of by z c.verdict c.guest) y)) a b) (ap (λ z. way_of t z (f t).verdict (f t).guest) x1) refl i j))
-      (ends_agree p n seq from end w f r births (Some Over) (λ j. get-with (w.births n) seq j (ended end) (Awaited by at) e) m.agrees x refl
-      (λ u. phase_same w.threads by r1 (sym (ap phase_of y)) u)
-      (λ u. held_same w.threads by r1 (sym (ap (λ z. held z c.guest) y)) u)
-      (λ u g. unborn_same w.threads by r1 u (λ h. absurd (cc (h, y))) g)
-      (λ u b k g h. awaits_same w.threads by r1 b u k (λ i. (let same : Awaits t ≡ Awaits u = cc (sym y ∙ i) in let one : t ≡ u = cc same in absurd (is-false t u g one))) h)
+      (take_link from n (Ended_word t end) t r L f (λ a b. links_kept by r1 m.now.spots.threads L (links_whole p net q n w L s m) (sym (ap (λ z. ways_of by z c.verdict c.guest) y)) a b) (ap (λ z. ways_of t z (f t).verdict (f t).guest) x1) i j))
+      (ends_agree p n seq from end m.now.spots f r births (Some Over) (λ j. get-with (m.now.spots.births n) seq j (ended end) (Awaited by at) e) m.agrees x refl
+      (λ u. phase_same m.now.spots.threads by r1 (sym (ap phase_of y)) u)
+      (λ u. held_same m.now.spots.threads by r1 (sym (ap (λ z. held z c.guest) y)) u)
+      (λ u g. unborn_same m.now.spots.threads by r1 u (λ h. absurd (cc (h, y))) g)
+      (λ u b k g h. awaits_same m.now.spots.threads by r1 b u k (λ i. (let same : Awaits t ≡ Awaits u = cc (sym y ∙ i) in let one : t ≡ u = cc same in absurd (is-false t u g one))) h)
       refl (λ b k g. absurd (cc g))
-      (λ u b k g. elim (is_tid by b) as (λ v. is_tid by b ≡ v → (cond v r1 (w.threads b)).life ≡ On k (Awaits u) → ((w.threads b).life ≡ On k (Awaits u)) × (is_tid t u ≡ false)) [
+      (λ u b k g. elim (is_tid by b) as (λ v. is_tid by b ≡ v → (cond v r1 (m.now.spots.threads b)).life ≡ On k (Awaits u) → ((m.now.spots.threads b).life ≡ On k (Awaits u)) × (is_tid t u ≡ false)) [
         | true ↦ λ h i. absurd (cc i)
         | false ↦ λ h i. (
           i,
           is-other t u (λ j.
-              let was : slice_get (w.births n) seq ≡ Some (Awaited b k) = m.agrees.waits t b k (subst (λ z. (w.threads b).life ≡ On k (Awaits z)) (sym j) i) in
+              let was : slice_get (m.now.spots.births n) seq ≡ Some (Awaited b k) = m.agrees.waits t b k (subst (λ z. (m.now.spots.threads b).life ≡ On k (Awaits z)) (sym j) i) in
               let same : Awaited by at ≡ Awaited b k = cc (sym e ∙ was) in
               let one : by ≡ b = cc same in
               absurd (is-false by b h one)),
         )
       ] refl g)
-      (λ u k g. elim (is_tid by u) as (λ v. (cond v r1 (w.threads u)).life ≡ On k Stays → (w.threads u).life ≡ On k Stays) [ true ↦ λ i. absurd (cc i) | false ↦ λ i. i ] g))
+      (λ u k g. elim (is_tid by u) as (λ v. (cond v r1 (m.now.spots.threads u)).life ≡ On k Stays → (m.now.spots.threads u).life ≡ On k Stays) [ true ↦ λ i. absurd (cc i) | false ↦ λ i. i ] g))
+      (record {
+        places = refl;
+        booted = refl;
+        next = tt;
+        still = sym (ap (λ z. busy_among n (as_list (joiner_in z)) (after_label p n (Known t) m.now.spots) ++ []) (ap joiner e) ∙ ap (λ z. cond (is_busy n z) (Does (Thread by) ∷ []) [] ++ []) (ap (λ (z : Spots). (z.threads by).life) same ∙ at_by) ∙ (rw (eq-eqb n n refl) refl));
+      })).midst
 
-  pub knows_ok : (s : Local) (from seq : ℕ) (end : End) → Midst p net q n w L (nothing s) [] → (w.threads (tid n seq)).life ≡ Noting from end
+  pub knows_ok : (s : Local) (from seq : ℕ) (end : End) → (m : Midst p net q n w L (nothing s) []) → (m.now.spots.threads (tid n seq)).life ≡ Noting from end
       → Midst p net q n w (Left p net q n w L from (tid n seq)) (tells_joiner end (joiner (slice_get s.names seq)) (knows n seq end (nothing s))) []
-  knows_ok s from seq end m x = subst (λ bs. Midst p net q n w (Left p net q n w L from (tid n seq)) (tells_joiner end (joiner (slice_get bs seq)) (knows n seq end (nothing s))) []) (sym m.here.names) (by_birth (slice_get (w.births n) seq) refl)
+  knows_ok s from seq end m x = subst (λ bs. Midst p net q n w (Left p net q n w L from (tid n seq)) (tells_joiner end (joiner (slice_get bs seq)) (knows n seq end (nothing s))) []) (sym m.here.names) (by_birth (slice_get (m.now.spots.births n) seq) refl)
     where
-      during : phase_at (slice_get (w.births n) seq) ≡ During
+      during : phase_at (slice_get (m.now.spots.births n) seq) ≡ During
       during = m.agrees.named (tid n seq) ∙ ap phase_of x
 
-      by_birth : (b : Option Birth) → slice_get (w.births n) seq ≡ b → Midst p net q n w (Left p net q n w L from (tid n seq)) (tells_joiner end (joiner b) (knows n seq end (nothing s))) []
+      by_birth : (b : Option Birth) → slice_get (m.now.spots.births n) seq ≡ b → Midst p net q n w (Left p net q n w L from (tid n seq)) (tells_joiner end (joiner b) (knows n seq end (nothing s))) []
       by_birth None e = absurd (cc (ap phase_at (sym e) ∙ during))
       by_birth (Some Lives) e = knows_alone s from seq end Lives m x e refl (λ c at g. absurd (cc g))
       by_birth (Some (Awaited by at)) e = reply_ok p net q n w (Left p net q n w L from (tid n seq)) (knows n seq end (nothing s)) by at (end_reply end) (Some (end_value end)) [] (knows_awaited s from seq at end by m x e)

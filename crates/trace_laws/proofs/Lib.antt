@@ -5,6 +5,7 @@ pub mod Bounded
 pub mod Tids
 pub mod KeyedLemmas
 pub mod Births
+pub mod Subjects
 pub mod RunLemmas
 pub mod Midst
 pub mod Parts
@@ -25,6 +26,12 @@ pub mod Beginnings
 pub mod NoStrays
 pub mod NothingOutside
 pub mod RunLists
+pub mod Nexts
+pub mod OneTrace
+pub mod Entries
+pub mod Arriving
+pub mod Legals
 pub mod OwnLives
 pub mod OwnLabels
 pub mod SameLives
+pub mod Unexpected

@@ -27,15 +27,20 @@ use Rattle.run_trace.specs.Machine.{free_run, free_slot, end_thread}
 use Rattle.run_trace.specs.Cluster.{Net}
 use Rattle.run_trace.specs.Keyed.{StandsFor}
 use Rattle.run_trace.specs.Spots.{Stage, Stays, Ready, Due, Served, Ends, Leaves, Awaits, Life, Unborn, On, Moving, Noting, Gone, Response, Spot, Spots, Holder, Of_node, Of_thread, Nobody, update, at_node, after_label, gave_life, born_spot, asked_priority}
-use Rattle.run_trace.specs.Rules.{is_free, lowest_free, MayGive, causes}
+use Rattle.run_trace.specs.Rules.{Occasion, is_free, lowest_free, MayGive}
 use Rattle.run_trace.specs.Console.{shown_by}
-use Rattle.run_trace.specs.Stands.{Here, Agrees, Busy, busy, busy_name, busy_part, thread_part, thread_in_life, row_part, row_in_life, listed, listed_name, way_of, phase_of, phase_at, Before, During, held, slots_held, IsWellHeld, is_thread}
-use Rattle.trace_laws.proofs.Tids.{is-true, is-refl, is-false, is-flip, same_name}
+use Rattle.run_trace.specs.Stands.{Here, Agrees, Busy, busy, busy_name, busy_part, thread_part, thread_in_life, row_part, row_in_life, listed, listed_name, ways_of, phase_of, phase_at, Before, During, held, slots_held, IsWellHeld, is_thread}
+use Rattle.trace_laws.proofs.Tids.{is-other, is-true, is-refl, is-false, is-flip, same_name}
 use Rattle.trace_laws.proofs.KeyedLemmas.{kept, added, unfronted, refronted, map_kept, map_removed, map_added}
 use Rattle.trace_laws.proofs.Births.{get-push, get-past}
-use Rattle.trace_laws.proofs.Midst.{Links, Midst, Plain, plain, keeps, under, LinkStands, Allowed, spots_with, spots_at, labelled, here_kept, agrees_kept, links_kept}
+use Rattle.run_trace.specs.World.{World}
+use Rattle.run_trace.specs.Obeying.{Allows}
+use Rattle.trace_laws.proofs.Midst.{having_said, Then, busy_item, Own, beside, is_next, is_first, Links, Midst, Plain, plain, keeps, under, LinkStands, spots_with, labelled, here_kept, agrees_kept, links_kept}
 use Rattle.trace_laws.proofs.Parts.{listed_arrived, is_home, home_way, home_quiet, home_plain, frame_home, away_thread, away_row, busy_none}
-use Rattle.trace_laws.proofs.Steps.{Ties, in_hand, thread_was, row_was, busy_was, send_step}
+use Rattle.trace_laws.proofs.Arriving.{places_after}
+use Rattle.trace_laws.proofs.Steps.{own_stays, own_goes, life_then, Ties, in_hand, thread_was, row_was, busy_was, send_step}
+use Rattle.run_trace.specs.Causes.{causes}
+use Rattle.run_trace.specs.Items.{Thread as Its, Does, is_busy}
 
 -- ## Holders
 
@@ -145,48 +150,50 @@ module _ (p : Program) (n : ℕ) (w : Spots) (t : Tid) (s : Spot) (old slots : L
 
 -- ## Ends
 
-module _ (p : Program) (net : Net) (q n : ℕ) (w : Spots) (L : Links) where
+module _ (p : Program) (net : Net) (q : Occasion) (n : ℕ) (w : World) (L : Links) where
   abbrev Is : Doing → List Busy → Type 0
   Is d hand = Midst p net q n w L d hand
 
-  abbrev spot : Doing → Tid → Spot
-  spot d t = (spots_at p net q n w d).threads t
+  abbrev spot : Spots → Tid → Spot
+  spot v t = v.threads t
 
   -- a label by which slots go between node n and its thread t
   pub slots_step : (d : Doing) (hand more : List Busy) (l : Label) (t : Tid) (r : Spot) (now : Local) (f : ℕ → Holder) (a b : Stage)
-      → Is d hand
-      → after_label p n l (spots_at p net q n w d) ≡ spots_with (update (spots_at p net q n w d).threads t r) f (spots_at p net q n w d).births (spots_at p net q n w d).halts
-      → Allowed p q n l (spots_at p net q n w d)
-      → causes p n l (spots_at p net q n w d) ≡ [] → shown_by l (spots_at p net q n w d) ≡ []
-      → (spot d t).life ≡ On n a → r.life ≡ On n b → is_home a ≡ true → is_home b ≡ true
-      → Ties p net q n w L (spots_at p net q n w d) t r now more
+      → (m : Is d hand)
+      → after_label p n l m.now.spots ≡ spots_with (update m.now.spots.threads t r) f m.now.spots.births m.now.spots.halts
+      → Allows p (having_said d.labels q) n l m.now
+      → causes p n l m.now.spots ≡ [] → shown_by l m.now.spots ≡ []
+      → (spot m.now.spots t).life ≡ On n a → r.life ≡ On n b → is_home a ≡ true → is_home b ≡ true
+      → Ties p net q n w L m.now.spots t r now more
       → now.names ≡ d.node.names → now.halted ≡ d.node.halted
-      → Changes n (spots_at p net q n w d) t r now.slots.own f
+      → Changes n m.now.spots t r now.slots.own f
       → IsWellHeld (held r.life r.guest)
-      → Is (record { node = now; labels = d.labels ++ l ∷ []; sends = d.sends; prints = d.prints }) more
-  slots_step d hand more l t r now f a b m same ok sent shown x y home_a home_b ties names halted change well =
-      let v : Spots = spots_at p net q n w d in
-      let s : Spot = spot d t in
-      let before : way_of t s.life s.verdict s.guest ≡ None = ap (λ z. way_of t z s.verdict s.guest) x ∙ home_way t n a s.verdict s.guest home_a in
-      let after : way_of t r.life r.verdict r.guest ≡ None = ap (λ z. way_of t z r.verdict r.guest) y ∙ home_way t n b r.verdict r.guest home_b in
+      → Own n l t m.now.spots d.labels hand more r.life → now.places ≡ places_after l m.now.spots d.node.places → now.booted ≡ d.node.booted
+      → Then p net q n w L m.now l (record { node = now; labels = d.labels ++ l ∷ []; sends = d.sends; prints = d.prints }) more
+  slots_step d hand more l t r now f a b m same ok sent shown x y home_a home_b ties names halted change well next places booted =
+      let v : Spots = m.now.spots in
+      let s : Spot = spot m.now.spots t in
+      let before : ways_of t s.life s.verdict s.guest ≡ [] = ap (λ z. ways_of t z s.verdict s.guest) x ∙ home_way t n a s.verdict s.guest home_a in
+      let after : ways_of t r.life r.verdict r.guest ≡ [] = ap (λ z. ways_of t z r.verdict r.guest) y ∙ home_way t n b r.verdict r.guest home_b in
       labelled p net q n w L L d hand more l (spots_with (update v.threads t r) f v.births v.halts) now d.sends d.prints m same ok
       (sym (append-nil d.sends) ∙ ap (λ z. d.sends ++ z) (sym sent)) (sym (append-nil d.prints) ∙ ap (λ z. d.prints ++ z) (sym shown))
       (record { threads = ties.threads; rows = ties.rows; busy = ties.busy; names = names ∙ m.here.names; own = change.own; halted = halted ∙ m.here.halted })
       (λ k e. here_kept k v t r f v.births v.halts (net.nodes k) [] (m.there k e) (frame_home n k t s r a b x y home_a home_b e) refl (change.there k e) refl)
       (λ i j. links_kept t r v.threads (under n L d.sends) m.links (after ∙ sym before) i j)
       (agrees_slots p v t r f m.agrees (ap phase_of y ∙ sym (ap phase_of x)) (λ u k e. home_quiet n a home_a u k (sym x ∙ e)) (λ e. absurd (cc (e, x))) (subst (λ z. Plain z) (sym y) (home_plain n b home_b)) change.slots well)
+      (beside p n v l t d.labels d.node now hand more r.life next (life_then p net q n w L m.now.spots l t r _ same refl) places booted)
 
-  pub gives_ok : (d : Doing) (t : Tid) (end : End) (hs : List Busy) → Is d (busy t (On n (Ends end)) ∷ hs) → Is (gives t (waits wait.No (spot d t).guest) d) (busy t (On n (Leaves end)) ∷ hs)
+  pub gives_ok : (d : Doing) (t : Tid) (end : End) (hs : List Busy) → (m : Is d (busy t (On n (Ends end)) ∷ hs)) → Is (gives t (waits wait.No (spot m.now.spots t).guest) d) (busy t (On n (Leaves end)) ∷ hs)
   unfolding gives thread_out slots_in say
   gives_ok d t end hs m =
-      let v : Spots = spots_at p net q n w d in
-      let s : Spot = spot d t in
+      let v : Spots = m.now.spots in
+      let s : Spot = spot m.now.spots t in
       let x : s.life ≡ On n (Ends end) = in_hand p net q n w L d t (On n (Ends end)) hs m in
       let mine : List ℕ = guest_slots s.guest in
       let r : Spot = record s { life = On n (Leaves end); guest = gives_slots mine s.guest } in
       let had : (y : ℕ) → has y (slots_held (held s.life s.guest)) ≡ has y mine = λ y. ap (λ z. has y (slots_held (held z s.guest))) x in
       let holder : (y : ℕ) → has y mine ≡ true → v.slots y ≡ Of_thread t = λ y h. thread_holds t (v.slots y) (sym (sym (had y) ∙ m.agrees.slots t y) ∙ h) in
-      slots_step d _ (busy t (On n (Leaves end)) ∷ hs) (Gave t mine) t r _ (given n mine v.slots) (Ends end) (Leaves end) m
+      (slots_step d _ (busy t (On n (Leaves end)) ∷ hs) (Gave t mine) t r _ (given n mine v.slots) (Ends end) (Leaves end) m
       (ap (λ z. spots_with (update v.threads t (record s { life = gave_life z; guest = gives_slots mine s.guest })) (given n mine v.slots) v.births v.halts) x)
       (record { solo = tt; holders = holder; life = subst (λ z. MayGive n z s.guest mine) (sym x) (refl, refl); replies = tt; grants = tt }) refl refl x refl refl refl
       (record {
@@ -195,18 +202,18 @@ module _ (p : Program) (net : Net) (q n : ℕ) (w : Spots) (L : Links) where
         busy = refronted is_tid is-true is-refl busy_name (busy_part n) v.threads t r hs (busy t (On n (Ends end))) (busy t (On n (Leaves end))) m.here.busy refl refl (busy_was p net q n w L r t (On n (Leaves end)) refl (eq-eqb n n refl));
       }) refl refl
       (gives_change p n v t r d.node.slots.own mine m.agrees m.here.own holder (λ y. elim (has y mine) as (λ b. has y mine ≡ b → false ≡ cond b false (has y (slots_held (held s.life s.guest)))) [ true ↦ λ h. refl | false ↦ λ h. sym (had y ∙ h) ] refl))
-      tt
+      tt (own_stays p net q n w L d t (On n (Ends end)) hs (Gave t mine) (On n (Leaves end)) (On n (Leaves end)) m refl refl (eq-eqb n n refl)) refl refl).midst
 
-  pub ends_ok : (d : Doing) (t : Tid) (end : End) (hs : List Busy) → Is d (busy t (On n (Leaves end)) ∷ hs) → Is (ends t end d) hs
+  pub ends_ok : (d : Doing) (t : Tid) (end : End) (hs : List Busy) → (m : Is d (busy t (On n (Leaves end)) ∷ hs)) → Is (ends t end d) hs
   unfolding ends put say
   ends_ok d t end hs m =
-      let v : Spots = spots_at p net q n w d in
-      let s : Spot = spot d t in
+      let v : Spots = m.now.spots in
+      let s : Spot = spot m.now.spots t in
       let x : s.life ≡ On n (Leaves end) = in_hand p net q n w L d t (On n (Leaves end)) hs m in
       let r : Spot = record s { life = Noting n end } in
-      send_step p net q n w L d _ hs (Ended t end) t r d.node t.home (EndNote t.seq end) m refl
+      (send_step p net q n w L d _ hs (Ended t end) t r d.node t.home (EndNote t.seq end) m refl
       (record { solo = tt; holders = tt; life = x; replies = tt; grants = tt }) refl refl
-      (ap (λ z. way_of t z s.verdict s.guest) x) refl refl
+      (ap (λ z. ways_of t z s.verdict s.guest) x) refl refl
       (record {
         threads = map_kept is_tid is-true is-refl (thread_part n) v.threads t r d.node.threads m.here.threads (sym (thread_was p net q n w L s t (Leaves end) x));
         rows = kept is_tid is-true is-refl listed_name (row_part n) v.threads t r (map listed d.node.places.rows) m.here.rows (sym (row_was p net q n w L s t (Leaves end) x));
@@ -220,15 +227,15 @@ module _ (p : Program) (net : Net) (q n : ℕ) (w : Spots) (L : Links) where
       (sym (ap phase_of x))
       (λ u k e. home_quiet n (Leaves end) refl u k (sym x ∙ e))
       (keeps _ _ (sym (ap (λ z. held z s.guest) x)))
-      (λ e. absurd (cc (e, x))) (plain _ refl)
+      (λ e. absurd (cc (e, x))) (plain _ refl) (own_goes p net q n w L d t (On n (Leaves end)) hs (Ended t end) (Noting n end) m refl refl refl) refl refl).midst
 
-  pub end_thread_ok : (d : Doing) (t : Tid) (end : End) (hs : List Busy) → Is d (busy t (On n (Ends end)) ∷ hs) → Is (end_thread t (waits wait.No (spot d t).guest) end d) hs
-  end_thread_ok d t end hs m = ends_ok (gives t (waits wait.No (spot d t).guest) d) t end hs (gives_ok d t end hs m)
+  pub end_thread_ok : (d : Doing) (t : Tid) (end : End) (hs : List Busy) → (m : Is d (busy t (On n (Ends end)) ∷ hs)) → Is (end_thread t (waits wait.No (spot m.now.spots t).guest) end d) hs
+  end_thread_ok d t end hs m = ends_ok (gives t (waits wait.No (spot m.now.spots t).guest) d) t end hs (gives_ok d t end hs m)
 
 -- ## Births
 
 -- all that is said of these spots, with node n in the state s
-record World (p : Program) (net : Net) (n : ℕ) (v : Spots) (M : Links) (s : Local) (hand : List Busy) : Type 0 where
+record Holds_there (p : Program) (net : Net) (n : ℕ) (v : Spots) (M : Links) (s : Local) (hand : List Busy) : Type 0 where
   here : Here n v s hand
   there : (k : ℕ) → eqb n k ≡ false → Here k v (net.nodes k) []
   links : (i j : ℕ) → LinkStands i j (M i j) v.threads
@@ -257,7 +264,7 @@ module _ (p : Program) (net : Net) (n : ℕ) (v : Spots) (M : Links) (s : Local)
   abbrev born_spots : Spots
   born_spots = spots_with (update v.threads new_name new_spot) (at_node v.slots slot (Of_thread new_name)) (at_node v.births n (v.births n ++ Lives ∷ [])) v.halts
 
-  unborn : World p net n v M s hand → (v.threads new_name).life ≡ Unborn
+  unborn : Holds_there p net n v M s hand → (v.threads new_name).life ≡ Unborn
   unborn o = unborn_of (v.threads new_name).life (sym (ap phase_at (get-past (v.births n))) ∙ o.agrees.named new_name)
 
   -- the births of another thread are as before
@@ -276,7 +283,7 @@ module _ (p : Program) (net : Net) (n : ℕ) (v : Spots) (M : Links) (s : Local)
   own_birth : slice_get (at_node v.births n (v.births n ++ Lives ∷ []) n) (length (v.births n)) ≡ Some Lives
   own_birth = rw (eq-eqb n n refl) (get-push (v.births n) Lives (length (v.births n)) ∙ (rw (eq-eqb (length (v.births n)) (length (v.births n)) refl) refl))
 
-  newcomer : World p net n v M s hand → World p net n born_spots M (with_newborn n new_name (waits wait.No g) g.priority slot s) hand
+  newcomer : Holds_there p net n v M s hand → Holds_there p net n born_spots M (with_newborn n new_name (waits wait.No g) g.priority slot s) hand
   newcomer o =
       let t : Tid = new_name in
       let old : Spot = v.threads t in
@@ -303,7 +310,7 @@ module _ (p : Program) (net : Net) (n : ℕ) (v : Spots) (M : Links) (s : Local)
               | false ↦ λ h. refl
             ] refl)
             refl;
-        links = λ i j. links_kept t new_spot v.threads M o.links (sym (ap (λ z. way_of t z old.verdict old.guest) x)) i j;
+        links = λ i j. links_kept t new_spot v.threads M o.links (sym (ap (λ z. ways_of t z old.verdict old.guest) x)) i j;
         agrees = record {
           homes = λ u out. elim (is_tid t u) as (λ b. is_tid t u ≡ b → (cond b new_spot (v.threads u)).life ≡ Unborn) [
             | true ↦ λ e. let h : n ≡ u.home = ap (λ (z : Tid). z.home) (is-true t u e) in absurd (cc (below, out, ap (λ k. nat_lt k (nodes_of p)) h))
@@ -365,34 +372,35 @@ one_run slot = has-run slot slot 1 ∙ grind (arith, ltb-true slot slot, lt-ltb 
 least_held : (n : ℕ) (v : Spots) (slot : ℕ) → lowest_free n 1 v ≡ Some slot → v.slots slot ≡ Of_node n
 least_held n v slot e = lowest_held n 1 v slot slot e (one_run slot)
 
-module _ (p : Program) (net : Net) (q n : ℕ) (w : Spots) (L : Links) (below : nat_lt n (nodes_of p) ≡ true) where
+module _ (p : Program) (net : Net) (q : Occasion) (n : ℕ) (w : World) (L : Links) (below : nat_lt n (nodes_of p) ≡ true) where
   abbrev Is_so : Doing → List Busy → Type 0
   Is_so d hand = Midst p net q n w L d hand
 
   -- the first thread
-  pub main_born_ok : (d : Doing) (slot : ℕ) → Is_so d [] → n ≡ 0 → free_slot d.node.slots.own ≡ Some slot → Is_so (birth n why.Main p.image.main 0 main_priority slot d) []
+  pub main_born_ok : (d : Doing) (slot : ℕ) → (m : Is_so d []) → d.labels ≡ [] → n ≡ 0 → free_slot d.node.slots.own ≡ Some slot → Is_so (birth n why.Main p.image.main 0 main_priority slot d) []
   unfolding birth arrive thread_in name_in slots_out say
-  main_born_ok d slot m zero free =
-      let v : Spots = spots_at p net q n w d in
+  main_born_ok d slot m first zero free =
+      let v : Spots = m.now.spots in
       let t : Tid = tid n (length (v.births n)) in
       let g : Guest = newborn p.image.main 0 0 (stack_end slot) slot main_priority in
       let least : lowest_free n 1 v ≡ Some slot = lowest_is n 1 v d.node [] m.here ∙ free in
-      let o : World p net n v (under n L d.sends) d.node [] = record { here = m.here; there = m.there; links = m.links; agrees = m.agrees } in
+      let o : Holds_there p net n v (under n L d.sends) d.node [] = record { here = m.here; there = m.there; links = m.links; agrees = m.agrees } in
       let holder : v.slots slot ≡ Of_node n = least_held n v slot least in
-      let new : World p net n (born_spots p net n v (under n L d.sends) d.node [] below g (record { code = 0; second = None }) slot holder refl (new_well p.image.main 0 0 (stack_end slot) slot main_priority)) (under n L d.sends) (with_newborn n t (waits wait.No g) g.priority slot d.node) [] =
+      let new : Holds_there p net n (born_spots p net n v (under n L d.sends) d.node [] below g (record { code = 0; second = None }) slot holder refl (new_well p.image.main 0 0 (stack_end slot) slot main_priority)) (under n L d.sends) (with_newborn n t (waits wait.No g) g.priority slot d.node) [] =
       newcomer p net n v (under n L d.sends) d.node [] below g (record { code = 0; second = None }) slot holder refl (new_well p.image.main 0 0 (stack_end slot) slot main_priority) o in
       subst (λ (k : ℕ). Midst p net q n w L (record { node = with_newborn n (tid n k) (waits wait.No g) g.priority slot d.node; labels = d.labels ++ Born (tid n k) why.Main p.image.main 0 0 (stack_end slot) slot ∷ []; sends = d.sends; prints = d.prints }) [])
       (ap length (sym m.here.names))
       (labelled p net q n w L L d [] [] (Born t why.Main p.image.main 0 0 (stack_end slot) slot) _ _ d.sends d.prints m refl
       (record { solo = ((refl, refl, zero), refl, refl); holders = holder; life = (unborn p net n v (under n L d.sends) d.node [] below g (record { code = 0; second = None }) slot holder refl (new_well p.image.main 0 0 (stack_end slot) slot main_priority) o, refl); replies = tt; grants = least })
-      (sym (append-nil d.sends)) (sym (append-nil d.prints)) new.here new.there new.links new.agrees)
+      (sym (append-nil d.sends)) (sym (append-nil d.prints)) new.here new.there new.links new.agrees
+      (record { places = refl; booted = refl; next = is_first n (Born t why.Main p.image.main 0 0 (stack_end slot) slot) v d.labels [] first; still = refl })).midst
 
   -- a thread that another one creates, which is due the new name then
-  pub born_ok : (d : Doing) (by : Tid) (e a k slot : ℕ) (hs : List Busy) → Is_so d (busy by (On n (Served (Create e a k))) ∷ hs) → free_slot d.node.slots.own ≡ Some slot
+  pub born_ok : (d : Doing) (by : Tid) (e a k slot : ℕ) (hs : List Busy) → (m : Is_so d (busy by (On n (Served (Create e a k))) ∷ hs)) → free_slot d.node.slots.own ≡ Some slot
       → Is_so (birth n (why.Create by) e a k slot d) (busy by (On n (Due (tid_value (next_name n d)))) ∷ hs)
   unfolding birth arrive thread_in name_in slots_out say
   born_ok d by e a k slot hs m free =
-      let v : Spots = spots_at p net q n w d in
+      let v : Spots = m.now.spots in
       let s : Spot = v.threads by in
       let x : s.life ≡ On n (Served (Create e a k)) = in_hand p net q n w L d by (On n (Served (Create e a k))) hs m in
       let t : Tid = tid n (length (v.births n)) in
@@ -404,7 +412,7 @@ module _ (p : Program) (net : Net) (q n : ℕ) (w : Spots) (L : Links) (below : 
       let hand : List Busy = busy by (On n (Due (tid_value t))) ∷ hs in
       let M : Links = under n L d.sends in
       let none : Response = record { code = 0; second = None } in
-      let served : World p net n v1 M d.node hand = record {
+      let served : Holds_there p net n v1 M d.node hand = record {
         here = record {
           threads = map_kept is_tid is-true is-refl (thread_part n) v.threads by r d.node.threads m.here.threads (thread_was p net q n w L r by (Due (tid_value t)) refl ∙ sym (thread_was p net q n w L s by (Served (Create e a k)) x));
           rows = kept is_tid is-true is-refl listed_name (row_part n) v.threads by r (map listed d.node.places.rows) m.here.rows (row_was p net q n w L r by (Due (tid_value t)) refl ∙ sym (row_was p net q n w L s by (Served (Create e a k)) x));
@@ -414,10 +422,10 @@ module _ (p : Program) (net : Net) (q n : ℕ) (w : Spots) (L : Links) (below : 
           halted = m.here.halted;
         };
         there = λ j f. here_kept j v by r v.slots v.births v.halts (net.nodes j) [] (m.there j f) (frame_home n j by s r (Served (Create e a k)) (Due (tid_value t)) x refl refl refl f) refl (λ y. refl) refl;
-        links = λ i j. links_kept by r v.threads M m.links (sym (ap (λ z. way_of by z s.verdict s.guest) x)) i j;
+        links = λ i j. links_kept by r v.threads M m.links (sym (ap (λ z. ways_of by z s.verdict s.guest) x)) i j;
         agrees = agrees_kept p v by r v.halts m.agrees (sym (ap phase_of x)) (λ u j f. home_quiet n (Served (Create e a k)) refl u j (sym x ∙ f)) (keeps _ _ (ap (λ z. held z s.guest) (sym x))) (λ f. absurd (cc (f, x))) (λ u j f. absurd (cc f)) (λ j f. absurd (cc f)) (λ j f. f);
       } in
-      let new : World p net n (born_spots p net n v1 M d.node hand below g none slot holder refl (new_well e a 0 (stack_end slot) slot k)) M (with_newborn n t (waits wait.No g) g.priority slot d.node) hand = newcomer p net n v1 M d.node hand below g none slot holder refl (new_well e a 0 (stack_end slot) slot k) served in
+      let new : Holds_there p net n (born_spots p net n v1 M d.node hand below g none slot holder refl (new_well e a 0 (stack_end slot) slot k)) M (with_newborn n t (waits wait.No g) g.priority slot d.node) hand = newcomer p net n v1 M d.node hand below g none slot holder refl (new_well e a 0 (stack_end slot) slot k) served in
       let fresh : (v.threads t).life ≡ Unborn = unborn_of (v.threads t).life (sym (ap phase_at (get-past (v.births n))) ∙ m.agrees.named t) in
       let same : after_label p n (Born t (why.Create by) e a 0 (stack_end slot) slot) v ≡ born_spots p net n v1 M d.node hand below g none slot holder refl (new_well e a 0 (stack_end slot) slot k) =
       ap (λ z. spots_with (update (update v.threads by r) t (born_spot n e a 0 (stack_end slot) slot (asked_priority z))) (at_node v.slots slot (Of_thread t)) (at_node v.births n (v.births n ++ Lives ∷ [])) v.halts) x in
@@ -425,4 +433,13 @@ module _ (p : Program) (net : Net) (q n : ℕ) (w : Spots) (L : Links) (below : 
       (ap length (sym m.here.names))
       (labelled p net q n w L L d _ hand (Born t (why.Create by) e a 0 (stack_end slot) slot) _ _ d.sends d.prints m same
       (record { solo = ((k, x), refl, refl); holders = holder; life = (fresh, refl); replies = tt; grants = least })
-      (sym (append-nil d.sends)) (sym (append-nil d.prints)) new.here new.there new.links new.agrees)
+      (sym (append-nil d.sends)) (sym (append-nil d.prints)) new.here new.there new.links new.agrees
+      (record {
+        places = ap (λ z. arrived t (asked_priority z) d.node.places) (sym x);
+        booted = refl;
+        next = is_next n (Born t (why.Create by) e a 0 (stack_end slot) slot) v d.labels (Does (Its by) ∷ map busy_item hs) (refl, ap (is_busy n) x ∙ eq-eqb n n refl);
+        still = sym (ap (λ z. cond (is_busy n z) (Does (Its by) ∷ []) [] ++ map busy_item hs) (ap (λ (z : Spots). (z.threads by).life) same ∙ at_by t r v (record { life = On n Ready; guest = g; verdict = none }) x fresh) ∙ (rw (eq-eqb n n refl) refl));
+      })).midst
+    where
+      at_by : (t : Tid) (r : Spot) (v : Spots) (s : Spot) → (v.threads by).life ≡ On n (Served (Create e a k)) → (v.threads t).life ≡ Unborn → (update (update v.threads by r) t s by).life ≡ r.life
+      at_by t r v s x fresh = rw (is-other t by (λ g. absurd (cc (fresh, x, ap (λ z. (v.threads z).life) g)))) (rw (is-refl by) refl)

@@ -1,6 +1,6 @@
 -- An event in its midst: what holds of it, and the one lemma for a label.
-use Rattle.std.proofs.Common.{◌≡◌, ℕ, List, [], ◌∷◌, ◌++◌, Option, Some, None, Bool, true, false, eqb, cond, refl, sym, ap, ◌∙◌, subst, append_assoc, map}
-use Rattle.std.specs.Prelude.{slice_get}
+use Rattle.std.proofs.Common.{◌≡◌, ℕ, List, [], ◌∷◌, ◌++◌, Option, Some, Bool, true, false, eqb, cond, ◌&&◌, refl, sym, ap, ◌∙◌, subst, append_assoc, map}
+use Rattle.std.specs.Prelude.{slice_get, ⊤}
 use Rattle.std.proofs.lemmas.Bool.{eqb-true}
 use Rattle.std.proofs.lemmas.List.{append-nil}
 use Rattle.slot_space.specs.Sets.{has}
@@ -14,13 +14,20 @@ use Rattle.run_trace.specs.Names.{is_tid}
 use Rattle.run_trace.specs.Program.{Program}
 use Rattle.run_trace.specs.Local.{Local, Doing}
 use Rattle.run_trace.specs.Cluster.{Net}
-use Rattle.run_trace.specs.Keyed.{StandsFor}
 use Rattle.run_trace.specs.Spots.{Stays, Life, Awaits, Unborn, On, Spot, Spots, Holder, update, after_label, after_labels}
-use Rattle.run_trace.specs.Rules.{Rule, SoloRule, HoldersRule, LifeRule, RepliesRule, GrantsRule, ObeyEach, is_free, causes, all_causes, send_to}
+use Rattle.run_trace.specs.Rules.{Occasion, saying, Rule, SoloRule, HoldersRule, LifeRule, RepliesRule, GrantsRule, is_free}
+use Rattle.run_trace.specs.World.{World, world_after}
+use Rattle.trace_laws.specs.Obeys.{ObeyEach, all_causes}
 use Rattle.run_trace.specs.Console.{shown_by, shown_by_all}
-use Rattle.run_trace.specs.Stands.{Here, Agrees, Busy, busy_name, busy_part, thread_part, row_part, link_part, listed, listed_name, Word, word_name, word_of, way, way_of, on_link, phase_of, phase_at, Holding, held, slots_held, IsWellHeld, is_thread}
-use Rattle.trace_laws.proofs.Tids.{is-true, is-refl}
-use Rattle.trace_laws.proofs.KeyedLemmas.{kept, removed, added, without, map_kept}
+use Rattle.run_trace.specs.Places.{Places, IsRising}
+use Rattle.trace_laws.proofs.Arriving.{places_after, places_after_all, rising_after}
+use Rattle.run_trace.specs.Causes.{causes, send_to}
+use Rattle.run_trace.specs.Obeying.{IsNext, Allows}
+use Rattle.run_trace.specs.Stands.{Here, Agrees, Busy, busy_name, busy_part, thread_part, row_part, link_part, listed, listed_name, Word, word_subject, word_of, words_about, Way, way, ways_of, on_link, phase_of, phase_at, Holding, held, slots_held, IsWellHeld, is_thread}
+use Rattle.trace_laws.proofs.Tids.{is-true, is-refl, is-same}
+use Rattle.trace_laws.proofs.Subjects.{less_word, rest_words, about-append, about-less, about-less_other, on_link-append}
+use Rattle.trace_laws.proofs.KeyedLemmas.{kept, map_kept}
+use Rattle.run_trace.specs.Items.{Subject, Thread, same_subject, Item, Does, is_busy, goes_on_with, busy_among, all_but_first, to_do_after}
 
 abbrev pub Links : Type 0
 Links = ℕ → ℕ → List Word
@@ -34,33 +41,68 @@ abbrev pub under : ℕ → Links → List Send → Links
 under n L sends i j = L i j ++ cond (eqb n i) (sent_words j sends) []
 
 abbrev pub LinkStands : ℕ → ℕ → List Word → (Tid → Spot) → Type 0
-LinkStands i j xs w = StandsFor is_tid word_name (link_part i j) xs w
-
--- one label obeys each rule
-pub record Allowed (p : Program) (q n : ℕ) (l : Label) (w : Spots) : Type 0 where
-  pub solo : SoloRule p q n l w
-  pub holders : HoldersRule p q n l w
-  pub life : LifeRule p q n l w
-  pub replies : RepliesRule p q n l w
-  pub grants : GrantsRule p q n l w
+LinkStands i j xs w = (s : Subject) → words_about xs s ≡ link_part i j s w
 
 -- all labels obey each rule
-pub record Obeyed (p : Program) (q n : ℕ) (ls : List Label) (w : Spots) : Type 0 where
+pub record Obeyed (p : Program) (q : Occasion) (n : ℕ) (ls : List Label) (w : World) : Type 0 where
   pub solo : ObeyEach SoloRule p q n ls w
   pub holders : ObeyEach HoldersRule p q n ls w
   pub life : ObeyEach LifeRule p q n ls w
   pub replies : ObeyEach RepliesRule p q n ls w
   pub grants : ObeyEach GrantsRule p q n ls w
 
--- the event on node n, of spots w before it, has come to d and is busy with hand; L are the links without what it sent
-pub record Midst (p : Program) (net : Net) (q n : ℕ) (w : Spots) (L : Links) (d : Doing) (hand : List Busy) : Type 0 where
+abbrev pub busy_item : Busy → Item
+busy_item x = Does (Thread x.tid)
+
+abbrev pub to_do_after_all : Program → ℕ → List Label → Spots → List Item → List Item
+to_do_after_all p n [] w to_do = to_do
+to_do_after_all p n (l ∷ ls) w to_do = to_do_after_all p n ls (after_label p n l w) (to_do_after p n l w to_do)
+
+-- each label but the first is of the first thread that the event was busy with
+abbrev pub NextAll : Program → ℕ → List Label → Spots → List Item → Type 0
+NextAll p n [] w hand = ⊤
+NextAll p n (l ∷ ls) w hand = IsNext n l w hand × NextAll p n ls (after_label p n l w) (to_do_after p n l w hand)
+
+abbrev pub AreNext : Program → ℕ → List Label → Spots → Type 0
+AreNext p n [] w = ⊤
+AreNext p n (l ∷ ls) w = NextAll p n ls (after_label p n l w) (to_do_after p n l w [])
+
+-- beside the spots: the run list, whom the event is busy with, and that the node has begun
+pub record Aside (p : Program) (n : ℕ) (w : Spots) (before now : Local) (labels : List Label) (hand : List Busy) : Type 0 where
+  pub places : now.places ≡ places_after_all p n labels w before.places
+  pub still : map busy_item hand ≡ to_do_after_all p n labels w []
+  pub next : AreNext p n labels w
+  pub rising : IsRising now.places
+  pub booted : before.booted ≡ true → now.booted ≡ true
+
+-- the same of one more label
+abbrev pub IsFirstOrNext : ℕ → Label → Spots → List Label → List Item → Type 0
+IsFirstOrNext n l v [] hand = ⊤
+IsFirstOrNext n l v (x ∷ xs) hand = IsNext n l v hand
+
+pub record Beside (p : Program) (n : ℕ) (v : Spots) (l : Label) (labels : List Label) (old now : Local) (hand more : List Busy) : Type 0 where
+  pub places : now.places ≡ places_after l v old.places
+  pub still : map busy_item more ≡ to_do_after p n l v (map busy_item hand)
+  pub next : IsFirstOrNext n l v labels (map busy_item hand)
+  pub booted : now.booted ≡ old.booted
+
+-- the event on node n, of the world w before it, has come to d, is busy with hand, and has told now; L are the links without what it sent
+pub record Midst (p : Program) (net : Net) (q : Occasion) (n : ℕ) (w : World) (L : Links) (d : Doing) (hand : List Busy) : Type 0 where
+  pub now : World
+  pub told : now ≡ record w { spots = after_labels p n d.labels w.spots }
   pub allowed : Obeyed p q n d.labels w
-  pub sends : d.sends ≡ all_causes p n d.labels w
-  pub prints : d.prints ≡ shown_by_all p n d.labels w
-  pub here : Here n (after_labels p n d.labels w) d.node hand
-  pub there : (k : ℕ) → eqb n k ≡ false → Here k (after_labels p n d.labels w) (net.nodes k) []
-  pub links : (i j : ℕ) → LinkStands i j (under n L d.sends i j) (after_labels p n d.labels w).threads
-  pub agrees : Agrees p (after_labels p n d.labels w)
+  pub sends : d.sends ≡ all_causes p n d.labels w.spots
+  pub prints : d.prints ≡ shown_by_all p n d.labels w.spots
+  pub here : Here n now.spots d.node hand
+  pub there : (k : ℕ) → eqb n k ≡ false → Here k now.spots (net.nodes k) []
+  pub links : (i j : ℕ) → LinkStands i j (under n L d.sends i j) now.spots.threads
+  pub agrees : Agrees p now.spots
+  pub aside : Aside p n w.spots (net.nodes n) d.node d.labels hand
+
+-- the same after one more label, of a world that was told
+pub record Then (p : Program) (net : Net) (q : Occasion) (n : ℕ) (w : World) (L : Links) (v : World) (l : Label) (d : Doing) (hand : List Busy) : Type 0 where
+  pub midst : Midst p net q n w L d hand
+  pub now : midst.now ≡ world_after p n l v
 
 -- ## One more label
 
@@ -68,9 +110,13 @@ pub after_append : (p : Program) (n : ℕ) (ls : List Label) (l : Label) (w : Sp
 after_append p n [] l w = refl
 after_append p n (x ∷ ls) l w = after_append p n ls l (after_label p n x w)
 
-obey_append : (rule : Rule) (p : Program) (q n : ℕ) (ls : List Label) (l : Label) (w : Spots) → ObeyEach rule p q n ls w → rule p q n l (after_labels p n ls w) → ObeyEach rule p q n (ls ++ l ∷ []) w
-obey_append rule p q n [] l w o h = (h, tt)
-obey_append rule p q n (x ∷ ls) l w o h = (o.0, obey_append rule p q n ls l (after_label p n x w) o.1 h)
+-- the occasion after these labels too
+abbrev pub having_said : List Label → Occasion → Occasion
+having_said ls o = record o { said = o.said ++ ls }
+
+obey_append : (rule : Rule) (p : Program) (q : Occasion) (n : ℕ) (ls : List Label) (l : Label) (w : World) → ObeyEach rule p q n ls w → rule p (having_said ls q) n l (record w { spots = after_labels p n ls w.spots }) → ObeyEach rule p q n (ls ++ l ∷ []) w
+obey_append rule p q n [] l w o h = (subst (λ z. rule p (record q { said = z }) n l w) (append-nil q.said) h, tt)
+obey_append rule p q n (x ∷ ls) l w o h = (o.0, obey_append rule p (saying x q) n ls l (world_after p n x w) o.1 (subst (λ z. rule p (record q { said = z }) n l (record w { spots = after_labels p n (x ∷ ls) w.spots })) (sym (append_assoc q.said (x ∷ []) ls)) h))
 
 causes_append : (p : Program) (n : ℕ) (ls : List Label) (l : Label) (w : Spots) → all_causes p n (ls ++ l ∷ []) w ≡ all_causes p n ls w ++ causes p n l (after_labels p n ls w)
 causes_append p n [] l w = append-nil (causes p n l w)
@@ -79,6 +125,55 @@ causes_append p n (x ∷ ls) l w = ap (λ xs. causes p n x w ++ xs) (causes_appe
 shown_append : (p : Program) (n : ℕ) (ls : List Label) (l : Label) (w : Spots) → shown_by_all p n (ls ++ l ∷ []) w ≡ shown_by_all p n ls w ++ shown_by l (after_labels p n ls w)
 shown_append p n [] l w = append-nil (shown_by l w)
 shown_append p n (x ∷ ls) l w = ap (λ xs. shown_by x w ++ xs) (shown_append p n ls l (after_label p n x w)) ∙ sym (append_assoc (shown_by x w) (shown_by_all p n ls (after_label p n x w)) (shown_by l (after_labels p n (x ∷ ls) w)))
+
+places_append : (p : Program) (n : ℕ) (ls : List Label) (l : Label) (w : Spots) (s : Places) → places_after_all p n (ls ++ l ∷ []) w s ≡ places_after l (after_labels p n ls w) (places_after_all p n ls w s)
+places_append p n [] l w s = refl
+places_append p n (x ∷ ls) l w s = places_append p n ls l (after_label p n x w) (places_after x w s)
+
+hand_append : (p : Program) (n : ℕ) (ls : List Label) (l : Label) (w : Spots) (hand : List Item) → to_do_after_all p n (ls ++ l ∷ []) w hand ≡ to_do_after p n l (after_labels p n ls w) (to_do_after_all p n ls w hand)
+hand_append p n [] l w hand = refl
+hand_append p n (x ∷ ls) l w hand = hand_append p n ls l (after_label p n x w) (to_do_after p n x w hand)
+
+next_all_append : (p : Program) (n : ℕ) (ls : List Label) (l : Label) (w : Spots) (hand : List Item) → NextAll p n ls w hand → IsNext n l (after_labels p n ls w) (to_do_after_all p n ls w hand) → NextAll p n (ls ++ l ∷ []) w hand
+next_all_append p n [] l w hand a k = (k, tt)
+next_all_append p n (x ∷ ls) l w hand a k = (a.0, next_all_append p n ls l (after_label p n x w) (to_do_after p n x w hand) a.1 k)
+
+next_append : (p : Program) (n : ℕ) (ls : List Label) (l : Label) (w : Spots) → AreNext p n ls w → IsFirstOrNext n l (after_labels p n ls w) ls (to_do_after_all p n ls w []) → AreNext p n (ls ++ l ∷ []) w
+next_append p n [] l w a k = tt
+next_append p n (x ∷ ls) l w a k = next_all_append p n ls l (after_label p n x w) (to_do_after p n x w []) a k
+
+aside_append : (p : Program) (n : ℕ) (w : Spots) (before old now : Local) (labels : List Label) (l : Label) (hand more : List Busy)
+    → Aside p n w before old labels hand → Beside p n (after_labels p n labels w) l labels old now hand more → Aside p n w before now (labels ++ l ∷ []) more
+aside_append p n w before old now labels l hand more a b = record {
+  places = b.places ∙ ap (places_after l (after_labels p n labels w)) a.places ∙ sym (places_append p n labels l w before.places);
+  still = b.still ∙ ap (to_do_after p n l (after_labels p n labels w)) a.still ∙ sym (hand_append p n labels l w []);
+  next = next_append p n labels l w a.next (subst (λ h. IsFirstOrNext n l (after_labels p n labels w) labels h) a.still b.next);
+  rising = subst (λ z. IsRising z) (sym b.places) (rising_after l (after_labels p n labels w) old.places a.rising);
+  booted = λ h. b.booted ∙ a.booted h;
+}
+
+-- a label of the thread t, which comes to a new life: the event is busy with it, or goes on with the all_but_first
+pub record Own (n : ℕ) (l : Label) (t : Tid) (v : Spots) (labels : List Label) (hand more : List Busy) (new : Life) : Type 0 where
+  pub heir : goes_on_with l v ≡ Thread t ∷ []
+  pub next : IsFirstOrNext n l v labels (map busy_item hand)
+  pub still : map busy_item more ≡ cond (is_busy n new) (Does (Thread t) ∷ []) [] ++ all_but_first (map busy_item hand)
+
+pub beside : (p : Program) (n : ℕ) (v : Spots) (l : Label) (t : Tid) (labels : List Label) (old now : Local) (hand more : List Busy) (new : Life)
+    → Own n l t v labels hand more new → ((after_label p n l v).threads t).life ≡ new → now.places ≡ places_after l v old.places → now.booted ≡ old.booted
+    → Beside p n v l labels old now hand more
+beside p n v l t labels old now hand more new o life places booted = record {
+  places = places;
+  booted = booted;
+  next = o.next;
+  still = o.still ∙ ap (λ z. cond (is_busy n z) (Does (Thread t) ∷ []) [] ++ all_but_first (map busy_item hand)) (sym life) ∙ ap (λ z. busy_among n z (after_label p n l v) ++ all_but_first (map busy_item hand)) (sym o.heir);
+}
+
+pub is_next : (n : ℕ) (l : Label) (v : Spots) (labels : List Label) (hand : List Item) → IsNext n l v hand → IsFirstOrNext n l v labels hand
+is_next n l v [] hand k = tt
+is_next n l v (x ∷ xs) hand k = k
+
+pub is_first : (n : ℕ) (l : Label) (v : Spots) (labels : List Label) (hand : List Item) → labels ≡ [] → IsFirstOrNext n l v labels hand
+is_first n l v labels hand e = subst (λ ls. IsFirstOrNext n l v ls hand) (sym e) tt
 
 -- ## Spots of other nodes
 
@@ -107,8 +202,14 @@ updated w t s = rw (is-refl t) refl
 
 -- ## Links
 
-pub links_kept : (t : Tid) (s : Spot) (w : Tid → Spot) (L : Links) → ((i j : ℕ) → LinkStands i j (L i j) w) → way_of t s.life s.verdict s.guest ≡ way_of t (w t).life (w t).verdict (w t).guest → (i j : ℕ) → LinkStands i j (L i j) (update w t s)
-links_kept t s w L h e i j = kept is_tid is-true is-refl word_name (link_part i j) w t s (L i j) (h i j) (ap (on_link i j) e)
+abbrev pub ways_in : Tid → Spot → List Way
+ways_in t s = ways_of t s.life s.verdict s.guest
+
+pub links_kept : (t : Tid) (s : Spot) (w : Tid → Spot) (L : Links) → ((i j : ℕ) → LinkStands i j (L i j) w) → ways_in t s ≡ ways_in t (w t) → (i j : ℕ) → LinkStands i j (L i j) (update w t s)
+links_kept t s w L h e i j (Thread u) = h i j (Thread u) ∙ elim (is_tid t u) as (λ v. is_tid t u ≡ v → on_link i j (ways_in u (w u)) ≡ on_link i j (ways_in u (cond v s (w u)))) [
+  | true ↦ λ f. subst (λ z. on_link i j (ways_in z (w z)) ≡ on_link i j (ways_in z s)) (is-true t u f) (ap (on_link i j) (sym e))
+  | false ↦ λ f. refl
+] refl
 
 sent_append : (j : ℕ) (xs : List Send) (to : ℕ) (body : Body) → sent_words j (xs ++ send_to to body) ≡ cond (eqb to j) (sent_words j xs ++ word_of j body ∷ []) (sent_words j xs)
 sent_append j [] to body = refl
@@ -119,56 +220,78 @@ sent_append j (y ∷ xs) to body = elim (eqb y.to j) as (λ v. cond v (word_of j
     by_test true = refl
     by_test false = refl
 
--- a packet is put on a link, and its thread comes to be shown there alone
-pub put_link : (n to : ℕ) (body : Body) (t : Tid) (s : Spot) (L : Links) (sends : List Send) (w : Tid → Spot) → ((i j : ℕ) → LinkStands i j (under n L sends i j) w)
-    → word_name (word_of to body) ≡ t
-    → way_of t (w t).life (w t).verdict (w t).guest ≡ None
-    → way_of t s.life s.verdict s.guest ≡ way n to (word_of to body)
-    → (i j : ℕ) → LinkStands i j (under n L (sends ++ send_to to body) i j) (update w t s)
-put_link n to body t s L sends w h name old new i j = by_tests (eqb n i) (eqb to j) refl refl
-  where
-    none : link_part i j t (w t) ≡ None
-    none = ap (on_link i j) old
+abbrev none_of : List Word
+none_of = []
 
-    by_tests : (u v : Bool) → eqb n i ≡ u → eqb to j ≡ v → LinkStands i j (L i j ++ cond (eqb n i) (sent_words j (sends ++ send_to to body)) []) (update w t s)
-    by_tests true true e f =
-        let at : to ≡ j = eqb-true to j f in
-        let g : L i j ++ sent_words j (sends ++ send_to to body) ≡ (L i j ++ sent_words j sends) ++ word_of j body ∷ [] = ap (λ bs. L i j ++ bs) (sent_append j sends to body ∙ (rw f refl)) ∙ sym (append_assoc (L i j) (sent_words j sends) (word_of j body ∷ [])) in
-        let k : LinkStands i j (L i j ++ sent_words j sends) w = subst (λ b. LinkStands i j (L i j ++ cond b (sent_words j sends) []) w) e (h i j) in
-        let part : link_part i j t s ≡ Some (word_of j body) = ap (on_link i j) new ∙ (rw (e, f) (ap (λ m. Some (word_of m body)) at)) in
-        let a : LinkStands i j ((L i j ++ sent_words j sends) ++ word_of j body ∷ []) (update w t s) = added is_tid is-true is-refl word_name (link_part i j) w t s _ (word_of j body) k (ap (λ m. word_name (word_of m body)) (sym at) ∙ name) none part in
-        subst (λ b. LinkStands i j (L i j ++ cond b (sent_words j (sends ++ send_to to body)) []) (update w t s)) (sym e) (subst (λ bs. LinkStands i j bs (update w t s)) (sym g) a)
-    by_tests true false e f =
-        let g : sent_words j (sends ++ send_to to body) ≡ sent_words j sends = sent_append j sends to body ∙ (rw f refl) in
-        let part : link_part i j t s ≡ None = ap (on_link i j) new ∙ (rw (e, f) refl) in
-        subst (λ bs. LinkStands i j (L i j ++ cond (eqb n i) bs []) (update w t s)) (sym g) (kept is_tid is-true is-refl word_name (link_part i j) w t s _ (h i j) (part ∙ sym none))
-    by_tests false v e f =
-        let k : LinkStands i j (L i j ++ []) w = subst (λ b. LinkStands i j (L i j ++ cond b (sent_words j sends) []) w) e (h i j) in
-        let part : link_part i j t s ≡ None = ap (on_link i j) new ∙ (rw e refl) in
-        subst (λ b. LinkStands i j (L i j ++ cond b (sent_words j (sends ++ send_to to body)) []) (update w t s)) (sym e)
-        (kept is_tid is-true is-refl word_name (link_part i j) w t s (L i j ++ []) k (part ∙ sym none))
+no_more : (v : Bool) → none_of ≡ cond v none_of none_of
+no_more true = refl
+no_more false = refl
+
+-- a packet is put on a link, and is the last that is under way of its thread
+pub put_link : (n to : ℕ) (body : Body) (t : Tid) (s : Spot) (L : Links) (sends : List Send) (w : Tid → Spot) → ((i j : ℕ) → LinkStands i j (under n L sends i j) w)
+    → word_subject (word_of to body) ≡ Thread t
+    → ways_in t s ≡ ways_in t (w t) ++ way n to (word_of to body)
+    → (i j : ℕ) → LinkStands i j (under n L (sends ++ send_to to body) i j) (update w t s)
+put_link n to body t s L sends w h name new i j (Thread u) =
+    ap (λ xs. words_about xs (Thread u)) grown ∙ about-append (under n L sends i j) more (Thread u) ∙ ap (λ xs. xs ++ words_about more (Thread u)) (h i j (Thread u)) ∙ by (is_tid t u) refl
+  where
+    more : List Word
+    more = cond (eqb n i && eqb to j) (word_of j body ∷ []) []
+
+    grown : under n L (sends ++ send_to to body) i j ≡ under n L sends i j ++ more
+    grown = by_tests (eqb n i) (eqb to j) (sent_append j sends to body)
+      where
+        by_tests : (a b : Bool) → sent_words j (sends ++ send_to to body) ≡ cond b (sent_words j sends ++ word_of j body ∷ []) (sent_words j sends)
+            → L i j ++ cond a (sent_words j (sends ++ send_to to body)) [] ≡ (L i j ++ cond a (sent_words j sends) []) ++ cond (a && b) (word_of j body ∷ []) []
+        by_tests true true e = ap (λ xs. L i j ++ xs) e ∙ sym (append_assoc (L i j) (sent_words j sends) (word_of j body ∷ []))
+        by_tests true false e = ap (λ xs. L i j ++ xs) e ∙ sym (append-nil (L i j ++ sent_words j sends))
+        by_tests false b e = sym (append-nil (L i j ++ []))
+
+    there : on_link i j (way n to (word_of to body)) ≡ more
+    there = by_tests (eqb n i) (eqb to j) refl
+      where
+        by_tests : (a b : Bool) → eqb to j ≡ b → cond (a && b) (word_of to body ∷ []) [] ≡ cond (a && b) (word_of j body ∷ []) []
+        by_tests true true e = ap (λ k. word_of k body ∷ []) (eqb-true to j e)
+        by_tests true false e = refl
+        by_tests false b e = refl
+
+    -- it is of t alone
+    own : (u : Tid) → words_about more (Thread u) ≡ cond (is_tid t u) more []
+    own u = by_tests (eqb n i) (eqb to j) refl
+      where
+        by_tests : (a b : Bool) → eqb to j ≡ b → words_about (cond (a && b) (word_of j body ∷ []) []) (Thread u) ≡ cond (is_tid t u) (cond (a && b) (word_of j body ∷ []) []) []
+        by_tests true true e =
+            let of : word_subject (word_of j body) ≡ Thread t = ap (λ k. word_subject (word_of k body)) (sym (eqb-true to j e)) ∙ name in
+            ap (λ z. cond (same_subject (Thread u) z) (word_of j body ∷ []) []) of ∙ ap (λ v. cond v (word_of j body ∷ []) []) (is-same u t)
+        by_tests true false e = no_more (is_tid t u)
+        by_tests false b e = no_more (is_tid t u)
+
+    by : (v : Bool) → is_tid t u ≡ v → on_link i j (ways_in u (w u)) ++ words_about more (Thread u) ≡ on_link i j (ways_in u (cond v s (w u)))
+    by true e = subst (λ z. on_link i j (ways_in z (w z)) ++ words_about more (Thread z) ≡ on_link i j (ways_in z s)) (is-true t u e)
+        (ap (λ xs. on_link i j (ways_in t (w t)) ++ xs) (own t ∙ ap (λ v. cond v more []) (is-refl t) ∙ sym there)
+        ∙ sym (on_link-append i j (ways_in t (w t)) (way n to (word_of to body))) ∙ ap (on_link i j) (sym new))
+    by false e = ap (λ xs. on_link i j (ways_in u (w u)) ++ xs) (own u ∙ ap (λ v. cond v more []) e) ∙ append-nil (on_link i j (ways_in u (w u)))
 
 abbrev pub at_link : ℕ → ℕ → (List Word → List Word) → Links → Links
 at_link a b f L i j = cond (eqb a i) (cond (eqb b j) (f (L i j)) (L i j)) (L i j)
 
-abbrev pub less_word : Tid → List Word → List Word
-less_word t xs = without is_tid is-true is-refl word_name xs t
-
--- a packet is taken off a link, and its thread is shown there no longer
+-- a packet is taken off a link, which was the first under way of its thread
 pub take_link : (a b : ℕ) (y : Word) (t : Tid) (s : Spot) (L : Links) (w : Tid → Spot) → ((i j : ℕ) → LinkStands i j (L i j) w)
-    → way_of t (w t).life (w t).verdict (w t).guest ≡ way a b y
-    → way_of t s.life s.verdict s.guest ≡ None
-    → (i j : ℕ) → LinkStands i j (at_link a b (less_word t) L i j) (update w t s)
-take_link a b y t s L w h old new i j = elim (eqb a i) as (λ v. eqb a i ≡ v → LinkStands i j (cond v (cond (eqb b j) (less_word t (L i j)) (L i j)) (L i j)) (update w t s)) [
-  | true ↦ λ e. elim (eqb b j) as (λ v. eqb b j ≡ v → LinkStands i j (cond v (less_word t (L i j)) (L i j)) (update w t s)) [
-    | true ↦ λ f. removed is_tid is-true is-refl word_name (link_part i j) w t s (L i j) (h i j) none
-    | false ↦ λ f. kept is_tid is-true is-refl word_name (link_part i j) w t s (L i j) (h i j) (none ∙ sym (ap (on_link i j) old ∙ (rw (e, f) refl)))
-  ] refl
-  | false ↦ λ e. kept is_tid is-true is-refl word_name (link_part i j) w t s (L i j) (h i j) (none ∙ sym (ap (on_link i j) old ∙ (rw e refl)))
-] refl
+    → ways_in t (w t) ≡ way a b y ++ ways_in t s
+    → (i j : ℕ) → LinkStands i j (at_link a b (less_word (Thread t)) L i j) (update w t s)
+take_link a b y t s L w h old i j (Thread u) = by (eqb a i) (eqb b j) (is_tid t u) refl refl refl
   where
-    none : link_part i j t s ≡ None
-    none = ap (on_link i j) new
+    of_t : (x z : Bool) → eqb a i ≡ x → eqb b j ≡ z → on_link i j (ways_in t (w t)) ≡ cond (x && z) (y ∷ on_link i j (ways_in t s)) (on_link i j (ways_in t s))
+    of_t x z e f = ap (on_link i j) old ∙ ap (λ v. cond (v && eqb b j) (y ∷ on_link i j (ways_in t s)) (on_link i j (ways_in t s))) e ∙ ap (λ v. cond (x && v) (y ∷ on_link i j (ways_in t s)) (on_link i j (ways_in t s))) f
+
+    by : (x z v : Bool) → eqb a i ≡ x → eqb b j ≡ z → is_tid t u ≡ v → words_about (cond x (cond z (less_word (Thread t) (L i j)) (L i j)) (L i j)) (Thread u) ≡ on_link i j (ways_in u (cond v s (w u)))
+    by true true true e f g = subst (λ k. words_about (less_word (Thread t) (L i j)) (Thread k) ≡ on_link i j (ways_in k s)) (is-true t u g)
+        (about-less (L i j) (Thread t) ∙ ap rest_words (h i j (Thread t) ∙ of_t true true e f))
+    by true true false e f g = about-less_other (L i j) (Thread t) (Thread u) g ∙ h i j (Thread u)
+    by true false true e f g = subst (λ k. words_about (L i j) (Thread k) ≡ on_link i j (ways_in k s)) (is-true t u g) (h i j (Thread t) ∙ of_t true false e f)
+    by true false false e f g = h i j (Thread u)
+    by false z true e f g = subst (λ k. words_about (L i j) (Thread k) ≡ on_link i j (ways_in k s)) (is-true t u g) (h i j (Thread t) ∙ of_t false z e f)
+    by false z false e f g = h i j (Thread u)
 
 none_under : (n : ℕ) (L : Links) (i j : ℕ) → under n L [] i j ≡ L i j
 none_under n L i j = elim (eqb n i) as (λ v. L i j ++ cond v [] [] ≡ L i j) [ true ↦ append-nil (L i j) | false ↦ append-nil (L i j) ]
@@ -239,37 +362,39 @@ agrees_kept p w t s h a phase quiet kept born idle stay more = record {
 
 -- ## The one lemma for a label
 
-module _ (p : Program) (net : Net) (q n : ℕ) (w : Spots) where
-  abbrev pub spots_at : Doing → Spots
-  spots_at d = after_labels p n d.labels w
-
+module _ (p : Program) (net : Net) (q : Occasion) (n : ℕ) (w : World) where
   -- a label, with what goes with it
   pub labelled : (L M : Links) (d : Doing) (hand more : List Busy) (l : Label) (v : Spots) (now : Local) (sends : List Send) (prints : List ℕ)
-      → Midst p net q n w L d hand → after_label p n l (spots_at d) ≡ v → Allowed p q n l (spots_at d)
-      → sends ≡ d.sends ++ causes p n l (spots_at d) → prints ≡ d.prints ++ shown_by l (spots_at d)
+      → (m : Midst p net q n w L d hand) → after_label p n l m.now.spots ≡ v → Allows p (having_said d.labels q) n l m.now
+      → sends ≡ d.sends ++ causes p n l m.now.spots → prints ≡ d.prints ++ shown_by l m.now.spots
       → Here n v now more
       → ((k : ℕ) → eqb n k ≡ false → Here k v (net.nodes k) [])
       → ((i j : ℕ) → LinkStands i j (under n M sends i j) v.threads)
       → Agrees p v
-      → Midst p net q n w M (record { node = now; labels = d.labels ++ l ∷ []; sends = sends; prints = prints }) more
-  labelled L M d hand more l v now sends prints m same ok sent shown here there links agrees =
-      let e : v ≡ after_labels p n (d.labels ++ l ∷ []) w = sym same ∙ after_append p n d.labels l w in
+      → Beside p n m.now.spots l d.labels d.node now hand more
+      → Then p net q n w M m.now l (record { node = now; labels = d.labels ++ l ∷ []; sends = sends; prints = prints }) more
+  labelled L M d hand more l v now sends prints m same ok sent shown here there links agrees aside =
+      let told : m.now ≡ record w { spots = after_labels p n d.labels w.spots } = m.told in
+      let spots : m.now.spots ≡ after_labels p n d.labels w.spots = ap (λ (z : World). z.spots) told in
+      let may : Allows p (having_said d.labels q) n l (record w { spots = after_labels p n d.labels w.spots }) = subst (λ z. Allows p (having_said d.labels q) n l z) told ok in
       record {
-        allowed = record {
-          solo = obey_append SoloRule p q n d.labels l w m.allowed.solo ok.solo;
-          holders = obey_append HoldersRule p q n d.labels l w m.allowed.holders ok.holders;
-          life = obey_append LifeRule p q n d.labels l w m.allowed.life ok.life;
-          replies = obey_append RepliesRule p q n d.labels l w m.allowed.replies ok.replies;
-          grants = obey_append GrantsRule p q n d.labels l w m.allowed.grants ok.grants;
+        now = ap (λ (z : Spots). record m.now { spots = z }) (sym same);
+        midst = record {
+          now = record m.now { spots = v };
+          told = ap (λ (z : Spots). record m.now { spots = z }) (sym same) ∙ ap (world_after p n l) told ∙ ap (λ (z : Spots). record w { spots = z }) (after_append p n d.labels l w.spots);
+          allowed = record {
+            solo = obey_append SoloRule p q n d.labels l w m.allowed.solo may.solo;
+            holders = obey_append HoldersRule p q n d.labels l w m.allowed.holders may.holders;
+            life = obey_append LifeRule p q n d.labels l w m.allowed.life may.life;
+            replies = obey_append RepliesRule p q n d.labels l w m.allowed.replies may.replies;
+            grants = obey_append GrantsRule p q n d.labels l w m.allowed.grants may.grants;
+          };
+          sends = sent ∙ ap (λ z. d.sends ++ causes p n l z) spots ∙ ap (λ xs. xs ++ causes p n l (after_labels p n d.labels w.spots)) m.sends ∙ sym (causes_append p n d.labels l w.spots);
+          prints = shown ∙ ap (λ z. d.prints ++ shown_by l z) spots ∙ ap (λ xs. xs ++ shown_by l (after_labels p n d.labels w.spots)) m.prints ∙ sym (shown_append p n d.labels l w.spots);
+          here = here;
+          there = there;
+          links = links;
+          agrees = agrees;
+          aside = aside_append p n w.spots (net.nodes n) d.node now d.labels l hand more m.aside (subst (λ z. Beside p n z l d.labels d.node now hand more) spots aside);
         };
-        sends = sent ∙ ap (λ xs. xs ++ causes p n l (spots_at d)) m.sends ∙ sym (causes_append p n d.labels l w);
-        prints = shown ∙ ap (λ xs. xs ++ shown_by l (spots_at d)) m.prints ∙ sym (shown_append p n d.labels l w);
-        here = subst (λ x. Here n x now more) e here;
-        there = λ k o. subst (λ x. Here k x (net.nodes k) []) e (there k o);
-        links = λ i j. subst (λ (x : Spots). LinkStands i j (under n M sends i j) x.threads) e (links i j);
-        agrees = subst (λ x. Agrees p x) e agrees;
       }
-
-  -- what the label has made of its thread
-  pub spot_then : (d : Doing) (l : Label) (v : Spots) (t : Tid) → after_label p n l (spots_at d) ≡ v → (after_labels p n (d.labels ++ l ∷ []) w).threads t ≡ v.threads t
-  spot_then d l v t same = ap (λ (x : Spots). x.threads t) (sym (after_append p n d.labels l w) ∙ same)

@@ -26,16 +26,21 @@ use Rattle.run_trace.specs.Program.{Program, nodes_of}
 use Rattle.run_trace.specs.Guests.{Solo, Thread}
 use Rattle.run_trace.specs.Calls.{call_of, refusal}
 use Rattle.run_trace.specs.Local.{Local, fresh}
-use Rattle.run_trace.specs.Cluster.{Net, fresh_net, first_of, rest_of, left_after}
+use Rattle.run_trace.specs.Cluster.{Net, fresh_net}
 use Rattle.run_trace.specs.Trace.{IsRun, net_after_trace}
 use Rattle.run_trace.specs.Holding.{IsOn}
 use Rattle.run_trace.specs.Spots.{Stage, Asks, Life, On, Moving, Spot, Spots, update, creator_served, joiner_served, heard_at, judged_life, told_stage, gave_life, shown_life, ran_stage, stage_of_call, asked_stage, passed_stage, end_in, at_first, after_label, after_labels}
-use Rattle.run_trace.specs.Rules.{LifeRule, ObeyEach, Obey, quantum_in, spots_of}
-use Rattle.run_trace.specs.Stands.{Stands, Word, Travels, Line, Line_shown, Joins, Reply as Reply_word, Ended_word}
+use Rattle.run_trace.specs.World.{World, world_after}
+use Rattle.trace_laws.specs.Obeys.{Obey, world_at, ObeyEach}
+use Rattle.run_trace.specs.Rules.{Occasion, saying, LifeRule, spots_of}
+use Rattle.run_trace.specs.Obeying.{occasion}
+use Rattle.run_trace.specs.Items.{Subject, Thread as Thread_of}
+use Rattle.run_trace.specs.Stands.{Stands, word_subject, word_of, Word, Travels, Line, Line_shown, Joins, Reply as Reply_word, Ended_word}
 use Rattle.trace_laws.proofs.Parts.{Tells}
 use Rattle.trace_laws.proofs.Simulate.{event_below, first_tells}
 use Rattle.trace_laws.proofs.Wholes.{Whole, run_whole, starts}
 use Rattle.trace_laws.proofs.Stillness.{is_there}
+use Rattle.run_trace.specs.Links.{first_of, rest_of, left_after}
 
 -- ## A join names a thread of the cluster, and a thread moves to a node of it
 
@@ -106,24 +111,24 @@ joiner_asks : (p : Program) (t : Tid) (end : End) (o : Option (Tid × ℕ)) (w :
 joiner_asks p t end None w h = h
 joiner_asks p t end (Some by) w h = asks_with p w by.0 _ h (first_node p)
 
-label_asks : (p : Program) (q n : ℕ) (l : Label) (w : Spots) → LifeRule p q n l w → AllAsk p w.threads → AllAsk p (after_label p n l w).threads
-label_asks p q n (Born t why entry a0 a1 sp slot) w ok h = asks_with p (creator_served n t why w.threads) t _ (creator_asks p n t why w.threads h) (first_node p)
-label_asks p q n (Ran t vp count stop) w ok h = asks_with p w.threads t _ h (subst (λ k. k < nodes_of p) (sym (ran_asks n stop _)) (first_node p))
-label_asks p q n (Asked t call args bytes) w ok h = asks_with p w.threads t _ h (call_asks p n t (w.threads t).guest.solo)
-label_asks p q n (Heard t) w ok h = asks_on p w.threads t _ h (heard_asks w.births (w.threads t).life)
-label_asks p q n (Judged t reply extra) w ok h = asks_on p w.threads t _ h (judged_asks (w.threads t).life)
-label_asks p q n (Told t) w ok h = asks_with p w.threads t _ h (subst (λ k. k < nodes_of p) (sym (told_asks n (w.threads t).life)) (first_node p))
-label_asks p q n (Took t first count) w ok h = asks_with p w.threads t _ h (h t)
-label_asks p q n (Gave t slots) w ok h = asks_on p w.threads t _ h (gave_asks (w.threads t).life)
-label_asks p q n (Ended t end) w ok h = asks_with p w.threads t _ h (first_node p)
+label_asks : (p : Program) (q : Occasion) (n : ℕ) (l : Label) (w : World) → LifeRule p q n l w → AllAsk p w.spots.threads → AllAsk p (after_label p n l w.spots).threads
+label_asks p q n (Born t why entry a0 a1 sp slot) w ok h = asks_with p (creator_served n t why w.spots.threads) t _ (creator_asks p n t why w.spots.threads h) (first_node p)
+label_asks p q n (Ran t vp count stop) w ok h = asks_with p w.spots.threads t _ h (subst (λ k. k < nodes_of p) (sym (ran_asks n stop _)) (first_node p))
+label_asks p q n (Asked t call args bytes) w ok h = asks_with p w.spots.threads t _ h (call_asks p n t (w.spots.threads t).guest.solo)
+label_asks p q n (Heard t) w ok h = asks_on p w.spots.threads t _ h (heard_asks w.spots.births (w.spots.threads t).life)
+label_asks p q n (Judged t reply extra) w ok h = asks_on p w.spots.threads t _ h (judged_asks (w.spots.threads t).life)
+label_asks p q n (Told t) w ok h = asks_with p w.spots.threads t _ h (subst (λ k. k < nodes_of p) (sym (told_asks n (w.spots.threads t).life)) (first_node p))
+label_asks p q n (Took t first count) w ok h = asks_with p w.spots.threads t _ h (h t)
+label_asks p q n (Gave t slots) w ok h = asks_on p w.spots.threads t _ h (gave_asks (w.spots.threads t).life)
+label_asks p q n (Ended t end) w ok h = asks_with p w.spots.threads t _ h (first_node p)
 label_asks p q n (Known t) w ok h =
-    let end : End = end_in (w.threads t).life in
-    let o : Option (Tid × ℕ) = joiner (slice_get (w.births t.home) t.seq) in
-    asks_with p (joiner_served t end o w.threads) t _ (joiner_asks p t end o w.threads h) (first_node p)
-label_asks p q n (Shown t) w ok h = asks_on p w.threads t _ h (shown_asks (w.threads t).life)
-label_asks p q n (Halted t) w ok h = asks_with p w.threads t _ h (first_node p)
-label_asks p q n (Left t to) w ok h = asks_with p w.threads t _ h ok.1
-label_asks p q n (Came t) w ok h = asks_with p w.threads t _ h (first_node p)
+    let end : End = end_in (w.spots.threads t).life in
+    let o : Option (Tid × ℕ) = joiner (slice_get (w.spots.births t.home) t.seq) in
+    asks_with p (joiner_served t end o w.spots.threads) t _ (joiner_asks p t end o w.spots.threads h) (first_node p)
+label_asks p q n (Shown t) w ok h = asks_on p w.spots.threads t _ h (shown_asks (w.spots.threads t).life)
+label_asks p q n (Halted t) w ok h = asks_with p w.spots.threads t _ h (first_node p)
+label_asks p q n (Left t to) w ok h = asks_with p w.spots.threads t _ h ok.1
+label_asks p q n (Came t) w ok h = asks_with p w.spots.threads t _ h (first_node p)
 label_asks p q n (Decided t count first) w ok h = h
 label_asks p q n (Dropped t count reply) w ok h = h
 label_asks p q n (Lent to slots) w ok h = h
@@ -134,13 +139,13 @@ label_asks p q n (Down bubble list) w ok h = h
 label_asks p q n (Burst bubble list) w ok h = h
 label_asks p q n (Gathered bubble count) w ok h = h
 
-labels_ask : (p : Program) (q n : ℕ) (ls : List Label) (w : Spots) → ObeyEach LifeRule p q n ls w → AllAsk p w.threads → AllAsk p (after_labels p n ls w).threads
+labels_ask : (p : Program) (q : Occasion) (n : ℕ) (ls : List Label) (w : World) → ObeyEach LifeRule p q n ls w → AllAsk p w.spots.threads → AllAsk p (after_labels p n ls w.spots).threads
 labels_ask p q n [] w ok h = h
-labels_ask p q n (l ∷ ls) w ok h = labels_ask p q n ls (after_label p n l w) ok.1 (label_asks p q n l w ok.0 h)
+labels_ask p q n (l ∷ ls) w ok h = labels_ask p (saying l q) n ls (world_after p n l w) ok.1 (label_asks p q n l w ok.0 h)
 
-spots_ask : (p : Program) (lines : List Entry) → Obey LifeRule p (at_first p) lines → AllAsk p (spots_of p (at_first p) lines).threads
-spots_ask p [] ok t = first_node p
-spots_ask p (x ∷ xs) ok t = labels_ask p (quantum_in x.act) x.node x.labels (spots_of p (at_first p) xs) ok.1 (spots_ask p xs ok.0) t
+spots_ask : (p : Program) (base : Net) (lines : List Entry) → Obey LifeRule p (at_first p) base lines → AllAsk p (spots_of p (at_first p) lines).threads
+spots_ask p base [] ok t = first_node p
+spots_ask p base (x ∷ xs) ok t = labels_ask p (occasion x (world_at (spots_of p (at_first p) xs) (net_after_trace p base xs))) x.node x.labels (world_at (spots_of p (at_first p) xs) (net_after_trace p base xs)) ok.1 (spots_ask p base xs ok.0) t
 
 -- ## What is no node has no event, and so sends nothing
 
@@ -206,8 +211,11 @@ module _ (p : Program) (w : Spots) (net : Net) (s : Stands p w net) (asks : AllA
       by : (ps : List Packet) → net.links i j ≡ ps → ps ≡ []
       by [] e = refl
       by (x ∷ ps) e =
-          let below : j < nodes_of p = to_node _ i j _ (first_tells p w net s i j x (sym (ap first_of e))) in
+          let below : j < nodes_of p = by_subject (word_subject (word_of j x.body)) refl in
           absurd (omega (arith, below, l))
+        where
+          by_subject : (o : Subject) → word_subject (word_of j x.body) ≡ o → j < nodes_of p
+          by_subject (Thread_of t) name = to_node t i j _ (first_tells p w net s i j x t (sym (ap first_of e)) name)
 
 -- ## The law
 
@@ -221,6 +229,6 @@ run_inside p lines r =
     let w : Spots = spots_of p (at_first p) lines in
     let net : Net = net_after_trace p (fresh_net p) lines in
     let all : Whole p (at_first p) (fresh_net p) lines = run_whole p (at_first p) (fresh_net p) (starts p) lines r in
-    let asks : AllAsk p w.threads = spots_ask p lines all.obeys.life in
+    let asks : AllAsk p w.threads = spots_ask p (fresh_net p) lines all.obeys.life in
     let out : Untouched p net = untouched p lines r in
     record { nodes = out.nodes; links = links_inside p w net all.stands asks out; lives = on_inside p w net all.stands asks out }

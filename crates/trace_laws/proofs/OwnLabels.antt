@@ -14,6 +14,7 @@ use Rattle.marcel_core.specs.declared.birth.Birth.{Birth}
 use Rattle.marcel_core.specs.declared.birth.Verdict.{Verdict}
 use Rattle.marcel_core.specs.declared.birth.Verdict.TheVariants as verdicts
 use Rattle.marcel_core.specs.declared.end.End.{End}
+use Rattle.marcel_core.specs.declared.end.End.TheVariants as end_of
 use Rattle.marcel_core.specs.Homes.{verdict, joiner}
 use Rattle.slot_space.specs.Sets.{run, lowest_run}
 use Rattle.slot_space.specs.Places.{slot_base}
@@ -32,16 +33,17 @@ use Rattle.run_trace.specs.declared.label.Why.TheVariants as why
 use Rattle.run_trace.specs.Names.{is_tid}
 use Rattle.run_trace.specs.Program.{Program, code_of}
 use Rattle.run_trace.specs.Guests.{Solo, Guest, newborn, stack_end, with_zero_slots, without_slots, takes_slots, gives_slots, told, heap_of}
-use Rattle.run_trace.specs.Machine.{place_code}
-use Rattle.run_trace.specs.Calls.{call_of, refusal}
+use Rattle.run_trace.specs.Calls.{place_code, call_of, refusal}
 use Rattle.run_trace.specs.Console.{asked_bytes}
 use Rattle.run_trace.specs.Same.{Start, Stretch, Lived, lived_then, written_then}
-use Rattle.run_trace.specs.Alone.{subject, is_subject}
-use Rattle.run_trace.specs.Rules.{IsBorn, MayHear, MayJudge, MayTell, MayTake, MayGive, MayLeave, MayCome, MayShow, MayKnow, JoinerAwaits, IsReply, SoloRule, LifeRule, RepliesRule}
+use Rattle.run_trace.specs.Items.{subject}
+use Rattle.run_trace.specs.Alone.{is_about}
+use Rattle.run_trace.specs.World.{World}
+use Rattle.run_trace.specs.Rules.{IsBorn, MayHear, MayJudge, MayTell, MayTake, MayGive, MayLeave, MayCome, MayShow, MayKnow, JoinerAwaits, IsReply, SoloRule, LifeRule, RepliesRule, Occasion, quantum_in}
 use Rattle.run_trace.specs.Spots.{Stage, Ready, Running, Due, Served, Told_next, Told_then, Departs, Ends, Leaves, Halts, Stays, Shows, Showing, Shown_there, Asks, Awaits, Answers, Answered, Life, Unborn, On, Moving, Noting, Gone, Response, Spot, Spots, creator_served, priority_by, joiner_served, born_spot, ran_spot, ran_stage, stepped, passed_stage, asked_stage, stage_of_call, heard_life, heard_at, judged_life, judged_guest, told_stage, gave_life, shown_life, end_in, second_of, after_label}
 use Rattle.trace_laws.proofs.Tids.{is-true}
 use Rattle.trace_laws.proofs.Heaps.{gave_all}
-use Rattle.trace_laws.proofs.OwnLives.{began, with_slots, free_of, is_address, allotted, given_to, goes_on, ran_on, answered_with, solo_after, printed_by, printed_at, named_line, lines_after, EachCalls}
+use Rattle.trace_laws.proofs.OwnLives.{exit_value, ends_as, end_at, began, with_slots, free_of, is_address, allotted, given_to, goes_on, ran_on, answered_with, solo_after, printed_by, printed_at, named_line, lines_after, EachCalls}
 
 -- ## Steps
 
@@ -166,6 +168,13 @@ pub record IsAnswered (image : List ℕ) (v : Response) (a : Lived) (x : Solo) (
   pub at : Calling image a x
   pub lines_are : lines ≡ lines_before image a
 
+-- it has come to its end
+pub record IsEnding (image : List ℕ) (end : End) (a : Lived) (lines : List (List ℕ)) : Type 0 where
+  pub was : Solo
+  pub reached : Comes image a was
+  pub how : end ≡ end_at image was
+  pub lines_are : lines ≡ lines_before image a
+
 abbrev pub StageTale : List ℕ → Stage → Solo → Response → List (List ℕ) → Lived → Type 0
 StageTale image Ready x v lines a = IsReady image a x lines
 StageTale image Running x v lines a = IsWaiting image a x lines
@@ -174,8 +183,8 @@ StageTale image (Served c) x v lines a = IsServed image c a x lines
 StageTale image Told_next x v lines a = IsJudged image v a x lines
 StageTale image (Told_then to) x v lines a = IsJudged image v a x lines
 StageTale image (Departs to) x v lines a = IsReady image a x lines
-StageTale image (Ends end) x v lines a = lines ≡ lines_before image a
-StageTale image (Leaves end) x v lines a = lines ≡ lines_before image a
+StageTale image (Ends end) x v lines a = IsEnding image end a lines
+StageTale image (Leaves end) x v lines a = IsEnding image end a lines
 StageTale image Halts x v lines a = IsWaiting image a x lines
 StageTale image Stays x v lines a = IsWaiting image a x lines
 StageTale image (Shows bytes) x v lines a = IsPrinting image bytes a x × (lines ≡ lines_before image a)
@@ -190,8 +199,8 @@ abbrev pub LifeTale : List ℕ → Life → Solo → Response → List (List ℕ
 LifeTale image Unborn x v lines a = (lines ≡ []) × (a.stretches ≡ [])
 LifeTale image (On n stage) x v lines a = StageTale image stage x v lines a
 LifeTale image (Moving from to) x v lines a = IsReady image a x lines
-LifeTale image (Noting n end) x v lines a = lines ≡ lines_before image a
-LifeTale image (Gone end) x v lines a = lines ≡ lines_before image a
+LifeTale image (Noting n end) x v lines a = IsEnding image end a lines
+LifeTale image (Gone end) x v lines a = IsEnding image end a lines
 
 pub record Tale (image : List ℕ) (s : Spot) (lines : List (List ℕ)) (a : Lived) : Type 0 where
   pub calls : EachCalls image a.start a.stretches
@@ -245,7 +254,7 @@ own_ran p n count quantum stop s lines a e steps reason k = record { calls = k.c
     by : (stop : Stop) → StopsBy (code_of p) next quantum count stop → StageTale (code_of p) (ran_stage stop next) (record x { state = next }) s.verdict lines (record a { since = a.since + count })
     by stops.Quantum h = record { reached = far; empty = was.empty; lines_are = was.lines_are }
     by stops.Call h = record { at = record { reached = far; call = h.1 }; empty = was.empty; lines_are = was.lines_are }
-    by (stops.Fault kind) h = was.lines_are
+    by (stops.Fault kind) h = record { was = record x { state = next }; reached = far; how = sym (ap (λ o. ends_as o next) h.1); lines_are = was.lines_are }
 
 -- a refused call gives nothing and writes nothing
 refused_same : (p : Program) (t : Tid) (x : Solo) (c : Call) (reply : Reply) → refusal p t x c ≡ Some reply → given_to c [] (reply_code reply) x ≡ x
@@ -271,7 +280,12 @@ own_asked p n t s lines a e k = record { calls = k.calls; life = by (refusal p t
     serves c f midst = record { was = x; at = was.at; is = sym f; midst = midst; lines_are = was.lines_are }
 
     passed : (c : Call) → call_of x.state ≡ c → StageTale (code_of p) (passed_stage p n t x c) x s.verdict lines a
-    passed (Exit value) f = was.lines_are
+    passed (Exit value) f = record {
+      was = x;
+      reached = was.at.reached;
+      how = sym (ap (λ o. ends_as o x.state) was.at.call ∙ ap (λ c. end_of.Exit (exit_value c)) f);
+      lines_are = was.lines_are;
+    }
     passed Name f = due Name _ f refl refl
     passed Node f = due Node _ f refl refl
     passed Nodes f = due Nodes _ f refl refl
@@ -540,40 +554,40 @@ module _ (p : Program) (t : Tid) where
   joined_by u end (Some by) w lines a h k = beside w.threads by.0 _ lines a (λ z. record { calls = z.calls; life = subst (λ life. LifeTale (code_of p) life (w.threads by.0).guest.solo (w.threads by.0).verdict lines a) h z.life }) k
 
   -- each label keeps it
-  pub label_tale : (q n : ℕ) (l : Label) (w : Spots) (lines : List (List ℕ)) (a : Lived) → SoloRule p q n l w → LifeRule p q n l w → RepliesRule p q n l w
-      → Told_of (w.threads t) lines a
-      → Told_of ((after_label p n l w).threads t) (written_then t l w lines) (cond (is_subject t (subject l)) (lived_then l a) a)
-  label_tale q n (Born u why entry a0 a1 sp slot) w lines a solo life replies k =
-      elim (is_tid u t) as (λ v. is_tid u t ≡ v → Told_of (cond v (born_spot n entry a0 a1 sp slot (priority_by w.threads why)) (creator_served n u why w.threads t)) lines (cond v (lived_then (Born u why entry a0 a1 sp slot) a) a)) [
-        | true ↦ λ e. own_born (code_of p) n entry a0 a1 sp slot (priority_by w.threads why) (w.threads t) lines a (subst (λ z. (w.threads z).life ≡ Unborn) (is-true u t e) life.0) solo.1 solo.2 k
-        | false ↦ λ e. creator n u why entry a0 w lines a solo.0 k
+  pub label_tale : (on : Occasion) (n : ℕ) (l : Label) (w : World) (lines : List (List ℕ)) (a : Lived) → SoloRule p on n l w → LifeRule p on n l w → RepliesRule p on n l w
+      → Told_of (w.spots.threads t) lines a
+      → Told_of ((after_label p n l w.spots).threads t) (written_then t l w.spots lines) (cond (is_about t (subject l)) (lived_then l a) a)
+  label_tale on n (Born u why entry a0 a1 sp slot) w lines a solo life replies k =
+      elim (is_tid u t) as (λ v. is_tid u t ≡ v → Told_of (cond v (born_spot n entry a0 a1 sp slot (priority_by w.spots.threads why)) (creator_served n u why w.spots.threads t)) lines (cond v (lived_then (Born u why entry a0 a1 sp slot) a) a)) [
+        | true ↦ λ e. own_born (code_of p) n entry a0 a1 sp slot (priority_by w.spots.threads why) (w.spots.threads t) lines a (subst (λ z. (w.spots.threads z).life ≡ Unborn) (is-true u t e) life.0) solo.1 solo.2 k
+        | false ↦ λ e. creator n u why entry a0 w.spots lines a solo.0 k
       ] refl
-  label_tale q n (Ran u vp count stop) w lines a solo life replies k = quietly w.threads u _ lines a _ (λ z. own_ran p n count q stop (w.threads u) lines a life solo.0 solo.1 z) k
-  label_tale q n (Asked u call args bytes) w lines a solo life replies k = quietly w.threads u _ lines a a (λ z. own_asked p n u (w.threads u) lines a life z) k
-  label_tale q n (Heard u) w lines a solo life replies k =
-      quietly w.threads u _ lines a a (λ z. with_life (code_of p) (w.threads u) _ lines lines a z (λ y. own_heard (code_of p) n w.births (w.threads u).life _ _ lines a life y)) k
-  label_tale q n (Judged u reply extra) w lines a solo life replies k =
-      quietly w.threads u _ lines a _ (λ z. record { calls = z.calls; life = own_judged (code_of p) n (w.threads u).life (w.threads u).guest (w.threads u).verdict lines a reply extra life replies z.life }) k
-  label_tale q n (Told u) w lines a solo life replies k = quietly w.threads u _ lines a _ (λ z. own_told (code_of p) n (w.threads u) lines a life z) k
-  label_tale q n (Took u first count) w lines a solo life replies k =
-      quietly w.threads u _ lines a _ (λ z. record { calls = z.calls; life = own_took (code_of p) n first count (w.threads u).life (w.threads u).guest (w.threads u).verdict lines a life z.life }) k
-  label_tale q n (Gave u slots) w lines a solo life replies k =
-      quietly w.threads u _ lines a a (λ z. record { calls = z.calls; life = own_gave (code_of p) n slots (w.threads u).life (w.threads u).guest (w.threads u).verdict lines a life z.life }) k
-  label_tale q n (Ended u end) w lines a solo life replies k =
-      quietly w.threads u _ lines a a (λ z. with_life (code_of p) (w.threads u) _ lines lines a z (λ y. subst (λ h. LifeTale (code_of p) h (w.threads u).guest.solo (w.threads u).verdict lines a) life y)) k
-  label_tale q n (Known u) w lines a solo life replies k =
-      let end : End = end_in (w.threads u).life in
-      let o : Option (Tid × ℕ) = joiner (slice_get (w.births u.home) u.seq) in
-      elim (is_tid u t) as (λ v. is_tid u t ≡ v → Told_of (cond v (record (w.threads u) { life = Gone end }) (joiner_served u end o w.threads t)) lines (cond v a a)) [
-        | true ↦ λ e. with_life (code_of p) (w.threads u) (Gone end) lines lines a (subst (λ z. Told_of (w.threads z) lines a) (sym (is-true u t e)) k) (λ y. own_known (code_of p) (w.threads u).life _ _ lines a life.0 y)
-        | false ↦ λ e. joined_by u end o w lines a life.2 k
+  label_tale on n (Ran u vp count stop) w lines a solo life replies k = quietly w.spots.threads u _ lines a _ (λ z. own_ran p n count (quantum_in on.act) stop (w.spots.threads u) lines a life solo.0 solo.1 z) k
+  label_tale on n (Asked u call args bytes) w lines a solo life replies k = quietly w.spots.threads u _ lines a a (λ z. own_asked p n u (w.spots.threads u) lines a life z) k
+  label_tale on n (Heard u) w lines a solo life replies k =
+      quietly w.spots.threads u _ lines a a (λ z. with_life (code_of p) (w.spots.threads u) _ lines lines a z (λ y. own_heard (code_of p) n w.spots.births (w.spots.threads u).life _ _ lines a life y)) k
+  label_tale on n (Judged u reply extra) w lines a solo life replies k =
+      quietly w.spots.threads u _ lines a _ (λ z. record { calls = z.calls; life = own_judged (code_of p) n (w.spots.threads u).life (w.spots.threads u).guest (w.spots.threads u).verdict lines a reply extra life replies z.life }) k
+  label_tale on n (Told u) w lines a solo life replies k = quietly w.spots.threads u _ lines a _ (λ z. own_told (code_of p) n (w.spots.threads u) lines a life z) k
+  label_tale on n (Took u first count) w lines a solo life replies k =
+      quietly w.spots.threads u _ lines a _ (λ z. record { calls = z.calls; life = own_took (code_of p) n first count (w.spots.threads u).life (w.spots.threads u).guest (w.spots.threads u).verdict lines a life z.life }) k
+  label_tale on n (Gave u slots) w lines a solo life replies k =
+      quietly w.spots.threads u _ lines a a (λ z. record { calls = z.calls; life = own_gave (code_of p) n slots (w.spots.threads u).life (w.spots.threads u).guest (w.spots.threads u).verdict lines a life z.life }) k
+  label_tale on n (Ended u end) w lines a solo life replies k =
+      quietly w.spots.threads u _ lines a a (λ z. with_life (code_of p) (w.spots.threads u) _ lines lines a z (λ y. subst (λ h. LifeTale (code_of p) h (w.spots.threads u).guest.solo (w.spots.threads u).verdict lines a) life y)) k
+  label_tale on n (Known u) w lines a solo life replies k =
+      let end : End = end_in (w.spots.threads u).life in
+      let o : Option (Tid × ℕ) = joiner (slice_get (w.spots.births u.home) u.seq) in
+      elim (is_tid u t) as (λ v. is_tid u t ≡ v → Told_of (cond v (record (w.spots.threads u) { life = Gone end }) (joiner_served u end o w.spots.threads t)) lines (cond v a a)) [
+        | true ↦ λ e. with_life (code_of p) (w.spots.threads u) (Gone end) lines lines a (subst (λ z. Told_of (w.spots.threads z) lines a) (sym (is-true u t e)) k) (λ y. own_known (code_of p) (w.spots.threads u).life _ _ lines a life.0 y)
+        | false ↦ λ e. joined_by u end o w.spots lines a life.2 k
       ] refl
-  label_tale q n (Shown u) w lines a solo life replies k =
-      mine w.threads u _ lines _ a a (λ z. with_life (code_of p) (w.threads u) _ lines _ a z (λ y. own_shown (code_of p) n (w.threads u).life _ _ lines a life y)) k
-  label_tale q n (Halted u) w lines a solo life replies k =
-      quietly w.threads u _ lines a a (λ z. with_life (code_of p) (w.threads u) _ lines lines a z (λ y. subst (λ h. LifeTale (code_of p) h (w.threads u).guest.solo (w.threads u).verdict lines a) life y)) k
-  label_tale q n (Left u to) w lines a solo life replies k =
-      quietly w.threads u _ lines a a (λ z. with_life (code_of p) (w.threads u) _ lines lines a z (λ y. own_left (code_of p) n to (w.threads u).life _ _ lines a life.0 y)) k
-  label_tale q n (Came u) w lines a solo life replies k =
-      quietly w.threads u _ lines a a (λ z. with_life (code_of p) (w.threads u) _ lines lines a z (λ y. own_came (code_of p) n (w.threads u).life _ _ lines a life y)) k
-  label_tale q n l w lines a solo life replies k = absurd life
+  label_tale on n (Shown u) w lines a solo life replies k =
+      mine w.spots.threads u _ lines _ a a (λ z. with_life (code_of p) (w.spots.threads u) _ lines _ a z (λ y. own_shown (code_of p) n (w.spots.threads u).life _ _ lines a life y)) k
+  label_tale on n (Halted u) w lines a solo life replies k =
+      quietly w.spots.threads u _ lines a a (λ z. with_life (code_of p) (w.spots.threads u) _ lines lines a z (λ y. subst (λ h. LifeTale (code_of p) h (w.spots.threads u).guest.solo (w.spots.threads u).verdict lines a) life y)) k
+  label_tale on n (Left u to) w lines a solo life replies k =
+      quietly w.spots.threads u _ lines a a (λ z. with_life (code_of p) (w.spots.threads u) _ lines lines a z (λ y. own_left (code_of p) n to (w.spots.threads u).life _ _ lines a life.0 y)) k
+  label_tale on n (Came u) w lines a solo life replies k =
+      quietly w.spots.threads u _ lines a a (λ z. with_life (code_of p) (w.spots.threads u) _ lines lines a z (λ y. own_came (code_of p) n (w.spots.threads u).life _ _ lines a life y)) k
+  label_tale on n l w lines a solo life replies k = absurd life

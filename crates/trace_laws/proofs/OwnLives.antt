@@ -3,14 +3,16 @@
 use Rattle.std.proofs.Common.{◌≡◌, ℕ, suc, ◌+◌, List, [], ◌∷◌, ◌++◌, Some, Bool, true, false, refl, sym, ap, ◌∙◌, subst, arith, map}
 use Rattle.std.specs.Prelude.{nat_lt, ◌==◌, if◌then◌else◌, ⊤}
 use Rattle.rv_step.specs.Access.{bytes_from}
-use Rattle.rv_step.specs.Step.{State, Call as ecall, step_of}
+use Rattle.rv_step.specs.Step.{State, Outcome, Call as ecall, Fault, step_of}
 use Rattle.rv_step.specs.Run.{after}
 use Rattle.rv_step.specs.Birth.{told as hart_told}
 use Rattle.rv_step.specs.declared.hart.Stop.TheVariants as stops
 use Rattle.slot_space.specs.Places.{slot_base}
 use Rattle.iso_blocks.specs.Heap.{rounded, with_block, without, emptied}
 use Rattle.run_trace.specs.declared.call.Call.{Call}
-use Rattle.run_trace.specs.declared.call.Call.TheVariants.{Isomalloc, Isofree, Print}
+use Rattle.run_trace.specs.declared.call.Call.TheVariants.{Exit, Isomalloc, Isofree, Print}
+use Rattle.marcel_core.specs.declared.end.End.{End}
+use Rattle.marcel_core.specs.declared.end.End.TheVariants as end_of
 use Rattle.run_trace.specs.declared.label.Extra.{Extra}
 use Rattle.run_trace.specs.Calls.{call_of}
 use Rattle.run_trace.specs.Guests.{Solo, Run, newborn, stack_end, run_of, with_zero_slots, without_slots, heap_of}
@@ -78,6 +80,20 @@ printed_at image code x = printed_by image (call_of x.state) code x.state
 abbrev pub lines_after : List ℕ → Start → List Stretch → List (List ℕ)
 lines_after image s [] = []
 lines_after image s (x ∷ before) = lines_after image s before ++ printed_at image x.gift.code (ran_on image x.instructions (solo_after image s before))
+
+-- ## How it ends
+
+abbrev pub exit_value : Call → ℕ
+exit_value (Exit value) = value
+exit_value _ = 0
+
+-- by a fault, or by the exit that it has come to
+abbrev pub ends_as : Outcome → State → End
+ends_as (Fault kind) s = end_of.Fault kind s.pc
+ends_as _ s = end_of.Exit (exit_value (call_of s))
+
+abbrev pub end_at : List ℕ → Solo → End
+end_at image x = ends_as (step_of image x.state) x.state
 
 -- ## Each stretch ends at a call, so the gifts tell its length
 

@@ -1,6 +1,6 @@
 -- What the lists tell of a life, and where a life doesn't show.
-use Rattle.std.proofs.Common.{◌≡◌, ℕ, List, [], ◌∷◌, ◌++◌, Option, Some, None, Bool, true, false, eqb, cond, refl, sym, ap, ◌∙◌, subst, map, inl, inr}
-use Rattle.std.specs.Prelude.{◌&&◌, is_some}
+use Rattle.std.proofs.Common.{arith, ◌≡◌, ℕ, List, [], ◌∷◌, ◌++◌, Option, Some, None, Bool, true, false, eqb, cond, refl, sym, ap, ◌∙◌, subst, map, inl, inr}
+use Rattle.std.specs.Prelude.{is_some}
 use Rattle.std.proofs.lemmas.Bool.{eq-eqb, eqb-true}
 use Rattle.std.proofs.lemmas.List.{map-append}
 use Rattle.slot_space.specs.declared.names.Tid.{Tid}
@@ -9,33 +9,21 @@ use Rattle.run_trace.specs.Names.{is_tid}
 use Rattle.run_trace.specs.Guests.{Guest, packed}
 use Rattle.run_trace.specs.Places.{Places, arrived, without_row, is_listed, IsIn}
 use Rattle.run_trace.specs.Keyed.{AreApart, item_of}
-use Rattle.run_trace.specs.Spots.{Stage, Ready, Running, Due, Served, Told_next, Told_then, Departs, Ends, Leaves, Halts, Stays, Shows, Showing, Shown_there, Asks, Awaits, Answers, Answered, Life, Unborn, On, Moving, Noting, Gone, Response, Spot}
-use Rattle.run_trace.specs.Stands.{Listed, listed, listed_name, Busy, busy, is_busy, busy_part, thread_part, thread_in_life, row_part, row_in_life, row_in_stage, Word, Travels, Line, Line_shown, Joins, Reply, Ended_word, Way, way, way_of, on_link}
+use Rattle.run_trace.specs.Spots.{Stage, Ready, Running, Due, Served, Told_next, Told_then, Departs, Ends, Leaves, Halts, Stays, Shows, Shown_there, Asks, Awaits, Answered, Life, Unborn, On, Moving, Noting, Gone, Response, Spot}
+use Rattle.run_trace.specs.Stands.{listed, listed_name, Busy, busy, busy_part, thread_part, thread_in_life, row_part, row_in_life, row_in_stage, Word, Travels, Line, Line_shown, Joins, Reply, Ended_word, Way, ways_of}
 use Rattle.trace_laws.proofs.Tids.{is-true, is-refl}
 use Rattle.trace_laws.proofs.KeyedLemmas.{without}
+use Rattle.trace_laws.proofs.Subjects.{IsOneOf}
 use Rattle.trace_laws.proofs.Midst.{Frame, Plain}
+use Rattle.run_trace.specs.World.{Listed}
+use Rattle.run_trace.specs.Items.{is_busy}
 
 -- ## Rows
 
 row_ready : (n : ℕ) (t : Tid) (stage : Stage) (priority : ℕ) (y : Listed) → is_busy n (On n stage) ≡ false → row_in_stage t stage priority ≡ Some y → (stage ≡ Ready) × (priority ≡ y.priority)
 row_ready n t Ready priority y i h = let e : record { tid = t; priority = priority } ≡ y = cc h in (refl, ap (λ (x : Listed). x.priority) e)
-row_ready n t Running priority y i h = absurd (cc h)
-row_ready n t (Due code) priority y i h = absurd (cc h)
-row_ready n t (Served c) priority y i h = absurd (cc h)
-row_ready n t Told_next priority y i h = absurd (cc h)
-row_ready n t (Told_then to) priority y i h = absurd (cc h)
 row_ready n t (Departs to) priority y i h = absurd (cc (i, eq-eqb n n refl))
-row_ready n t (Ends end) priority y i h = absurd (cc h)
-row_ready n t (Leaves end) priority y i h = absurd (cc h)
-row_ready n t Halts priority y i h = absurd (cc h)
-row_ready n t Stays priority y i h = absurd (cc h)
-row_ready n t (Shows bytes) priority y i h = absurd (cc h)
-row_ready n t Showing priority y i h = absurd (cc h)
-row_ready n t Shown_there priority y i h = absurd (cc h)
-row_ready n t (Asks u) priority y i h = absurd (cc h)
-row_ready n t (Awaits u) priority y i h = absurd (cc h)
-row_ready n t (Answers h reply second) priority y i e = absurd (cc e)
-row_ready n t (Answered h) priority y i e = absurd (cc e)
+row_ready n t stage priority y i h = grind (arith, h)
 
 -- a thread on the run list is ready, but for one that leaves in this event
 pub at_row : (n : ℕ) (t : Tid) (life : Life) (priority : ℕ) (y : Listed) → is_busy n life ≡ false → row_in_life n t life priority ≡ Some y → (life ≡ On n Ready) × (priority ≡ y.priority)
@@ -95,17 +83,6 @@ at_hand t false life old h = absurd (cc h)
 
 -- ## Links
 
-pub on_way : (i j : ℕ) (o : Option Way) (y : Word) → on_link i j o ≡ Some y → o ≡ way i j y
-on_way i j None y h = absurd (cc h)
-on_way i j (Some x) y h = by (eqb x.from i) (eqb x.to j) refl refl h
-  where
-    by : (u v : Bool) → eqb x.from i ≡ u → eqb x.to j ≡ v → cond (u && v) (Some x.word) None ≡ Some y → Some x ≡ way i j y
-    by true true e f g =
-        let a : x.from ≡ i = eqb-true x.from i e in let b : x.to ≡ j = eqb-true x.to j f in let c : x.word ≡ y = cc g in
-        ap (λ (k : ℕ). Some (record { from = k; to = x.to; word = x.word })) a ∙ ap (λ (k : ℕ). Some (record { from = i; to = k; word = x.word })) b ∙ ap (λ (k : Word). Some (record { from = i; to = j; word = k })) c
-    by true false e f g = absurd (cc g)
-    by false v e f g = absurd (cc g)
-
 -- what a word on the link from i to j tells of its thread
 abbrev pub Tells : Tid → ℕ → ℕ → Word → Life → Response → Guest → Type 0
 Tells t i j (Travels x) life v g = (life ≡ Moving i j) × (x ≡ packed t g)
@@ -115,29 +92,20 @@ Tells t i j (Joins u target) life v g = (u ≡ t) × (life ≡ On i (Asks target
 Tells t i j (Reply u code second) life v g = (u ≡ t) × (life ≡ On j (Answered i)) × (v.code ≡ code) × (v.second ≡ second)
 Tells t i j (Ended_word u end) life v g = (u ≡ t) × (life ≡ Noting i end) × (j ≡ t.home)
 
-pub at_way : (t : Tid) (life : Life) (v : Response) (g : Guest) (x : Way) → way_of t life v g ≡ Some x → Tells t x.from x.to x.word life v g
-at_way t Unborn v g x h = absurd (cc h)
-at_way t (Moving m to) v g x h = let e : record { from = m; to = to; word = Travels (packed t g) } ≡ x = cc h in subst (λ (y : Way). Tells t y.from y.to y.word (Moving m to) v g) e (refl, refl)
-at_way t (Noting m end) v g x h = let e : record { from = m; to = t.home; word = Ended_word t end } ≡ x = cc h in subst (λ (y : Way). Tells t y.from y.to y.word (Noting m end) v g) e (refl, refl, refl)
-at_way t (Gone end) v g x h = absurd (cc h)
-at_way t (On m (Shows bytes)) v g x h = let e : record { from = m; to = 0; word = Line t bytes } ≡ x = cc h in subst (λ (y : Way). Tells t y.from y.to y.word (On m (Shows bytes)) v g) e (refl, refl, refl)
-at_way t (On m Shown_there) v g x h = let e : record { from = 0; to = m; word = Line_shown t v.code v.second } ≡ x = cc h in subst (λ (y : Way). Tells t y.from y.to y.word (On m Shown_there) v g) e (refl, refl, refl, refl, refl)
-at_way t (On m (Asks u)) v g x h = let e : record { from = m; to = u.home; word = Joins t u } ≡ x = cc h in subst (λ (y : Way). Tells t y.from y.to y.word (On m (Asks u)) v g) e (refl, refl, refl)
-at_way t (On m (Answered k)) v g x h = let e : record { from = k; to = m; word = Reply t v.code v.second } ≡ x = cc h in subst (λ (y : Way). Tells t y.from y.to y.word (On m (Answered k)) v g) e (refl, refl, refl, refl)
-at_way t (On m Ready) v g x h = absurd (cc h)
-at_way t (On m Running) v g x h = absurd (cc h)
-at_way t (On m (Due code)) v g x h = absurd (cc h)
-at_way t (On m (Served c)) v g x h = absurd (cc h)
-at_way t (On m Told_next) v g x h = absurd (cc h)
-at_way t (On m (Told_then to)) v g x h = absurd (cc h)
-at_way t (On m (Departs to)) v g x h = absurd (cc h)
-at_way t (On m (Ends end)) v g x h = absurd (cc h)
-at_way t (On m (Leaves end)) v g x h = absurd (cc h)
-at_way t (On m Halts) v g x h = absurd (cc h)
-at_way t (On m Stays) v g x h = absurd (cc h)
-at_way t (On m Showing) v g x h = absurd (cc h)
-at_way t (On m (Awaits u)) v g x h = absurd (cc h)
-at_way t (On m (Answers k reply second)) v g x h = absurd (cc h)
+pub at_way : (t : Tid) (life : Life) (v : Response) (g : Guest) (x : Way) → IsOneOf x (ways_of t life v g) → Tells t x.from x.to x.word life v g
+at_way t (Moving m to) v g x (inl e) = subst (λ (y : Way). Tells t y.from y.to y.word (Moving m to) v g) e (refl, refl)
+at_way t (Moving m to) v g x (inr none) = absurd none
+at_way t (Noting m end) v g x (inl e) = subst (λ (y : Way). Tells t y.from y.to y.word (Noting m end) v g) e (refl, refl, refl)
+at_way t (Noting m end) v g x (inr none) = absurd none
+at_way t (On m (Shows bytes)) v g x (inl e) = subst (λ (y : Way). Tells t y.from y.to y.word (On m (Shows bytes)) v g) e (refl, refl, refl)
+at_way t (On m (Shows bytes)) v g x (inr none) = absurd none
+at_way t (On m Shown_there) v g x (inl e) = subst (λ (y : Way). Tells t y.from y.to y.word (On m Shown_there) v g) e (refl, refl, refl, refl, refl)
+at_way t (On m Shown_there) v g x (inr none) = absurd none
+at_way t (On m (Asks u)) v g x (inl e) = subst (λ (y : Way). Tells t y.from y.to y.word (On m (Asks u)) v g) e (refl, refl, refl)
+at_way t (On m (Asks u)) v g x (inr none) = absurd none
+at_way t (On m (Answered k)) v g x (inl e) = subst (λ (y : Way). Tells t y.from y.to y.word (On m (Answered k)) v g) e (refl, refl, refl, refl)
+at_way t (On m (Answered k)) v g x (inr none) = absurd none
+at_way t life v g x h = grind (arith, h)
 
 -- ## Stages that show on the thread's own node alone
 
@@ -154,25 +122,8 @@ is_home (Leaves end) = true
 is_home Halts = true
 is_home _ = false
 
-pub home_way : (t : Tid) (n : ℕ) (stage : Stage) (v : Response) (g : Guest) → is_home stage ≡ true → way_of t (On n stage) v g ≡ None
-home_way t n Ready v g h = refl
-home_way t n Running v g h = refl
-home_way t n (Due code) v g h = refl
-home_way t n (Served c) v g h = refl
-home_way t n Told_next v g h = refl
-home_way t n (Told_then to) v g h = refl
-home_way t n (Departs to) v g h = refl
-home_way t n (Ends end) v g h = refl
-home_way t n (Leaves end) v g h = refl
-home_way t n Halts v g h = refl
-home_way t n Stays v g h = absurd (cc h)
-home_way t n (Shows bytes) v g h = absurd (cc h)
-home_way t n Showing v g h = absurd (cc h)
-home_way t n Shown_there v g h = absurd (cc h)
-home_way t n (Asks u) v g h = absurd (cc h)
-home_way t n (Awaits u) v g h = absurd (cc h)
-home_way t n (Answers k reply second) v g h = absurd (cc h)
-home_way t n (Answered k) v g h = absurd (cc h)
+pub home_way : (t : Tid) (n : ℕ) (stage : Stage) (v : Response) (g : Guest) → is_home stage ≡ true → ways_of t (On n stage) v g ≡ []
+home_way t n stage v g h = grind (arith, h)
 
 pub home_quiet : (n : ℕ) (stage : Stage) → is_home stage ≡ true → (u : Tid) (m : ℕ) → On n stage ≡ On m (Awaits u) → ⊥
 home_quiet n stage h u m e = let same : stage ≡ Awaits u = cc e in absurd (cc (ap is_home same, h))
@@ -184,24 +135,7 @@ home_plain n stage h = record {
 }
 
 pub home_busy : (n k : ℕ) (stage : Stage) → is_home stage ≡ true → eqb n k ≡ false → is_busy k (On n stage) ≡ false
-home_busy n k Ready h e = refl
-home_busy n k Running h e = e
-home_busy n k (Due code) h e = e
-home_busy n k (Served c) h e = e
-home_busy n k Told_next h e = e
-home_busy n k (Told_then to) h e = e
-home_busy n k (Departs to) h e = e
-home_busy n k (Ends end) h e = e
-home_busy n k (Leaves end) h e = e
-home_busy n k Halts h e = e
-home_busy n k Stays h e = absurd (cc h)
-home_busy n k (Shows bytes) h e = absurd (cc h)
-home_busy n k Showing h e = absurd (cc h)
-home_busy n k Shown_there h e = absurd (cc h)
-home_busy n k (Asks u) h e = absurd (cc h)
-home_busy n k (Awaits u) h e = absurd (cc h)
-home_busy n k (Answers j reply second) h e = absurd (cc h)
-home_busy n k (Answered j) h e = absurd (cc h)
+home_busy n k stage h e = grind (arith, h, e)
 
 -- a life on node n shows on no list of threads of another node
 pub away_thread : (n k : ℕ) (t : Tid) (s : Spot) (stage : Stage) → s.life ≡ On n stage → eqb n k ≡ false → thread_part k t s ≡ None

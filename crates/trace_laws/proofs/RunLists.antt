@@ -1,5 +1,5 @@
 -- Who is on a run list: each thread that is on the node and waits for nothing, and no other.
-use Rattle.std.proofs.Common.{◌≡◌, ℕ, Some, true, refl, sym, ap, ◌∙◌, subst}
+use Rattle.std.proofs.Common.{None, ◌≡◌, ℕ, Some, true, refl, sym, ap, ◌∙◌, subst}
 use Rattle.std.specs.Prelude.{is_some}
 use Rattle.std.proofs.lemmas.Bool.{eq-eqb}
 use Rattle.slot_space.specs.declared.names.Tid.{Tid}
@@ -8,13 +8,14 @@ use Rattle.run_trace.specs.Guests.{Guest, Thread, waits, is_unwaiting}
 use Rattle.run_trace.specs.Places.{is_listed}
 use Rattle.run_trace.specs.Cluster.{Net}
 use Rattle.run_trace.specs.Holding.{IsOn}
-use Rattle.run_trace.specs.Rules.{IsSettled}
 use Rattle.run_trace.specs.Spots.{Stage, Ready, Running, Due, Served, Told_next, Told_then, Departs, Ends, Leaves, Halts, Stays, Shows, Showing, Shown_there, Asks, Awaits, Answers, Answered, On, Spots}
 use Rattle.run_trace.specs.Stands.{Stands, row_in_life, row_in_stage, thread_in_life, thread_in_stage, wait_of}
 use Rattle.trace_laws.proofs.Parts.{listed_found}
-use Rattle.trace_laws.proofs.Simulate.{listed_ready}
+use Rattle.run_trace.specs.declared.entry.Act.TheVariants.{Boot}
+use Rattle.trace_laws.proofs.Simulate.{asked_of, listed_ready}
 use Rattle.trace_laws.proofs.Wholes.{settled_at}
 use Rattle.trace_laws.proofs.Consequences.{OnNode, on_node_is}
+use Rattle.trace_laws.specs.Obeys.{IsSettled}
 
 pub listed_is : (p : Program) (w : Spots) (net : Net) → Stands p w net → (n : ℕ) (t : Tid) (x : Thread) → IsOn net n t x → is_listed t (net.nodes n).places.rows ≡ is_unwaiting x
 listed_is p w net s n t x h =
@@ -41,18 +42,18 @@ listed_is p w net s n t x h =
     by (Asks u) k e = same _ e
     by (Awaits u) k e = same _ e
     by (Answered h) k e = same _ e
-    by Running k e = absurd k
-    by (Due code) k e = absurd k
-    by (Served c) k e = absurd k
-    by Told_next k e = absurd k
-    by (Told_then to) k e = absurd k
-    by (Departs to) k e = absurd k
-    by (Ends end) k e = absurd k
-    by (Leaves end) k e = absurd k
-    by Halts k e = absurd k
-    by Showing k e = absurd k
-    by (Answers h reply second) k e = absurd k
+    by Running k e = absurd (cc (k n, eq-eqb n n refl))
+    by (Due code) k e = absurd (cc (k n, eq-eqb n n refl))
+    by (Served c) k e = absurd (cc (k n, eq-eqb n n refl))
+    by Told_next k e = absurd (cc (k n, eq-eqb n n refl))
+    by (Told_then to) k e = absurd (cc (k n, eq-eqb n n refl))
+    by (Departs to) k e = absurd (cc (k n, eq-eqb n n refl))
+    by (Ends end) k e = absurd (cc (k n, eq-eqb n n refl))
+    by (Leaves end) k e = absurd (cc (k n, eq-eqb n n refl))
+    by Halts k e = absurd (cc (k n, eq-eqb n n refl))
+    by Showing k e = absurd (cc (k 0))
+    by (Answers h reply second) k e = absurd (cc (k h, eq-eqb h h refl))
 
 pub listed_there : (p : Program) (w : Spots) (net : Net) → Stands p w net → (n : ℕ) (t : Tid) → is_listed t (net.nodes n).places.rows ≡ true → (x : Thread) × IsOn net n t x
 listed_there p w net s n t h =
-    (waits (wait_of Ready) (w.threads t).guest, (s.nodes n).threads.shows t ∙ ap (λ z. thread_in_life n z (w.threads t).guest) (listed_ready p w net s 0 n t h) ∙ (rw (eq-eqb n n refl) refl))
+    (waits (wait_of Ready) (w.threads t).guest, (s.nodes n).threads.shows t ∙ ap (λ z. thread_in_life n z (w.threads t).guest) (listed_ready p w net s (asked_of Boot None) n t h) ∙ (rw (eq-eqb n n refl) refl))

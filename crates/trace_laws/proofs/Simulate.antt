@@ -1,5 +1,5 @@
 -- An event of the cluster, from its start through its midst to its end.
-use Rattle.std.proofs.Common.{◌≡◌, ℕ, ◌<◌, List, [], ◌∷◌, ◌++◌, Option, Some, None, Bool, true, false, eqb, cond, refl, sym, ap, ◌∙◌, subst}
+use Rattle.std.proofs.Common.{◌≡◌, ℕ, ◌<◌, List, [], ◌∷◌, ◌++◌, Option, Some, None, Bool, true, false, eqb, cond, refl, sym, ap, ◌∙◌, subst, inl}
 use Rattle.std.specs.Prelude.{nat_lt, not, slice_get, map}
 use Rattle.std.specs.Map.{lookup}
 use Rattle.std.proofs.lemmas.Bool.{eq-eqb, eqb-true, ltb-true, and_parts}
@@ -19,19 +19,24 @@ use Rattle.run_trace.specs.declared.node.Wait.TheVariants as wait
 use Rattle.run_trace.specs.Names.{is_tid, tid}
 use Rattle.run_trace.specs.Program.{Program, nodes_of}
 use Rattle.run_trace.specs.Guests.{Guest, Thread, waits}
-use Rattle.run_trace.specs.Places.{best, is_listed}
+use Rattle.run_trace.specs.Places.{best, is_listed, IsRising}
 use Rattle.run_trace.specs.Local.{Local, Doing, nothing, with_booted}
 use Rattle.run_trace.specs.Steps.{tell, leaves, put, say, thread_out, take_off}
 use Rattle.run_trace.specs.Machine.{local_event, acts, is_range, boots, boots_in, free_slot, run_picked, run_found, run_thread, goes, moves_found, takes, accepts, is_stray}
-use Rattle.run_trace.specs.Cluster.{Event, Net, net_after, next_packet, first_of, rest_of, left_after, packets_to, after_or}
+use Rattle.run_trace.specs.Cluster.{Event, Net, net_after, next_packet, after_or}
 use Rattle.run_trace.specs.Keyed.{item_of}
-use Rattle.run_trace.specs.Rules.{quantum_in, all_causes, PicksBest, RunsFirst}
+use Rattle.run_trace.specs.Rules.{Occasion, quantum_in}
 use Rattle.run_trace.specs.Console.{shown_by_all}
 use Rattle.run_trace.specs.Spots.{Ready, Shown_there, Answered, Unborn, On, Noting, Response, Spots, after_labels}
-use Rattle.run_trace.specs.Stands.{Here, Stands, Line_shown, Reply, word_name, word_of, words_of, way, way_of, link_part, Listed, listed, listed_name, phase_of}
+use Rattle.run_trace.specs.Stands.{Here, Stands, Line_shown, Reply, word_subject, word_of, words_of, words_about, way, ways_of, link_part, listed, listed_name, phase_of}
 use Rattle.trace_laws.proofs.Tids.{is-refl}
-use Rattle.trace_laws.proofs.Midst.{Links, Midst, Obeyed, LinkStands, sent_words, at_link, less_word, nothing_sent}
-use Rattle.trace_laws.proofs.Parts.{at_row, not_busy, row_found, listed_found, on_way, at_way, Tells}
+use Rattle.run_trace.specs.declared.label.Label.{Label}
+use Rattle.trace_laws.proofs.Arriving.{places_after_all}
+use Rattle.run_trace.specs.World.{Listed, World}
+use Rattle.trace_laws.proofs.Midst.{AreNext, Links, Midst, Obeyed, LinkStands, sent_words, at_link, nothing_sent, to_do_after_all}
+use Rattle.trace_laws.proofs.Parts.{at_row, not_busy, row_found, listed_found, at_way, Tells}
+use Rattle.trace_laws.proofs.Subjects.{subject-refl, less_word, IsOneOf, on_way}
+use Rattle.run_trace.specs.Items.{Thread as Subject_of}
 use Rattle.trace_laws.proofs.Picking.{best_is}
 use Rattle.trace_laws.proofs.Firsts.{run-first}
 use Rattle.trace_laws.proofs.Steps.{on_node, sent_ok}
@@ -39,6 +44,12 @@ use Rattle.trace_laws.proofs.Lifetimes.{main_born_ok}
 use Rattle.trace_laws.proofs.Takes.{shows_ok, acknowledges_ok, tell_taken_ok, open_birth, may_come_ok, comes_ok}
 use Rattle.trace_laws.proofs.Joins.{hears_ok, knows_ok}
 use Rattle.trace_laws.proofs.Events.{run_ok}
+use Rattle.run_trace.specs.Links.{first_of, rest_of, left_after, packets_to}
+use Rattle.trace_laws.specs.Obeys.{world_at, PicksBest, RunsFirst, all_causes}
+
+-- an act and the packet that it takes, before anything is said
+abbrev pub asked_of : Act → Option Packet → Occasion
+asked_of a o = record { act = a; took = o; said = [] }
 
 abbrev pub under_way : Net → Links
 under_way net i j = words_of j (net.links i j)
@@ -47,8 +58,10 @@ under_way net i j = words_of j (net.links i j)
 abbrev pub left : Net → ℕ → Act → Links
 left net n a i j = words_of j (cond (eqb n j) (left_after i a (net.links i j)) (net.links i j))
 
-begins : (p : Program) (q n : ℕ) (w : Spots) (net : Net) → Stands p w net → Midst p net q n w (under_way net) (nothing (net.nodes n)) []
+abbrev begins : (p : Program) (q : Occasion) (n : ℕ) (w : Spots) (net : Net) → Stands p w net → Midst p net q n (world_at w net) (under_way net) (nothing (net.nodes n)) []
 begins p q n w net s = record {
+  now = world_at w net;
+  told = refl;
   allowed = record { solo = tt; holders = tt; life = tt; replies = tt; grants = tt };
   sends = refl;
   prints = refl;
@@ -56,6 +69,7 @@ begins p q n w net s = record {
   there = λ k e. s.nodes k;
   links = λ i j. nothing_sent n (under_way net) i j w.threads (s.links i j);
   agrees = s.agrees;
+  aside = record { places = refl; still = refl; next = tt; rising = s.rising n; booted = λ h. h };
 }
 
 -- ## The end of an event
@@ -76,11 +90,11 @@ words_after : (b : Bool) (ps : List Packet) (j s : ℕ) (xs : List Send) → wor
 words_after true ps j s xs = ap (λ bs. words_of j ps ++ bs) (sym (packets_words j s xs)) ∙ sym (words_append j ps (packets_to j s xs))
 words_after false ps j s xs = append-nil (words_of j ps) ∙ sym (ap (words_of j) (append-nil ps))
 
-ends_well : (p : Program) (q : ℕ) (w : Spots) (net : Net) (stamp n round : ℕ) (a : Act) (o : Option Packet) (d : Doing) (M : Links) → local_event p n (net.nodes n) a o ≡ Some d → Midst p net q n w M d [] → ((i j : ℕ) → M i j ≡ left net n a i j)
+ends_well : (p : Program) (q : Occasion) (w : Spots) (net : Net) (stamp n round : ℕ) (a : Act) (o : Option Packet) (d : Doing) (M : Links) → local_event p n (net.nodes n) a o ≡ Some d → Midst p net q n (world_at w net) M d [] → ((i j : ℕ) → M i j ≡ left net n a i j) → ((k : ℕ) → IsRising (net.nodes k).places)
     → Stands p (after_labels p n d.labels w) (net_after p net (event stamp n round a o d))
-ends_well p q w net stamp n round a o d M is m same =
-    let v : Spots = after_labels p n d.labels w in
-    record {
+ends_well p q w net stamp n round a o d M is m same rises =
+    let v : Spots = m.now.spots in
+    subst (λ z. Stands p z (net_after p net (event stamp n round a o d))) (ap (λ (z : World). z.spots) m.told) (record {
       nodes = λ k. elim (eqb n k) as (λ b. eqb n k ≡ b → Here k v (cond b (after_or (local_event p k (net.nodes k) a o) (net.nodes k)) (net.nodes k)) []) [
         | true ↦ λ e. subst (λ k. Here k v (after_or (local_event p k (net.nodes k) a o) (net.nodes k)) []) (eqb-true n k e) (subst (λ z. Here n v (after_or z (net.nodes n)) []) (sym is) m.here)
         | false ↦ λ e. m.there k e
@@ -88,34 +102,60 @@ ends_well p q w net stamp n round a o d M is m same =
       links = λ i j. subst (λ bs. LinkStands i j bs v.threads)
           (ap (λ bs. bs ++ cond (eqb n i) (sent_words j d.sends) []) (same i j) ∙ words_after (eqb n i) (cond (eqb n j) (left_after i a (net.links i j)) (net.links i j)) j stamp d.sends) (m.links i j);
       agrees = m.agrees;
-    }
+      rising = λ k. elim (eqb n k) as (λ b. eqb n k ≡ b → IsRising (cond b (after_or (local_event p k (net.nodes k) a o) (net.nodes k)) (net.nodes k)).places) [
+        | true ↦ λ e. subst (λ j. IsRising (after_or (local_event p j (net.nodes j) a o) (net.nodes j)).places) (eqb-true n k e) (subst (λ z. IsRising (after_or z (net.nodes n)).places) (sym is) m.aside.rising)
+        | false ↦ λ e. rises k
+      ] refl;
+    })
+
+-- what an event does to its own node, beside the spots
+pub record Beyond (p : Program) (w : Spots) (s now : Local) (n : ℕ) (labels : List Label) : Type 0 where
+  pub places : now.places ≡ places_after_all p n labels w s.places
+  pub next : AreNext p n labels w
+  pub ends : to_do_after_all p n labels w [] ≡ []
+  pub booted : s.booted ≡ true → now.booted ≡ true
 
 -- what an event keeps, and the rules that it obeys
 pub record Simulates (p : Program) (w : Spots) (net : Net) (e : Event) : Type 0 where
-  pub allowed : Obeyed p (quantum_in e.act) e.node e.labels w
+  pub allowed : Obeyed p (asked_of e.act e.took) e.node e.labels (world_at w net)
   pub sends : e.sends ≡ all_causes p e.node e.labels w
   pub prints : e.prints ≡ shown_by_all p e.node e.labels w
   pub picks : PicksBest e.act (net.nodes e.node).places.rows e.labels
+  pub beyond : (d : Doing) → local_event p e.node (net.nodes e.node) e.act e.took ≡ Some d → Beyond p w (net.nodes e.node) d.node e.node e.labels
   pub stands : Stands p (after_labels p e.node e.labels w) (net_after p net e)
 
-simulated : (p : Program) (w : Spots) (net : Net) (stamp n round : ℕ) (a : Act) (o : Option Packet) (d : Doing) (M : Links) → local_event p n (net.nodes n) a o ≡ Some d → Midst p net (quantum_in a) n w M d [] → ((i j : ℕ) → M i j ≡ left net n a i j)
-    → PicksBest a (net.nodes n).places.rows d.labels → Simulates p w net (event stamp n round a o d)
-simulated p w net stamp n round a o d M is m same picks = record { allowed = m.allowed; sends = m.sends; prints = m.prints; picks = picks; stands = ends_well p (quantum_in a) w net stamp n round a o d M is m same }
+simulated : (p : Program) (w : Spots) (net : Net) (stamp n round : ℕ) (a : Act) (o : Option Packet) (d : Doing) (M : Links) → local_event p n (net.nodes n) a o ≡ Some d → Midst p net (asked_of a o) n (world_at w net) M d [] → ((i j : ℕ) → M i j ≡ left net n a i j)
+    → PicksBest a (net.nodes n).places.rows d.labels → ((k : ℕ) → IsRising (net.nodes k).places) → Simulates p w net (event stamp n round a o d)
+simulated p w net stamp n round a o d M is m same picks rises = record {
+  allowed = m.allowed;
+  sends = m.sends;
+  prints = m.prints;
+  picks = picks;
+  beyond = λ f g.
+      let one : d ≡ f = cc (is, g) in
+      record {
+        places = ap (λ (z : Doing). z.node.places) (sym one) ∙ m.aside.places;
+        next = m.aside.next;
+        ends = sym m.aside.still;
+        booted = λ h. ap (λ (z : Doing). z.node.booted) (sym one) ∙ m.aside.booted h;
+      };
+  stands = ends_well p (asked_of a o) w net stamp n round a o d M is m same rises;
+}
 
 -- ## The packet that is taken
 
-words_left : (net : Net) (n f : ℕ) (p : Packet) → Some p ≡ first_of (net.links f n) → (i j : ℕ) → at_link f n (less_word (word_name (word_of n p.body))) (under_way net) i j ≡ left net n (Take f) i j
+words_left : (net : Net) (n f : ℕ) (p : Packet) → Some p ≡ first_of (net.links f n) → (i j : ℕ) → at_link f n (less_word (word_subject (word_of n p.body))) (under_way net) i j ≡ left net n (Take f) i j
 words_left net n f p h i j = sym (by_tests (eqb n j) (eqb f i) (net.links i j) refl (λ x y. let a : n ≡ j = eqb-true n j x in let b : f ≡ i = eqb-true f i y in cc (h, a, b)))
   where
-    head_off : (ps : List Packet) → n ≡ j → Some p ≡ first_of ps → words_of j (rest_of ps) ≡ less_word (word_name (word_of n p.body)) (words_of j ps)
+    head_off : (ps : List Packet) → n ≡ j → Some p ≡ first_of ps → words_of j (rest_of ps) ≡ less_word (word_subject (word_of n p.body)) (words_of j ps)
     head_off [] a h = absurd (cc h)
     head_off (q ∷ ps) a h =
         let e : p ≡ q = cc h in
-        let same : word_name (word_of n p.body) ≡ word_name (word_of j q.body) = ap (λ k. word_name (word_of k p.body)) a ∙ ap (λ (z : Packet). word_name (word_of j z.body)) e in
-        subst (λ t. words_of j ps ≡ less_word t (word_of j q.body ∷ words_of j ps)) (sym same) (rw (is-refl (word_name (word_of j q.body))) refl)
+        let same : word_subject (word_of n p.body) ≡ word_subject (word_of j q.body) = ap (λ k. word_subject (word_of k p.body)) a ∙ ap (λ (z : Packet). word_subject (word_of j z.body)) e in
+        subst (λ t. words_of j ps ≡ less_word t (word_of j q.body ∷ words_of j ps)) (sym same) (rw (subject-refl (word_subject (word_of j q.body))) refl)
 
     by_tests : (x y : Bool) (ps : List Packet) → eqb n j ≡ x → (x ≡ true → y ≡ true → Some p ≡ first_of ps)
-        → words_of j (cond x (cond y (rest_of ps) ps) ps) ≡ cond y (cond x (less_word (word_name (word_of n p.body)) (words_of j ps)) (words_of j ps)) (words_of j ps)
+        → words_of j (cond x (cond y (rest_of ps) ps) ps) ≡ cond y (cond x (less_word (word_subject (word_of n p.body)) (words_of j ps)) (words_of j ps)) (words_of j ps)
     by_tests true true ps e h = head_off ps (eqb-true n j e) (h refl refl)
     by_tests true false ps e h = refl
     by_tests false true ps e h = refl
@@ -125,24 +165,26 @@ none_left : (net : Net) (n : ℕ) (a : Act) → ((i : ℕ) (ps : List Packet) �
 none_left net n a h i j = elim (eqb n j) as (λ v. words_of j (net.links i j) ≡ words_of j (cond v (left_after i a (net.links i j)) (net.links i j))) [ true ↦ ap (words_of j) (sym (h i (net.links i j))) | false ↦ refl ]
 
 -- what the first packet of a link tells of its thread
-pub first_tells : (p : Program) (w : Spots) (net : Net) → Stands p w net → (f n : ℕ) (x : Packet) → Some x ≡ first_of (net.links f n)
-    → Tells (word_name (word_of n x.body)) f n (word_of n x.body) (w.threads (word_name (word_of n x.body))).life (w.threads (word_name (word_of n x.body))).verdict (w.threads (word_name (word_of n x.body))).guest
-first_tells p w net s f n x h =
-    let t : Tid = word_name (word_of n x.body) in
-    let part : link_part f n t (w.threads t) ≡ Some (word_of n x.body) = sym ((s.links f n).shows t) ∙ head_of (net.links f n) h in
-    at_way t (w.threads t).life (w.threads t).verdict (w.threads t).guest _ (on_way f n (way_of t (w.threads t).life (w.threads t).verdict (w.threads t).guest) (word_of n x.body) part)
+pub first_tells : (p : Program) (w : Spots) (net : Net) → Stands p w net → (f n : ℕ) (x : Packet) (t : Tid) → Some x ≡ first_of (net.links f n) → word_subject (word_of n x.body) ≡ Subject_of t
+    → Tells t f n (word_of n x.body) (w.threads t).life (w.threads t).verdict (w.threads t).guest
+first_tells p w net s f n x t h name =
+    let part : IsOneOf (word_of n x.body) (link_part f n (Subject_of t) w.threads) = subst (λ xs. IsOneOf (word_of n x.body) xs) (s.links f n (Subject_of t)) (head_of (net.links f n) h) in
+    at_way t (w.threads t).life (w.threads t).verdict (w.threads t).guest _ (on_way f n (ways_of t (w.threads t).life (w.threads t).verdict (w.threads t).guest) (word_of n x.body) part)
   where
-    head_of : (ps : List Packet) → Some x ≡ first_of ps → item_of is_tid word_name (words_of n ps) (word_name (word_of n x.body)) ≡ Some (word_of n x.body)
+    head_of : (ps : List Packet) → Some x ≡ first_of ps → IsOneOf (word_of n x.body) (words_about (words_of n ps) (Subject_of t))
     head_of [] h = absurd (cc h)
-    head_of (y ∷ ps) h = let e : x ≡ y = cc h in subst (λ (z : Packet). item_of is_tid word_name (word_of n z.body ∷ words_of n ps) (word_name (word_of n x.body)) ≡ Some (word_of n x.body)) e (rw (is-refl (word_name (word_of n x.body))) refl)
+    head_of (y ∷ ps) h =
+        let e : x ≡ y = cc h in
+        let of : word_subject (word_of n y.body) ≡ Subject_of t = ap (λ (z : Packet). word_subject (word_of n z.body)) (sym e) ∙ name in
+        rw (of, is-refl t) (inl (ap (λ (z : Packet). word_of n z.body) (sym e)))
 
 -- a thread that is sent away says one label
 leaves_labels : (t : Tid) (to : ℕ) (x : Thread) (s : Local) → (leaves t to x (nothing s)).labels ≡ Left t to ∷ []
 unfolding leaves put say thread_out take_off
 leaves_labels t to x s = refl
 
-module _ (p : Program) (w : Spots) (net : Net) (s : Stands p w net) (q n : ℕ) where
-  here : Midst p net q n w (under_way net) (nothing (net.nodes n)) []
+module _ (p : Program) (w : Spots) (net : Net) (s : Stands p w net) (q : Occasion) (n : ℕ) where
+  abbrev here : Midst p net q n (world_at w net) (under_way net) (nothing (net.nodes n)) []
   here = begins p q n w net s
 
   in_cluster : (t : Tid) → ((w.threads t).life ≡ Unborn → ⊥) → nat_lt t.home (nodes_of p) ≡ true
@@ -150,50 +192,58 @@ module _ (p : Program) (w : Spots) (net : Net) (s : Stands p w net) (q n : ℕ) 
 
   record Taken (i : ℕ) (body : Body) : Type 0 where
     expected : is_stray p n (net.nodes n) body ≡ false
-    comes : Midst p net q n w (at_link i n (less_word (word_name (word_of n body))) (under_way net)) (accepts n i body (net.nodes n)) []
+    comes : Midst p net q n (world_at w net) (at_link i n (less_word (word_subject (word_of n body))) (under_way net)) (accepts n i body (net.nodes n)) []
 
   taken : (i : ℕ) (x : Packet) → Some x ≡ first_of (net.links i n) → Taken i x.body
-  taken i x h = by x.body (first_tells p w net s i n x h)
+  taken i x h = by x.body (λ t e. first_tells p w net s i n x t h e)
     where
-      by : (body : Body) → Tells (word_name (word_of n body)) i n (word_of n body) (w.threads (word_name (word_of n body))).life (w.threads (word_name (word_of n body))).verdict (w.threads (word_name (word_of n body))).guest → Taken i body
-      by (Mover z) k =
+      by : (body : Body) → ((t : Tid) → word_subject (word_of n body) ≡ Subject_of t → Tells t i n (word_of n body) (w.threads t).life (w.threads t).verdict (w.threads t).guest) → Taken i body
+      by (Mover z) tells =
+          let k = tells (z.tid) refl in
           let t : Tid = z.tid in
           let g : Guest = (w.threads t).guest in
           subst (λ y. Taken i (Mover y)) (sym k.1)
           (record {
-            expected = ap not (may_come_ok p net q n w (under_way net) (net.nodes n) i t here k.0 (in_cluster t (λ e. absurd (cc (e, k.0)))));
-            comes = comes_ok p net q n w (under_way net) (net.nodes n) i t here k.0;
+            expected = ap not (may_come_ok p net q n (world_at w net) (under_way net) (net.nodes n) i t here k.0 (in_cluster t (λ e. absurd (cc (e, k.0)))));
+            comes = comes_ok p net q n (world_at w net) (under_way net) (net.nodes n) i t here k.0;
           })
-      by (Show t bytes) k = record {
-        expected = rw (k.2, in_cluster t (λ e. absurd (cc (e, k.1)))) refl;
-        comes = acknowledges_ok p net q n w (at_link i n (less_word t) (under_way net)) _ t i [] (shows_ok p net q n w (under_way net) (net.nodes n) i t bytes here k.1 k.2);
-      }
-      by (ShowDone t) k =
+      by (Show t bytes) tells =
+          let k = tells t refl in
+          record {
+            expected = rw (k.2, in_cluster t (λ e. absurd (cc (e, k.1)))) refl;
+            comes = acknowledges_ok p net q n (world_at w net) (at_link i n (less_word (Subject_of t)) (under_way net)) _ t i [] (shows_ok p net q n (world_at w net) (under_way net) (net.nodes n) i t bytes here k.1 k.2);
+          }
+      by (ShowDone t) tells =
+          let k = tells t refl in
           let v : Response = (w.threads t).verdict in
           record {
-            expected = rw (on_node p net q n w (under_way net) (nothing (net.nodes n)) [] t Shown_there here k.1, in_cluster t (λ e. absurd (cc (e, k.1)))) refl;
-            comes = subst (λ z. Midst p net q n w (at_link i n (less_word t) (under_way net)) (tell t z None (nothing (net.nodes n))) []) k.3
-                (subst (λ z. Midst p net q n w (at_link i n (less_word t) (under_way net)) (tell t v.code z (nothing (net.nodes n))) []) k.4
-                (tell_taken_ok p net q n w (under_way net) (net.nodes n) i t Shown_there wait.ForShow (Line_shown t v.code v.second) here k.1 refl refl (ap (λ z. way z n (Line_shown t v.code v.second)) (sym k.2)) refl refl (λ j. refl) (λ u j e. absurd (cc e)) refl));
+            expected = rw (on_node p net q n (world_at w net) (under_way net) (nothing (net.nodes n)) [] t Shown_there here k.1, in_cluster t (λ e. absurd (cc (e, k.1)))) refl;
+            comes = subst (λ z. Midst p net q n (world_at w net) (at_link i n (less_word (Subject_of t)) (under_way net)) (tell t z None (nothing (net.nodes n))) []) k.3
+                (subst (λ z. Midst p net q n (world_at w net) (at_link i n (less_word (Subject_of t)) (under_way net)) (tell t v.code z (nothing (net.nodes n))) []) k.4
+                (tell_taken_ok p net q n (world_at w net) (under_way net) (net.nodes n) i t Shown_there wait.ForShow (Line_shown t v.code v.second) here k.1 refl refl (ap (λ z. way z n (Line_shown t v.code v.second)) (sym k.2)) refl refl (λ j. refl) (λ u j e. absurd (cc e)) refl));
           }
-      by (JoinAsk t seq) k = record {
-        expected = rw (in_cluster t (λ e. absurd (cc (e, k.1)))) refl;
-        comes = hears_ok p net q n w (under_way net) (net.nodes n) i seq t here k.1;
-      }
-      by (Answer t reply second) k =
+      by (JoinAsk t seq) tells =
+          let k = tells t refl in
+          record {
+            expected = rw (in_cluster t (λ e. absurd (cc (e, k.1)))) refl;
+            comes = hears_ok p net q n (world_at w net) (under_way net) (net.nodes n) i seq t here k.1;
+          }
+      by (Answer t reply second) tells =
+          let k = tells t refl in
           let v : Response = (w.threads t).verdict in
           record {
-            expected = rw (on_node p net q n w (under_way net) (nothing (net.nodes n)) [] t (Answered i) here k.1, in_cluster t (λ e. absurd (cc (e, k.1)))) refl;
-            comes = subst (λ z. Midst p net q n w (at_link i n (less_word t) (under_way net)) (tell t z second (nothing (net.nodes n))) []) k.2
-                (subst (λ z. Midst p net q n w (at_link i n (less_word t) (under_way net)) (tell t v.code z (nothing (net.nodes n))) []) k.3
-                (tell_taken_ok p net q n w (under_way net) (net.nodes n) i t (Answered i) wait.ForAnswer (Reply t v.code v.second) here k.1 refl refl refl refl refl (λ j. refl) (λ u j e. absurd (cc e)) refl));
+            expected = rw (on_node p net q n (world_at w net) (under_way net) (nothing (net.nodes n)) [] t (Answered i) here k.1, in_cluster t (λ e. absurd (cc (e, k.1)))) refl;
+            comes = subst (λ z. Midst p net q n (world_at w net) (at_link i n (less_word (Subject_of t)) (under_way net)) (tell t z second (nothing (net.nodes n))) []) k.2
+                (subst (λ z. Midst p net q n (world_at w net) (at_link i n (less_word (Subject_of t)) (under_way net)) (tell t v.code z (nothing (net.nodes n))) []) k.3
+                (tell_taken_ok p net q n (world_at w net) (under_way net) (net.nodes n) i t (Answered i) wait.ForAnswer (Reply t v.code v.second) here k.1 refl refl refl refl refl (λ j. refl) (λ u j e. absurd (cc e)) refl));
           }
-      by (EndNote seq end) k =
+      by (EndNote seq end) tells =
+          let k = tells (tid n seq) refl in
           let x : (w.threads (tid n seq)).life ≡ Noting i end = k.1 in
           let opened : is_open (slice_get (w.births n) seq) ≡ true = open_birth (slice_get (w.births n) seq) (s.agrees.named (tid n seq) ∙ ap phase_of x) in
           record {
             expected = ap (λ (bs : List Birth). not (is_open (slice_get bs seq))) (s.nodes n).names ∙ ap not opened;
-            comes = knows_ok p net q n w (under_way net) (net.nodes n) i seq end here x;
+            comes = knows_ok p net q n (world_at w net) (under_way net) (net.nodes n) i seq end here x;
           }
 
   -- ## The run list
@@ -218,56 +268,59 @@ module _ (p : Program) (w : Spots) (net : Net) (s : Stands p w net) (q n : ℕ) 
   -- ## A move
 
   record Sent (t : Tid) (to : ℕ) (x : Thread) : Type 0 where
-    left : Midst p net q n w (under_way net) (goes p t to x (nothing (net.nodes n))) []
+    left : Midst p net q n (world_at w net) (under_way net) (goes p t to x (nothing (net.nodes n))) []
     labels : (goes p t to x (nothing (net.nodes n))).labels ≡ Left t to ∷ []
 
   sent : (t : Tid) (to : ℕ) (x : Thread) → is_listed t (net.nodes n).places.rows ≡ true → lookup (is_tid t) (net.nodes n).threads ≡ Some x → to < nodes_of p → (to ≡ n → ⊥) → Sent t to x
   sent t to x listed f inside other =
       let ready : (w.threads t).life ≡ On n Ready = listed_ready t listed in
-      let same : Some (waits wait.No (w.threads t).guest) ≡ Some x = sym (on_node p net q n w (under_way net) (nothing (net.nodes n)) [] t Ready here ready) ∙ f in
+      let same : Some (waits wait.No (w.threads t).guest) ≡ Some x = sym (on_node p net q n (world_at w net) (under_way net) (nothing (net.nodes n)) [] t Ready here ready) ∙ f in
       let one : waits wait.No (w.threads t).guest ≡ x = cc same in
       record {
-        left = subst (λ z. Midst p net q n w (under_way net) (goes p t to z (nothing (net.nodes n))) []) one (sent_ok p net q n w (under_way net) (nothing (net.nodes n)) t to here ready inside other);
+        left = subst (λ z. Midst p net q n (world_at w net) (under_way net) (goes p t to z (nothing (net.nodes n))) []) one (sent_ok p net q n (world_at w net) (under_way net) (nothing (net.nodes n)) t to here refl ready inside other);
         labels = ap (λ z. (cond z (leaves t to x (nothing (net.nodes n))) (nothing (net.nodes n))).labels) (in_cluster t (λ e. absurd (cc (e, ready)))) ∙ leaves_labels t to x (net.nodes n);
       }
 
   -- ## A run of the thread that is picked
 
   ran_midst : nat_lt n (nodes_of p) ≡ true → (vp : ℕ) (r : Row) (x : Thread) → best (net.nodes n).places.rows ≡ Some r → lookup (is_tid r.tid) (net.nodes n).threads ≡ Some x
-      → Midst p net q n w (under_way net) (run_thread p n vp q r.tid x (nothing (net.nodes n))) []
+      → Midst p net q n (world_at w net) (under_way net) (run_thread p n vp (quantum_in q.act) r.tid x (nothing (net.nodes n))) []
   ran_midst below vp r x picked f =
       let t : Tid = r.tid in
       let ready : (w.threads t).life ≡ On n Ready = picked_ready r picked in
-      let same : Some (waits wait.No (w.threads t).guest) ≡ Some x = sym (on_node p net q n w (under_way net) (nothing (net.nodes n)) [] t Ready here ready) ∙ f in
+      let same : Some (waits wait.No (w.threads t).guest) ≡ Some x = sym (on_node p net q n (world_at w net) (under_way net) (nothing (net.nodes n)) [] t Ready here ready) ∙ f in
       let one : waits wait.No (w.threads t).guest ≡ x = cc same in
-      subst (λ z. Midst p net q n w (under_way net) (run_thread p n vp q t z (nothing (net.nodes n))) []) one (run_ok p net q n w (under_way net) below (nothing (net.nodes n)) t vp here ready)
+      subst (λ z. Midst p net q n (world_at w net) (under_way net) (run_thread p n vp (quantum_in q.act) t z (nothing (net.nodes n))) []) one (run_ok p net q n (world_at w net) (under_way net) below (nothing (net.nodes n)) t vp here refl ready)
 
   -- ## A beginning
 
-  boots_midst : nat_lt n (nodes_of p) ≡ true → Midst p net q n w (under_way net) (boots p n (nothing (net.nodes n))) []
+  boots_midst : nat_lt n (nodes_of p) ≡ true → Midst p net q n (world_at w net) (under_way net) (boots p n (nothing (net.nodes n))) []
   boots_midst below = by (eqb n 0) refl
     where
-      awake : Midst p net q n w (under_way net) (with_booted (nothing (net.nodes n))) []
+      awake : Midst p net q n (world_at w net) (under_way net) (with_booted (nothing (net.nodes n))) []
       awake = record {
+        now = here.now;
+        told = here.told;
         allowed = here.allowed;
         sends = here.sends;
         prints = here.prints;
         there = here.there;
         links = here.links;
         agrees = here.agrees;
+        aside = record { places = refl; still = refl; next = tt; rising = s.rising n; booted = λ h. refl };
         here = record { threads = here.here.threads; rows = here.here.rows; busy = here.here.busy; names = here.here.names; own = here.here.own; halted = here.here.halted };
       }
 
-      by_slot : n ≡ 0 → (o : Option ℕ) → free_slot (net.nodes n).slots.own ≡ o → Midst p net q n w (under_way net) (boots_in p n o (with_booted (nothing (net.nodes n)))) []
+      by_slot : n ≡ 0 → (o : Option ℕ) → free_slot (net.nodes n).slots.own ≡ o → Midst p net q n (world_at w net) (under_way net) (boots_in p n o (with_booted (nothing (net.nodes n)))) []
       by_slot zero None f = awake
-      by_slot zero (Some slot) f = main_born_ok p net q n w (under_way net) below (with_booted (nothing (net.nodes n))) slot awake zero f
+      by_slot zero (Some slot) f = main_born_ok p net q n (world_at w net) (under_way net) below (with_booted (nothing (net.nodes n))) slot awake refl zero f
 
-      by : (v : Bool) → eqb n 0 ≡ v → Midst p net q n w (under_way net) (cond v (boots_in p n (free_slot (net.nodes n).slots.own) (with_booted (nothing (net.nodes n)))) (with_booted (nothing (net.nodes n)))) []
+      by : (v : Bool) → eqb n 0 ≡ v → Midst p net q n (world_at w net) (under_way net) (cond v (boots_in p n (free_slot (net.nodes n).slots.own) (with_booted (nothing (net.nodes n)))) (with_booted (nothing (net.nodes n)))) []
       by true e = by_slot (eqb-true n 0 e) (free_slot (net.nodes n).slots.own) refl
       by false e = awake
 
 -- the packet that comes is one that the node expects
-pub taken_expected : (p : Program) (w : Spots) (net : Net) (s : Stands p w net) (q n i : ℕ) (x : Packet) → Some x ≡ first_of (net.links i n) → is_stray p n (net.nodes n) x.body ≡ false
+pub taken_expected : (p : Program) (w : Spots) (net : Net) (s : Stands p w net) (q : Occasion) (n i : ℕ) (x : Packet) → Some x ≡ first_of (net.links i n) → is_stray p n (net.nodes n) x.body ≡ false
 taken_expected p w net s q n i x h = (taken p w net s q n i x h).expected
 
 -- ## Each act
@@ -297,24 +350,25 @@ acts_simulate : (p : Program) (w : Spots) (net : Net) (stamp n round : ℕ) (a :
     → Simulates p w net (event stamp n round a o d)
 acts_simulate p w net stamp n round Boot None d s range is i h =
     let same : boots p n (nothing (net.nodes n)) ≡ d = cc i in
-    simulated p w net stamp n round Boot None d _ is (subst (λ z. Midst p net 0 n w (under_way net) z []) same (boots_midst p w net s 0 n (range_below p n (net.nodes n) Boot range))) (none_left net n Boot (λ i ps. refl)) tt
+    simulated p w net stamp n round Boot None d _ is (subst (λ z. Midst p net (asked_of Boot None) n (world_at w net) (under_way net) z []) same (boots_midst p w net s (asked_of Boot None) n (range_below p n (net.nodes n) Boot range))) (none_left net n Boot (λ i ps. refl)) tt s.rising
 acts_simulate p w net stamp n round (RunThread vp q) None d s range is i h = by_row (best (net.nodes n).places.rows) refl i
   where
     by_thread : (r : Row) → best (net.nodes n).places.rows ≡ Some r → (x : Option Thread) → lookup (is_tid r.tid) (net.nodes n).threads ≡ x → run_found p n vp q r.tid x (net.nodes n) ≡ Some d → Simulates p w net (event stamp n round (RunThread vp q) None d)
     by_thread r e None f g = absurd (cc g)
     by_thread r e (Some x) f g =
         let same : run_thread p n vp q r.tid x (nothing (net.nodes n)) ≡ d = cc g in
-        simulated p w net stamp n round (RunThread vp q) None d _ is (subst (λ z. Midst p net q n w (under_way net) z []) same (ran_midst p w net s q n (range_below p n (net.nodes n) (RunThread vp q) range) vp r x e f)) (none_left net n (RunThread vp q) (λ i ps. refl))
-        (r, best_is (net.nodes n).places.rows r e, subst (λ (z : Doing). RunsFirst r.tid vp z.labels) same (run-first r.tid vp p n q x (net.nodes n)))
+        simulated p w net stamp n round (RunThread vp q) None d _ is (subst (λ z. Midst p net (asked_of (RunThread vp q) None) n (world_at w net) (under_way net) z []) same (ran_midst p w net s (asked_of (RunThread vp q) None) n (range_below p n (net.nodes n) (RunThread vp q) range) vp r x e f)) (none_left net n (RunThread vp q) (λ i ps. refl))
+        (r, best_is (net.nodes n).places.rows r e, subst (λ (z : Doing). RunsFirst r.tid vp z.labels) same (run-first r.tid vp p n q x (net.nodes n))) s.rising
 
     by_row : (r : Option Row) → best (net.nodes n).places.rows ≡ r → run_picked p n vp q r (net.nodes n) ≡ Some d → Simulates p w net (event stamp n round (RunThread vp q) None d)
     by_row None e g = absurd (cc g)
     by_row (Some r) e g = by_thread r e (lookup (is_tid r.tid) (net.nodes n).threads) refl g
 acts_simulate p w net stamp n round (Take from) (Some x) d s range is i h =
-    let k : Taken p w net s 0 n from x.body = taken p w net s 0 n from x h in
     let same : takes p n from x.body (net.nodes n) ≡ d = cc i in
+    let k : Taken p w net s (asked_of (Take from) (Some x)) n from x.body = taken p w net s (asked_of (Take from) (Some x)) n from x h in
     let accepted : accepts n from x.body (net.nodes n) ≡ d = sym (ap (λ z. cond z (nothing (net.nodes n)) (accepts n from x.body (net.nodes n))) k.expected) ∙ same in
-    simulated p w net stamp n round (Take from) (Some x) d _ is (subst (λ z. Midst p net 0 n w (at_link from n (less_word (word_name (word_of n x.body))) (under_way net)) z []) accepted k.comes) (words_left net n from x h) tt
+    simulated p w net stamp n round (Take from) (Some x) d _ is (subst (λ z. Midst p net (asked_of (Take from) (Some x)) n (world_at w net) (at_link from n (less_word (word_subject (word_of n x.body))) (under_way net)) z []) accepted k.comes)
+    (words_left net n from x h) tt s.rising
 acts_simulate p w net stamp n round (Move t to) None d s range is i h = by_listed (is_listed t (net.nodes n).places.rows) refl i
   where
     by_thread : is_listed t (net.nodes n).places.rows ≡ true → (x : Option Thread) → lookup (is_tid t) (net.nodes n).threads ≡ x → moves_found p t to x (net.nodes n) ≡ Some d → Simulates p w net (event stamp n round (Move t to) None d)
@@ -322,9 +376,9 @@ acts_simulate p w net stamp n round (Move t to) None d s range is i h = by_liste
     by_thread e (Some x) f g =
         let same : goes p t to x (nothing (net.nodes n)) ≡ d = cc g in
         let inside = range_to p n (net.nodes n) t to range in
-        let k : Sent p w net s 0 n t to x = sent p w net s 0 n t to x e f inside.0 inside.1 in
-        simulated p w net stamp n round (Move t to) None d _ is (subst (λ z. Midst p net 0 n w (under_way net) z []) same k.left) (none_left net n (Move t to) (λ i ps. refl))
-        (e, subst (λ (z : Doing). z.labels ≡ Left t to ∷ []) same k.labels)
+        let k : Sent p w net s (asked_of (Move t to) None) n t to x = sent p w net s (asked_of (Move t to) None) n t to x e f inside.0 inside.1 in
+        simulated p w net stamp n round (Move t to) None d _ is (subst (λ z. Midst p net (asked_of (Move t to) None) n (world_at w net) (under_way net) z []) same k.left) (none_left net n (Move t to) (λ i ps. refl))
+        (e, subst (λ (z : Doing). z.labels ≡ Left t to ∷ []) same k.labels) s.rising
 
     by_listed : (v : Bool) → is_listed t (net.nodes n).places.rows ≡ v → cond v (moves_found p t to (lookup (is_tid t) (net.nodes n).threads) (net.nodes n)) None ≡ Some d → Simulates p w net (event stamp n round (Move t to) None d)
     by_listed true e g = by_thread e (lookup (is_tid t) (net.nodes n).threads) refl g
@@ -335,7 +389,7 @@ acts_simulate p w net stamp n round (Take from) None d s range is i h = absurd (
 acts_simulate p w net stamp n round (Move t to) (Some x) d s range is i h = absurd (cc i)
 
 -- an event is in range, and is what its act does
-possible : (p : Program) (n : ℕ) (s : Local) (a : Act) (o : Option Packet) (d : Doing) → local_event p n s a o ≡ Some d → (is_range p n s a ≡ true) × (acts p n s a o ≡ Some d)
+pub possible : (p : Program) (n : ℕ) (s : Local) (a : Act) (o : Option Packet) (d : Doing) → local_event p n s a o ≡ Some d → (is_range p n s a ≡ true) × (acts p n s a o ≡ Some d)
 possible p n s a o d is = by (is_range p n s a) refl (opened p n s a o d is)
   where
     by : (v : Bool) → is_range p n s a ≡ v → cond v (acts p n s a o) None ≡ Some d → (is_range p n s a ≡ true) × (acts p n s a o ≡ Some d)

@@ -1,5 +1,5 @@
 -- Where nothing is ready and nothing is under way: each thread that lives waits by its rule.
-use Rattle.std.proofs.Common.{◌≡◌, ℕ, List, [], Some, None, false, refl, sym, ap, ◌∙◌, subst, map, inl, inr}
+use Rattle.std.proofs.Common.{◌≡◌, ℕ, List, [], ◌∷◌, Some, None, false, refl, sym, ap, ◌∙◌, subst, map, inl, inr}
 use Rattle.std.proofs.lemmas.Bool.{eq-eqb}
 use Rattle.slot_space.specs.declared.names.Tid.{Tid}
 use Rattle.run_trace.specs.declared.node.Row.{Row}
@@ -11,21 +11,22 @@ use Rattle.run_trace.specs.Holding.{IsOn}
 use Rattle.run_trace.specs.Keyed.{item_of}
 use Rattle.run_trace.specs.Places.{best}
 use Rattle.run_trace.specs.Outcome.{Lives, AllLinksEmpty, WaitsByItsRule, IsStuck}
-use Rattle.run_trace.specs.Rules.{IsSettled}
 use Rattle.run_trace.specs.Spots.{Stage, Ready, Running, Due, Served, Told_next, Told_then, Departs, Ends, Leaves, Halts, Stays, Shows, Showing, Shown_there, Asks, Awaits, Answers, Answered, Life, Unborn, On, Moving, Noting, Gone, Response, Spots}
-use Rattle.run_trace.specs.Stands.{Stands, listed, listed_name, row_part, row_in_life, link_part, on_link, way_of, Way, word_name, words_of, phase_of, phase_at, During, thread_in_life, thread_in_stage, wait_of}
-use Rattle.trace_laws.proofs.Simulate.{picked_ready}
+use Rattle.run_trace.specs.Stands.{Stands, listed, listed_name, row_part, row_in_life, link_part, on_link, ways_of, Way, words_of, words_about, phase_of, phase_at, During, thread_in_life, thread_in_stage, wait_of}
+use Rattle.run_trace.specs.Items.{Thread as Subject_of}
+use Rattle.run_trace.specs.declared.entry.Act.TheVariants.{Boot}
+use Rattle.trace_laws.proofs.Simulate.{asked_of, picked_ready}
 use Rattle.trace_laws.proofs.Wholes.{settled_at}
 use Rattle.trace_laws.proofs.Consequences.{OnNode, on_node_is}
+use Rattle.trace_laws.specs.Obeys.{IsSettled}
 
 module _ (p : Program) (w : Spots) (net : Net) (s : Stands p w net) where
   -- no link holds a packet of a thread
-  no_way : AllLinksEmpty net → (t : Tid) (x : Way) → way_of t (w.threads t).life (w.threads t).verdict (w.threads t).guest ≡ Some x → ⊥
-  no_way empty t x h =
-      let shown : link_part x.from x.to t (w.threads t) ≡ Some x.word = ap (on_link x.from x.to) h ∙ (rw (eq-eqb x.from x.from refl, eq-eqb x.to x.to refl) refl) in
-      let held : item_of is_tid word_name (words_of x.to (net.links x.from x.to)) t ≡ Some x.word = (s.links x.from x.to).shows t ∙ shown in
-      let none : item_of is_tid word_name (words_of x.to (net.links x.from x.to)) t ≡ None = ap (λ ps. item_of is_tid word_name (words_of x.to ps) t) (empty x.from x.to) in
-      absurd (cc (held, none))
+  no_way : AllLinksEmpty net → (t : Tid) (x : Way) (xs : List Way) → ways_of t (w.threads t).life (w.threads t).verdict (w.threads t).guest ≡ x ∷ xs → ⊥
+  no_way empty t x xs h =
+      let none : words_about (words_of x.to (net.links x.from x.to)) (Subject_of t) ≡ [] = ap (λ ps. words_about (words_of x.to ps) (Subject_of t)) (empty x.from x.to) in
+      let some : link_part x.from x.to (Subject_of t) w.threads ≡ x.word ∷ on_link x.from x.to xs = ap (on_link x.from x.to) h ∙ (rw (eq-eqb x.from x.from refl, eq-eqb x.to x.to refl) refl) in
+      absurd (cc (sym none ∙ s.links x.from x.to (Subject_of t) ∙ some))
 
   quiet : ((n : ℕ) → (net.nodes n).places.rows ≡ []) → AllLinksEmpty net → ((n : ℕ) → w.halts n ≡ false) → (t : Tid) → WaitsByItsRule w (w.threads t).life
   quiet rows empty going t = by (w.threads t).life refl (settled_at p w net s t)
@@ -33,8 +34,8 @@ module _ (p : Program) (w : Spots) (net : Net) (s : Stands p w net) where
       v : Response
       v = (w.threads t).verdict
 
-      sent : (life : Life) (x : Way) → (w.threads t).life ≡ life → way_of t life v (w.threads t).guest ≡ Some x → WaitsByItsRule w life
-      sent life x e h = absurd (no_way empty t x (ap (λ z. way_of t z v (w.threads t).guest) e ∙ h))
+      sent : (life : Life) (x : Way) → (w.threads t).life ≡ life → ways_of t life v (w.threads t).guest ≡ x ∷ [] → WaitsByItsRule w life
+      sent life x e h = absurd (no_way empty t x [] (ap (λ z. ways_of t z v (w.threads t).guest) e ∙ h))
 
       awaited : (m : ℕ) (u : Tid) → (w.threads t).life ≡ On m (Awaits u) → Lives (w.threads u).life
       awaited m u e = by_life (w.threads u).life refl (sym (ap phase_at (s.agrees.waits u t m e)) ∙ s.agrees.named u)
@@ -43,7 +44,7 @@ module _ (p : Program) (w : Spots) (net : Net) (s : Stands p w net) where
           by_life Unborn f h = absurd (cc (h ∙ ap phase_of f))
           by_life (On k stage) f h = tt
           by_life (Moving k to) f h = tt
-          by_life (Noting k end) f h = absurd (no_way empty u _ (ap (λ z. way_of u z (w.threads u).verdict (w.threads u).guest) f))
+          by_life (Noting k end) f h = absurd (no_way empty u _ _ (ap (λ z. ways_of u z (w.threads u).verdict (w.threads u).guest) f))
           by_life (Gone end) f h = absurd (cc (h ∙ ap phase_of f))
 
       ready : (m : ℕ) → (w.threads t).life ≡ On m Ready → ⊥
@@ -64,17 +65,17 @@ module _ (p : Program) (w : Spots) (net : Net) (s : Stands p w net) where
       by (On m Shown_there) e k = sent (On m Shown_there) _ e refl
       by (On m (Asks u)) e k = sent (On m (Asks u)) _ e refl
       by (On m (Answered h)) e k = sent (On m (Answered h)) _ e refl
-      by (On m Running) e k = absurd (subst (λ z. IsSettled z) e k)
-      by (On m (Due code)) e k = absurd (subst (λ z. IsSettled z) e k)
-      by (On m (Served c)) e k = absurd (subst (λ z. IsSettled z) e k)
-      by (On m Told_next) e k = absurd (subst (λ z. IsSettled z) e k)
-      by (On m (Told_then to)) e k = absurd (subst (λ z. IsSettled z) e k)
-      by (On m (Departs to)) e k = absurd (subst (λ z. IsSettled z) e k)
-      by (On m (Ends end)) e k = absurd (subst (λ z. IsSettled z) e k)
-      by (On m (Leaves end)) e k = absurd (subst (λ z. IsSettled z) e k)
-      by (On m Halts) e k = absurd (subst (λ z. IsSettled z) e k)
-      by (On m Showing) e k = absurd (subst (λ z. IsSettled z) e k)
-      by (On m (Answers h reply second)) e k = absurd (subst (λ z. IsSettled z) e k)
+      by (On m Running) e k = absurd (cc (subst (λ z. IsSettled z) e k m, eq-eqb m m refl))
+      by (On m (Due code)) e k = absurd (cc (subst (λ z. IsSettled z) e k m, eq-eqb m m refl))
+      by (On m (Served c)) e k = absurd (cc (subst (λ z. IsSettled z) e k m, eq-eqb m m refl))
+      by (On m Told_next) e k = absurd (cc (subst (λ z. IsSettled z) e k m, eq-eqb m m refl))
+      by (On m (Told_then to)) e k = absurd (cc (subst (λ z. IsSettled z) e k m, eq-eqb m m refl))
+      by (On m (Departs to)) e k = absurd (cc (subst (λ z. IsSettled z) e k m, eq-eqb m m refl))
+      by (On m (Ends end)) e k = absurd (cc (subst (λ z. IsSettled z) e k m, eq-eqb m m refl))
+      by (On m (Leaves end)) e k = absurd (cc (subst (λ z. IsSettled z) e k m, eq-eqb m m refl))
+      by (On m Halts) e k = absurd (cc (subst (λ z. IsSettled z) e k m, eq-eqb m m refl))
+      by (On m Showing) e k = absurd (cc (subst (λ z. IsSettled z) e k 0))
+      by (On m (Answers h reply second)) e k = absurd (cc (subst (λ z. IsSettled z) e k h, eq-eqb h h refl))
 
   -- nothing is ready, nothing is under way, none has halted, and a thread lives
   pub stuck : ((n : ℕ) → (net.nodes n).places.rows ≡ []) → AllLinksEmpty net → ((n : ℕ) → (net.nodes n).halted ≡ false) → (t : Tid) → Lives (w.threads t).life → IsStuck w net
@@ -105,17 +106,17 @@ module _ (p : Program) (w : Spots) (net : Net) (s : Stands p w net) where
       by Shown_there e k = here Shown_there _ e refl
       by (Asks u) e k = here (Asks u) _ e refl
       by (Answered h) e k = here (Answered h) _ e refl
-      by Running e k = absurd k
-      by (Due code) e k = absurd k
-      by (Served c) e k = absurd k
-      by Told_next e k = absurd k
-      by (Told_then to) e k = absurd k
-      by (Departs to) e k = absurd k
-      by (Ends end) e k = absurd k
-      by (Leaves end) e k = absurd k
-      by Halts e k = absurd k
-      by Showing e k = absurd k
-      by (Answers h reply second) e k = absurd k
+      by Running e k = absurd (cc (k m, eq-eqb m m refl))
+      by (Due code) e k = absurd (cc (k m, eq-eqb m m refl))
+      by (Served c) e k = absurd (cc (k m, eq-eqb m m refl))
+      by Told_next e k = absurd (cc (k m, eq-eqb m m refl))
+      by (Told_then to) e k = absurd (cc (k m, eq-eqb m m refl))
+      by (Departs to) e k = absurd (cc (k m, eq-eqb m m refl))
+      by (Ends end) e k = absurd (cc (k m, eq-eqb m m refl))
+      by (Leaves end) e k = absurd (cc (k m, eq-eqb m m refl))
+      by Halts e k = absurd (cc (k m, eq-eqb m m refl))
+      by Showing e k = absurd (cc (k 0))
+      by (Answers h reply second) e k = absurd (cc (k h, eq-eqb h h refl))
 
   -- where nothing is under way each that lives is on a node
   pub is_somewhere : AllLinksEmpty net → (t : Tid) → Lives (w.threads t).life → (n : ℕ) × (x : Thread) × IsOn net n t x
@@ -124,7 +125,7 @@ module _ (p : Program) (w : Spots) (net : Net) (s : Stands p w net) where
       by : (life : Life) → (w.threads t).life ≡ life → Lives life → (n : ℕ) × (x : Thread) × IsOn net n t x
       by Unborn e l = absurd l
       by (On m stage) e l = let k = is_there t m stage e in (m, k.0, k.1)
-      by (Moving m to) e l = absurd (no_way empty t _ (ap (λ z. way_of t z (w.threads t).verdict (w.threads t).guest) e))
+      by (Moving m to) e l = absurd (no_way empty t _ _ (ap (λ z. ways_of t z (w.threads t).verdict (w.threads t).guest) e))
       by (Noting m end) e l = absurd l
       by (Gone end) e l = absurd l
 
@@ -135,7 +136,7 @@ module _ (p : Program) (w : Spots) (net : Net) (s : Stands p w net) where
 
   pub picked_there : (n : ℕ) (r : Row) → best (net.nodes n).places.rows ≡ Some r → (x : Thread) × IsOn net n r.tid x
   picked_there n r picked =
-      (waits (wait_of Ready) (w.threads r.tid).guest, (s.nodes n).threads.shows r.tid ∙ ap (λ z. thread_in_life n z (w.threads r.tid).guest) (picked_ready p w net s 0 n r picked) ∙ (rw (eq-eqb n n refl) refl))
+      (waits (wait_of Ready) (w.threads r.tid).guest, (s.nodes n).threads.shows r.tid ∙ ap (λ z. thread_in_life n z (w.threads r.tid).guest) (picked_ready p w net s (asked_of Boot None) n r picked) ∙ (rw (eq-eqb n n refl) refl))
 
   -- a thread has called halt exactly where a node says so
   pub halts_are : (n : ℕ) → (net.nodes n).halted ≡ w.halts n

@@ -21,21 +21,26 @@ use Rattle.run_trace.specs.Names.{is_tid, tid_cmp}
 use Rattle.run_trace.specs.Program.{Program, nodes_of}
 use Rattle.run_trace.specs.Guests.{Guest, waits, told, guest_slots, packed}
 use Rattle.run_trace.specs.Local.{Local, Doing, nothing}
-use Rattle.run_trace.specs.Steps.{say, put, print, arrive, keep, thread_in, comes, tell, tell_found, reply_by_link, shows, acknowledges, extra_of, line_of}
+use Rattle.run_trace.specs.Steps.{say, put, print, arrive, keep, thread_in, comes, tell, tell_found, reply_by_link, shows, acknowledges, line_of}
 use Rattle.run_trace.specs.Machine.{may_come, lives_yet, are_away}
 use Rattle.run_trace.specs.Cluster.{Net}
 use Rattle.run_trace.specs.Keyed.{StandsFor, AreDistinct}
 use Rattle.run_trace.specs.Spots.{Stage, Ready, Shows, Showing, Shown_there, Awaits, Answers, Answered, On, Moving, Spot, Spots, Of_thread, update, shown_life, judged_life, judged_guest, told_stage, second_of}
-use Rattle.run_trace.specs.Rules.{judged_causes, MayTell, is_free}
+use Rattle.run_trace.specs.Rules.{Occasion, MayTell, is_free}
 use Rattle.run_trace.specs.Console.{asked_bytes}
-use Rattle.run_trace.specs.Stands.{Busy, busy, busy_name, is_busy, busy_part, thread_part, thread_in_life, thread_in_stage, row_part, row_in_life, row_in_stage, listed, listed_name, Word, Travels, Line, Line_shown, Reply, way, way_of, phase_of, phase_at, During, held, holding_of, slots_held, is_thread}
+use Rattle.run_trace.specs.Stands.{Busy, busy, busy_name, busy_part, thread_part, thread_in_life, thread_in_stage, row_part, row_in_life, row_in_stage, listed, listed_name, Word, Travels, Line, Line_shown, Reply, way, ways_of, phase_of, phase_at, During, held, holding_of, slots_held, is_thread}
 use Rattle.trace_laws.proofs.Tids.{is-true, is-refl}
 use Rattle.trace_laws.proofs.KeyedLemmas.{kept, added, fronted, unfronted, map_kept, map_set, map_added}
-use Rattle.trace_laws.proofs.Midst.{Links, Midst, plain, keeps, LinkStands, at_link, less_word, spots_with, spots_at, take_link, nothing_sent, nothing_sent_from}
+use Rattle.run_trace.specs.World.{World}
+use Rattle.trace_laws.proofs.Midst.{Links, Midst, plain, keeps, LinkStands, at_link, spots_with, take_link, nothing_sent, nothing_sent_from}
 use Rattle.trace_laws.proofs.Parts.{listed_arrived, away_thread, away_row, busy_none}
 use Rattle.trace_laws.proofs.Consequences.{OnNode, on_node_is}
 use Rattle.trace_laws.proofs.Lifetimes.{thread_holds}
-use Rattle.trace_laws.proofs.Steps.{moved, send_step, in_hand, is_in_hand, on_node, thread_was, row_was, idle_was, second-extra}
+use Rattle.trace_laws.proofs.Steps.{own_goes, moved, send_step, in_hand, is_in_hand, on_node, thread_was, row_was, idle_was, second-extra}
+use Rattle.run_trace.specs.Calls.{extra_of}
+use Rattle.run_trace.specs.Causes.{judged_causes}
+use Rattle.run_trace.specs.Items.{is_busy, Thread as Subject_of}
+use Rattle.trace_laws.proofs.Subjects.{less_word}
 
 -- ## What a home and a map have
 
@@ -65,88 +70,88 @@ all_entries same same-true same-refl test (e ∷ es) a each =
     ] refl) in
     rw (first, rest) refl
 
-module _ (p : Program) (net : Net) (q n : ℕ) (w : Spots) (L : Links) where
+module _ (p : Program) (net : Net) (q : Occasion) (n : ℕ) (w : World) (L : Links) where
   -- the links without t's packet
   abbrev pub Left : ℕ → Tid → Links
-  Left from t = at_link from n (less_word t) L
+  Left from t = at_link from n (less_word (Subject_of t)) L
 
-  pub links_whole : (s : Local) → Midst p net q n w L (nothing s) [] → (i j : ℕ) → LinkStands i j (L i j) w.threads
-  links_whole s m i j = nothing_sent_from n L i j w.threads (m.links i j)
+  pub links_whole : (s : Local) → (m : Midst p net q n w L (nothing s) []) → (i j : ℕ) → LinkStands i j (L i j) m.now.spots.threads
+  links_whole s m i j = nothing_sent_from n L i j m.now.spots.threads (m.links i j)
 
   -- ## Lines
 
-  pub shows_ok : (s : Local) (from : ℕ) (t : Tid) (bytes : List ℕ) → Midst p net q n w L (nothing s) [] → (w.threads t).life ≡ On from (Shows bytes) → n ≡ 0
+  pub shows_ok : (s : Local) (from : ℕ) (t : Tid) (bytes : List ℕ) → (m : Midst p net q n w L (nothing s) []) → (m.now.spots.threads t).life ≡ On from (Shows bytes) → n ≡ 0
       → Midst p net q n w (Left from t) (shows t bytes (nothing s)) (busy t (On from Showing) ∷ [])
   unfolding shows print say
   shows_ok s from t bytes m x zero =
-      let o : Spot = w.threads t in
+      let o : Spot = m.now.spots.threads t in
       let r : Spot = record o { life = On from Showing } in
       let here_busy : is_busy n (On from Showing) ≡ true = eq-eqb 0 n (sym zero) in
-      moved p net q n w L (Left from t) (nothing s) [] (busy t (On from Showing) ∷ []) (Shown t) t r s [] _ m
-      (ap (λ z. spots_with (update w.threads t (record o { life = shown_life z })) w.slots w.births w.halts) x)
+      (moved p net q n w L (Left from t) (nothing s) [] (busy t (On from Showing) ∷ []) (Shown t) t r s [] _ m
+      (ap (λ z. spots_with (update m.now.spots.threads t (record o { life = shown_life z })) m.now.spots.slots m.now.spots.births m.now.spots.halts) x)
       (record { solo = tt; holders = tt; life = rw x zero; replies = tt; grants = tt }) refl (ap (λ z. line_of t (asked_bytes z)) (sym x))
       (record {
-        threads = map_kept is_tid is-true is-refl (thread_part n) w.threads t r s.threads m.here.threads (sym (ap (λ z. thread_in_life n z o.guest) x));
-        rows = kept is_tid is-true is-refl listed_name (row_part n) w.threads t r (map listed s.places.rows) m.here.rows (sym (ap (λ z. row_in_life n t z o.guest.priority) x));
-        busy = fronted is_tid is-true is-refl busy_name (busy_part n) w.threads t r [] (busy t (On from Showing)) m.here.busy refl (idle_was p net q n w L o t (On from (Shows bytes)) x refl) (rw here_busy refl);
+        threads = map_kept is_tid is-true is-refl (thread_part n) m.now.spots.threads t r s.threads m.here.threads (sym (ap (λ z. thread_in_life n z o.guest) x));
+        rows = kept is_tid is-true is-refl listed_name (row_part n) m.now.spots.threads t r (map listed s.places.rows) m.here.rows (sym (ap (λ z. row_in_life n t z o.guest.priority) x));
+        busy = fronted is_tid is-true is-refl busy_name (busy_part n) m.now.spots.threads t r [] (busy t (On from Showing)) m.here.busy refl (idle_was p net q n w L o t (On from (Shows bytes)) x refl) (rw here_busy refl);
       }) refl refl refl
       (λ k e. record {
         thread = sym (ap (λ z. thread_in_life k z o.guest) x);
         row = sym (ap (λ z. row_in_life k t z o.guest.priority) x);
         busy = busy_none k t r (On from Showing) refl (ap (λ z. eqb z k) (sym zero) ∙ e) ∙ sym (busy_none k t o (On from (Shows bytes)) x refl);
       })
-      (λ i j. nothing_sent n (Left from t) i j (update w.threads t r) (take_link from n (Line t bytes) t r L w.threads (links_whole s m) (ap (λ z. way_of t z o.verdict o.guest) x ∙ ap (λ z. way from z (Line t bytes)) (sym zero)) refl i j))
+      (λ i j. nothing_sent n (Left from t) i j (update m.now.spots.threads t r) (take_link from n (Line t bytes) t r L m.now.spots.threads (links_whole s m) (ap (λ z. ways_of t z o.verdict o.guest) x ∙ ap (λ z. way from z (Line t bytes)) (sym zero)) i j))
       (sym (ap phase_of x))
       (λ u k e. absurd (cc (e, x)))
       (keeps _ _ (sym (ap (λ z. held z o.guest) x)))
-      (λ e. absurd (cc (e, x))) (plain _ refl)
+      (λ e. absurd (cc (e, x))) (plain _ refl) (record { heir = refl; next = tt; still = rw here_busy refl }) refl refl).midst
 
   -- ## Told by a packet
 
-  pub tell_taken_ok : (s : Local) (from : ℕ) (t : Tid) (a : Stage) (waiting : Wait) (y : Word) → Midst p net q n w L (nothing s) [] → (w.threads t).life ≡ On n a
-      → MayTell n (On n a) → told_stage (On n a) ≡ Ready → way_of t (On n a) (w.threads t).verdict (w.threads t).guest ≡ way from n y
-      → thread_in_stage a (w.threads t).guest ≡ Some (waits waiting (w.threads t).guest) → row_in_stage t a (w.threads t).guest.priority ≡ None
-      → ((k : ℕ) → is_busy k (On n a) ≡ false) → ((u : Tid) (m : ℕ) → On n a ≡ On m (Awaits u) → ⊥) → Some (holding_of (w.threads t).guest) ≡ held (On n a) (w.threads t).guest
-      → Midst p net q n w (Left from t) (tell t (w.threads t).verdict.code (w.threads t).verdict.second (nothing s)) []
+  pub tell_taken_ok : (s : Local) (from : ℕ) (t : Tid) (a : Stage) (waiting : Wait) (y : Word) → (m : Midst p net q n w L (nothing s) []) → (m.now.spots.threads t).life ≡ On n a
+      → MayTell n (On n a) → told_stage (On n a) ≡ Ready → ways_of t (On n a) (m.now.spots.threads t).verdict (m.now.spots.threads t).guest ≡ way from n y
+      → thread_in_stage a (m.now.spots.threads t).guest ≡ Some (waits waiting (m.now.spots.threads t).guest) → row_in_stage t a (m.now.spots.threads t).guest.priority ≡ None
+      → ((k : ℕ) → is_busy k (On n a) ≡ false) → ((u : Tid) (m : ℕ) → On n a ≡ On m (Awaits u) → ⊥) → Some (holding_of (m.now.spots.threads t).guest) ≡ held (On n a) (m.now.spots.threads t).guest
+      → Midst p net q n w (Left from t) (tell t (m.now.spots.threads t).verdict.code (m.now.spots.threads t).verdict.second (nothing s)) []
   unfolding tell arrive say keep
   tell_taken_ok s from t a waiting y m x may next ways there row idle quiet slots =
-      let o : Spot = w.threads t in
+      let o : Spot = m.now.spots.threads t in
       let g : Guest = told o.verdict.code o.verdict.second o.guest in
       let r : Spot = record o { life = On n Ready; guest = g } in
       subst (λ f. Midst p net q n w (Left from t) (tell_found t o.verdict.code o.verdict.second f (nothing s)) []) (sym (on_node p net q n w L (nothing s) [] t a m x ∙ there))
-      (moved p net q n w L (Left from t) (nothing s) [] [] (Told t) t r _ [] [] m (ap (λ z. spots_with (update w.threads t (record o { life = On n z; guest = g })) w.slots w.births w.halts) (ap told_stage x ∙ next))
+      (moved p net q n w L (Left from t) (nothing s) [] [] (Told t) t r _ [] [] m (ap (λ z. spots_with (update m.now.spots.threads t (record o { life = On n z; guest = g })) m.now.spots.slots m.now.spots.births m.now.spots.halts) (ap told_stage x ∙ next))
       (record { solo = tt; holders = tt; life = subst (λ z. MayTell n z) (sym x) may; replies = tt; grants = tt }) refl refl
       (record {
-        threads = map_set is_tid is-true is-refl (thread_part n) w.threads t r s.threads (waits waiting o.guest) (waits wait.No g) m.here.threads (thread_was p net q n w L o t a x ∙ there) (thread_was p net q n w L r t Ready refl);
-        rows = subst (λ rows. StandsFor is_tid listed_name (row_part n) rows (update w.threads t r)) (sym (listed_arrived t o.guest.priority s.places))
-            (added is_tid is-true is-refl listed_name (row_part n) w.threads t r (map listed s.places.rows) _ m.here.rows refl (row_was p net q n w L o t a x ∙ row) (row_was p net q n w L r t Ready refl));
-        busy = kept is_tid is-true is-refl busy_name (busy_part n) w.threads t r [] m.here.busy (idle_was p net q n w L r t (On n Ready) refl refl ∙ sym (idle_was p net q n w L o t (On n a) x (idle n)));
+        threads = map_set is_tid is-true is-refl (thread_part n) m.now.spots.threads t r s.threads (waits waiting o.guest) (waits wait.No g) m.here.threads (thread_was p net q n w L o t a x ∙ there) (thread_was p net q n w L r t Ready refl);
+        rows = subst (λ rows. StandsFor is_tid listed_name (row_part n) rows (update m.now.spots.threads t r)) (sym (listed_arrived t o.guest.priority s.places))
+            (added is_tid is-true is-refl listed_name (row_part n) m.now.spots.threads t r (map listed s.places.rows) _ m.here.rows refl (row_was p net q n w L o t a x ∙ row) (row_was p net q n w L r t Ready refl));
+        busy = kept is_tid is-true is-refl busy_name (busy_part n) m.now.spots.threads t r [] m.here.busy (idle_was p net q n w L r t (On n Ready) refl refl ∙ sym (idle_was p net q n w L o t (On n a) x (idle n)));
       }) refl refl refl
       (λ k e. record {
         thread = away_thread n k t r Ready refl e ∙ sym (away_thread n k t o a x e);
         row = away_row n k t r Ready refl e ∙ sym (away_row n k t o a x e);
         busy = busy_none k t r (On n Ready) refl refl ∙ sym (busy_none k t o (On n a) x (idle k));
       })
-      (λ i j. nothing_sent n (Left from t) i j (update w.threads t r) (take_link from n y t r L w.threads (links_whole s m) (ap (λ z. way_of t z o.verdict o.guest) x ∙ ways) refl i j))
+      (λ i j. nothing_sent n (Left from t) i j (update m.now.spots.threads t r) (take_link from n y t r L m.now.spots.threads (links_whole s m) (ap (λ z. ways_of t z o.verdict o.guest) x ∙ ways) i j))
       (sym (ap phase_of x))
       (λ u k e. quiet u k (sym x ∙ e))
       (keeps _ _ (slots ∙ sym (ap (λ z. held z o.guest) x)))
-      (λ e. absurd (cc (e, x))) (plain _ refl))
+      (λ e. absurd (cc (e, x))) (plain _ refl) (record { heir = refl; next = tt; still = refl }) refl refl).midst
 
   -- ## Replies that go back
 
-  pub acknowledges_ok : (d : Doing) (t : Tid) (at : ℕ) (hs : List Busy) → Midst p net q n w L d (busy t (On at Showing) ∷ hs) → Midst p net q n w L (acknowledges t at d) hs
+  pub acknowledges_ok : (d : Doing) (t : Tid) (at : ℕ) (hs : List Busy) → (m : Midst p net q n w L d (busy t (On at Showing) ∷ hs)) → Midst p net q n w L (acknowledges t at d) hs
   unfolding acknowledges put say
   acknowledges_ok d t at hs m =
-      let v : Spots = spots_at p net q n w d in
+      let v : Spots = m.now.spots in
       let o : Spot = v.threads t in
       let x : o.life ≡ On at Showing = in_hand p net q n w L d t (On at Showing) hs m in
       let zero : 0 ≡ n = eqb-true 0 n (is_in_hand p net q n w L d t (On at Showing) hs m) in
       let r : Spot = record o { life = On at Shown_there; verdict = record { code = 0; second = None } } in
-      send_step p net q n w L d _ hs (Judged t 0 Nothing) t r d.node at (ShowDone t) m
+      (send_step p net q n w L d _ hs (Judged t 0 Nothing) t r d.node at (ShowDone t) m
       (ap (λ z. spots_with (update v.threads t (record { life = judged_life z; guest = judged_guest z o.guest; verdict = record { code = 0; second = None } })) v.slots v.births v.halts) x)
       (record { solo = tt; holders = tt; life = rw x (sym zero); replies = rw x (refl, refl); grants = rw x tt }) (ap (judged_causes t) x) refl
-      (ap (λ z. way_of t z o.verdict o.guest) x) (ap (λ z. way z at (Line_shown t 0 None)) zero) refl
+      (ap (λ z. ways_of t z o.verdict o.guest) x) (ap (λ z. way z at (Line_shown t 0 None)) zero) refl
       (record {
         threads = map_kept is_tid is-true is-refl (thread_part n) v.threads t r d.node.threads m.here.threads (sym (ap (λ z. thread_in_life n z o.guest) x));
         rows = kept is_tid is-true is-refl listed_name (row_part n) v.threads t r (map listed d.node.places.rows) m.here.rows (sym (ap (λ z. row_in_life n t z o.guest.priority) x));
@@ -161,18 +166,19 @@ module _ (p : Program) (net : Net) (q n : ℕ) (w : Spots) (L : Links) where
       (λ u k e. absurd (cc (e, x)))
       (keeps _ _ (sym (ap (λ z. held z o.guest) x)))
       (λ e. absurd (cc (e, x))) (plain _ refl)
+      (own_goes p net q n w L d t (On at Showing) hs (Judged t 0 Nothing) (On at Shown_there) m refl refl refl) refl refl).midst
 
-  pub reply_ok : (d : Doing) (t : Tid) (at : ℕ) (reply : TheReply) (second : Option ℕ) (hs : List Busy) → Midst p net q n w L d (busy t (On at (Answers n reply second)) ∷ hs) → Midst p net q n w L (reply_by_link t at reply second d) hs
+  pub reply_ok : (d : Doing) (t : Tid) (at : ℕ) (reply : TheReply) (second : Option ℕ) (hs : List Busy) → (m : Midst p net q n w L d (busy t (On at (Answers n reply second)) ∷ hs)) → Midst p net q n w L (reply_by_link t at reply second d) hs
   unfolding reply_by_link put say
   reply_ok d t at reply second hs m =
-      let v : Spots = spots_at p net q n w d in
+      let v : Spots = m.now.spots in
       let o : Spot = v.threads t in
       let x : o.life ≡ On at (Answers n reply second) = in_hand p net q n w L d t (On at (Answers n reply second)) hs m in
       let r : Spot = record o { life = On at (Answered n); verdict = record { code = reply_code reply; second = second_of (extra_of second) } } in
-      send_step p net q n w L d _ hs (Judged t (reply_code reply) (extra_of second)) t r d.node at (Answer t reply second) m
+      (send_step p net q n w L d _ hs (Judged t (reply_code reply) (extra_of second)) t r d.node at (Answer t reply second) m
       (ap (λ z. spots_with (update v.threads t (record { life = judged_life z; guest = judged_guest z o.guest; verdict = record { code = reply_code reply; second = second_of (extra_of second) } })) v.slots v.births v.halts) x)
       (record { solo = tt; holders = tt; life = rw x refl; replies = rw x (refl, refl); grants = rw x tt }) (ap (judged_causes t) x) refl
-      (ap (λ z. way_of t z o.verdict o.guest) x) (ap (λ z. way n at (Reply t (reply_code reply) z)) (second-extra second)) refl
+      (ap (λ z. ways_of t z o.verdict o.guest) x) (ap (λ z. way n at (Reply t (reply_code reply) z)) (second-extra second)) refl
       (record {
         threads = map_kept is_tid is-true is-refl (thread_part n) v.threads t r d.node.threads m.here.threads (sym (ap (λ z. thread_in_life n z o.guest) x));
         rows = kept is_tid is-true is-refl listed_name (row_part n) v.threads t r (map listed d.node.places.rows) m.here.rows (sym (ap (λ z. row_in_life n t z o.guest.priority) x));
@@ -187,63 +193,64 @@ module _ (p : Program) (net : Net) (q n : ℕ) (w : Spots) (L : Links) where
       (λ u k e. absurd (cc (e, x)))
       (keeps _ _ (sym (ap (λ z. held z o.guest) x)))
       (λ e. absurd (cc (e, x))) (plain _ refl)
+      (own_goes p net q n w L d t (On at (Answers n reply second)) hs (Judged t (reply_code reply) (extra_of second)) (On at (Answered n)) m refl refl refl) refl refl).midst
 
   -- ## A thread comes
 
   -- it is one that the node expects
-  pub may_come_ok : (s : Local) (from : ℕ) (t : Tid) → Midst p net q n w L (nothing s) [] → (w.threads t).life ≡ Moving from n → nat_lt t.home (nodes_of p) ≡ true → may_come p n s (packed t (w.threads t).guest) ≡ true
+  pub may_come_ok : (s : Local) (from : ℕ) (t : Tid) → (m : Midst p net q n w L (nothing s) []) → (m.now.spots.threads t).life ≡ Moving from n → nat_lt t.home (nodes_of p) ≡ true → may_come p n s (packed t (m.now.spots.threads t).guest) ≡ true
   may_come_ok s from t m x home =
-      let o : Spot = w.threads t in
+      let o : Spot = m.now.spots.threads t in
       let away : lookup (is_tid t) s.threads ≡ None = m.here.threads.shows t ∙ ap (λ z. thread_in_life n z o.guest) x in
       let slots : are_away (guest_slots o.guest) s ≡ true = rw (no_own, no_others) refl in
       rw (home, away, lives, slots) refl
     where
       g : Guest
-      g = (w.threads t).guest
+      g = (m.now.spots.threads t).guest
 
-      mine : (y : ℕ) → has y (guest_slots g) ≡ true → w.slots y ≡ Of_thread t
-      mine y h = thread_holds t (w.slots y) (sym (m.agrees.slots t y) ∙ ap (λ z. has y (slots_held (held z g))) x ∙ h)
+      mine : (y : ℕ) → has y (guest_slots g) ≡ true → m.now.spots.slots y ≡ Of_thread t
+      mine y h = thread_holds t (m.now.spots.slots y) (sym (m.agrees.slots t y) ∙ ap (λ z. has y (slots_held (held z g))) x ∙ h)
 
       no_own : meets (guest_slots g) s.slots.own ≡ false
-      no_own = meets_none (guest_slots g) s.slots.own (λ y h k. let free : is_free n (w.slots y) ≡ true = sym (m.here.own y) ∙ k in let none : is_free n (w.slots y) ≡ false = ap (is_free n) (mine y h) in absurd (cc (free, none)))
+      no_own = meets_none (guest_slots g) s.slots.own (λ y h k. let free : is_free n (m.now.spots.slots y) ≡ true = sym (m.here.own y) ∙ k in let none : is_free n (m.now.spots.slots y) ≡ false = ap (is_free n) (mine y h) in absurd (cc (free, none)))
 
       no_others : list_all (λ e. not (meets (guest_slots g) (guest_slots e.1.guest))) s.threads ≡ true
       no_others = all_entries is_tid is-true is-refl (λ e. not (meets (guest_slots g) (guest_slots e.1.guest))) s.threads m.here.threads.apart (λ u z f.
-          let on : OnNode n (w.threads u) z = on_node_is n u (w.threads u) z (sym (m.here.threads.shows u) ∙ f) in
+          let on : OnNode n (m.now.spots.threads u) z = on_node_is n u (m.now.spots.threads u) z (sym (m.here.threads.shows u) ∙ f) in
           ap not (meets_none (guest_slots g) (guest_slots z.guest) (λ y h k.
-          let his : is_thread u (w.slots y) ≡ true = sym (m.agrees.slots u y) ∙ ap (has y) on.slots ∙ k in
+          let his : is_thread u (m.now.spots.slots y) ≡ true = sym (m.agrees.slots u y) ∙ ap (has y) on.slots ∙ k in
           let one : is_tid u t ≡ true = sym (ap (is_thread u) (mine y h)) ∙ his in
-          let same : (w.threads u).life ≡ (w.threads t).life = ap (λ v. (w.threads v).life) (is-true u t one) in
+          let same : (m.now.spots.threads u).life ≡ (m.now.spots.threads t).life = ap (λ v. (m.now.spots.threads v).life) (is-true u t one) in
           absurd (cc (on.life, same, x)))))
 
       lives : lives_yet n s t ≡ true
       lives = elim (eqb t.home n) as (λ v. eqb t.home n ≡ v → cond v (is_open (slice_get s.names t.seq)) true ≡ true) [
         | true ↦ λ e.
-            let names : s.names ≡ w.births t.home = m.here.names ∙ ap w.births (sym (eqb-true t.home n e)) in
+            let names : s.names ≡ m.now.spots.births t.home = m.here.names ∙ ap m.now.spots.births (sym (eqb-true t.home n e)) in
             open_birth (slice_get s.names t.seq) (ap (λ (bs : List Birth). phase_at (slice_get bs t.seq)) names ∙ m.agrees.named t ∙ ap phase_of x)
         | false ↦ λ e. refl
       ] refl
 
-  pub comes_ok : (s : Local) (from : ℕ) (t : Tid) → Midst p net q n w L (nothing s) [] → (w.threads t).life ≡ Moving from n → Midst p net q n w (Left from t) (comes (packed t (w.threads t).guest) (nothing s)) []
+  pub comes_ok : (s : Local) (from : ℕ) (t : Tid) → (m : Midst p net q n w L (nothing s) []) → (m.now.spots.threads t).life ≡ Moving from n → Midst p net q n w (Left from t) (comes (packed t (m.now.spots.threads t).guest) (nothing s)) []
   unfolding comes arrive thread_in say
   comes_ok s from t m x =
-      let o : Spot = w.threads t in
+      let o : Spot = m.now.spots.threads t in
       let r : Spot = record o { life = On n Ready } in
-      moved p net q n w L (Left from t) (nothing s) [] [] (Came t) t r _ [] [] m refl
+      (moved p net q n w L (Left from t) (nothing s) [] [] (Came t) t r _ [] [] m refl
       (record { solo = tt; holders = tt; life = rw x refl; replies = tt; grants = tt }) refl refl
       (record {
-        threads = map_added is_tid is-true is-refl tid_cmp (λ a b. refl) (thread_part n) w.threads t r s.threads (waits wait.No o.guest) m.here.threads (ap (λ z. thread_in_life n z o.guest) x) (thread_was p net q n w L r t Ready refl);
-        rows = subst (λ rows. StandsFor is_tid listed_name (row_part n) rows (update w.threads t r)) (sym (listed_arrived t o.guest.priority s.places))
-            (added is_tid is-true is-refl listed_name (row_part n) w.threads t r (map listed s.places.rows) _ m.here.rows refl (ap (λ z. row_in_life n t z o.guest.priority) x) (row_was p net q n w L r t Ready refl));
-        busy = kept is_tid is-true is-refl busy_name (busy_part n) w.threads t r [] m.here.busy (idle_was p net q n w L r t (On n Ready) refl refl ∙ sym (idle_was p net q n w L o t (Moving from n) x refl));
+        threads = map_added is_tid is-true is-refl tid_cmp (λ a b. refl) (thread_part n) m.now.spots.threads t r s.threads (waits wait.No o.guest) m.here.threads (ap (λ z. thread_in_life n z o.guest) x) (thread_was p net q n w L r t Ready refl);
+        rows = subst (λ rows. StandsFor is_tid listed_name (row_part n) rows (update m.now.spots.threads t r)) (sym (listed_arrived t o.guest.priority s.places))
+            (added is_tid is-true is-refl listed_name (row_part n) m.now.spots.threads t r (map listed s.places.rows) _ m.here.rows refl (ap (λ z. row_in_life n t z o.guest.priority) x) (row_was p net q n w L r t Ready refl));
+        busy = kept is_tid is-true is-refl busy_name (busy_part n) m.now.spots.threads t r [] m.here.busy (idle_was p net q n w L r t (On n Ready) refl refl ∙ sym (idle_was p net q n w L o t (Moving from n) x refl));
       }) refl refl refl
       (λ k e. record {
         thread = away_thread n k t r Ready refl e ∙ sym (ap (λ z. thread_in_life k z o.guest) x);
         row = away_row n k t r Ready refl e ∙ sym (ap (λ z. row_in_life k t z o.guest.priority) x);
         busy = busy_none k t r (On n Ready) refl refl ∙ sym (busy_none k t o (Moving from n) x refl);
       })
-      (λ i j. nothing_sent n (Left from t) i j (update w.threads t r) (take_link from n (Travels (packed t o.guest)) t r L w.threads (links_whole s m) (ap (λ z. way_of t z o.verdict o.guest) x) refl i j))
+      (λ i j. nothing_sent n (Left from t) i j (update m.now.spots.threads t r) (take_link from n (Travels (packed t o.guest)) t r L m.now.spots.threads (links_whole s m) (ap (λ z. ways_of t z o.verdict o.guest) x) i j))
       (sym (ap phase_of x))
       (λ u k e. absurd (cc (e, x)))
       (keeps _ _ (sym (ap (λ z. held z o.guest) x)))
-      (λ e. absurd (cc (e, x))) (plain _ refl)
+      (λ e. absurd (cc (e, x))) (plain _ refl) (record { heir = refl; next = tt; still = refl }) refl refl).midst

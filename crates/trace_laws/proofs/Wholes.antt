@@ -1,6 +1,6 @@
 -- The whole run: order and run give the whole of legality.
 use Rattle.std.proofs.Common.{◌≡◌, ℕ, ◌%◌, List, [], ◌∷◌, ◌++◌, Some, None, true, false, eqb, ltb, cond, refl, sym, ap, ◌∙◌, subst, arith}
-use Rattle.std.proofs.lemmas.Bool.{eq-eqb, ltb-true}
+use Rattle.std.proofs.lemmas.Bool.{ltb-true}
 use Rattle.slot_space.specs.Sets.{has, run}
 use Rattle.slot_space.specs.Places.{starting_slots}
 use Rattle.slot_space.specs.declared.names.Tid.{Tid}
@@ -12,17 +12,17 @@ use Rattle.run_trace.specs.Program.{Program, nodes_of, slots_in}
 use Rattle.run_trace.specs.Local.{Doing}
 use Rattle.run_trace.specs.Cluster.{Event, Net, net_after, fresh_net, next_packet}
 use Rattle.run_trace.specs.Trace.{IsRun, event_of, events_of, net_after_trace, sends_or, done_for}
-use Rattle.run_trace.specs.Histories.{IsInOrder, Joins}
-use Rattle.run_trace.specs.Spots.{Ready, Running, Due, Served, Told_next, Told_then, Departs, Ends, Leaves, Halts, Stays, Shows, Showing, Shown_there, Asks, Awaits, Answers, Answered, Life, Unborn, On, Moving, Noting, Gone, Spots, Of_node, Nobody, at_first, first_holder}
-use Rattle.run_trace.specs.Rules.{IsSettled, is_free, spots_of}
+use Rattle.run_trace.specs.Spots.{Spots, Of_node, Nobody, unborn, at_first, first_holder}
+use Rattle.run_trace.specs.Rules.{is_free, spots_of}
 use Rattle.run_trace.specs.Console.{console_of, printed}
-use Rattle.run_trace.specs.Stands.{Stands, is_busy, busy_part, busy, is_thread}
+use Rattle.run_trace.specs.Stands.{Stands, link_part, busy, is_thread}
 use Rattle.run_trace.specs.Holding.{EachHeldOnce}
 use Rattle.run_trace.specs.Alone.{EachRunsAlone}
-use Rattle.run_trace.specs.Legality.{Begins, AreRising, AfterEach, ObeysFrom, Legal}
+use Rattle.run_trace.specs.Legality.{AfterEach}
 use Rattle.trace_laws.proofs.Consequences.{one_holder, runs_alone}
 use Rattle.trace_laws.proofs.Simulate.{Simulates, simulates, event}
-use Rattle.trace_laws.proofs.Weave.{joined}
+use Rattle.trace_laws.specs.Obeys.{IsSettled, ObeysFrom}
+use Rattle.run_trace.specs.Items.{is_busy, Subject, Thread as Thread_of}
 
 -- ## Before the first event
 
@@ -35,6 +35,9 @@ own_slots p n x = has-filter (λ s. eqb (s % nodes_of p) n) x (run 0 (slots_in p
       | false ↦ elim (eqb (x % nodes_of p) n) as (λ v. cond v false false ≡ false) [ true ↦ refl | false ↦ refl ]
     ]
 
+no_words : (i j : ℕ) (s : Subject) → [] ≡ link_part i j s (λ t. unborn)
+no_words i j (Thread_of t) = refl
+
 pub starts : (p : Program) → Stands p (at_first p) (fresh_net p)
 starts p = record {
   nodes = λ n. record {
@@ -45,7 +48,7 @@ starts p = record {
     own = λ x. own_slots p n x;
     halted = refl;
   };
-  links = λ i j. record { apart = tt; shows = λ u. refl };
+  links = no_words;
   agrees = record {
     homes = λ t out. refl;
     named = λ t. refl;
@@ -55,42 +58,13 @@ starts p = record {
     slots = λ t x. elim (ltb x (slots_in p)) as (λ v. false ≡ is_thread t (cond v (Of_node (x % nodes_of p)) Nobody)) [ true ↦ refl | false ↦ refl ];
     blocks = λ t. tt;
   };
+  rising = λ n. (tt, tt);
 }
 
 -- ## At the end of an entry no thread is in the midst of anything
 
 pub settled_at : (p : Program) (w : Spots) (net : Net) → Stands p w net → (t : Tid) → IsSettled (w.threads t).life
-settled_at p w net s t = by (w.threads t).life refl
-  where
-    nobody : (m : ℕ) (life : Life) → (w.threads t).life ≡ life → is_busy m life ≡ true → ⊥
-    nobody m life e b =
-        let none : None ≡ busy_part m t (w.threads t) = (s.nodes m).busy.shows t in
-        let some : busy_part m t (w.threads t) ≡ Some (busy t life) = ap (λ z. cond (is_busy m z) (Some (busy t z)) None) e ∙ (rw b refl) in
-        absurd (cc (none ∙ some))
-
-    by : (life : Life) → (w.threads t).life ≡ life → IsSettled life
-    by (On m Running) e = nobody m (On m Running) e (eq-eqb m m refl)
-    by (On m (Due code)) e = nobody m (On m (Due code)) e (eq-eqb m m refl)
-    by (On m (Served c)) e = nobody m (On m (Served c)) e (eq-eqb m m refl)
-    by (On m Told_next) e = nobody m (On m Told_next) e (eq-eqb m m refl)
-    by (On m (Told_then to)) e = nobody m (On m (Told_then to)) e (eq-eqb m m refl)
-    by (On m (Departs to)) e = nobody m (On m (Departs to)) e (eq-eqb m m refl)
-    by (On m (Ends end)) e = nobody m (On m (Ends end)) e (eq-eqb m m refl)
-    by (On m (Leaves end)) e = nobody m (On m (Leaves end)) e (eq-eqb m m refl)
-    by (On m Halts) e = nobody m (On m Halts) e (eq-eqb m m refl)
-    by (On m Showing) e = nobody 0 (On m Showing) e (eq-eqb 0 0 refl)
-    by (On m (Answers h reply second)) e = nobody h (On m (Answers h reply second)) e (eq-eqb h h refl)
-    by (On m Ready) e = tt
-    by (On m Stays) e = tt
-    by (On m (Shows bytes)) e = tt
-    by (On m Shown_there) e = tt
-    by (On m (Asks u)) e = tt
-    by (On m (Awaits u)) e = tt
-    by (On m (Answered h)) e = tt
-    by Unborn e = tt
-    by (Moving m to) e = tt
-    by (Noting m end) e = tt
-    by (Gone end) e = tt
+settled_at p w net s t n = elim (is_busy n (w.threads t).life) as (λ v. None ≡ cond v (Some (busy t (w.threads t).life)) None → v ≡ false) [ true ↦ λ e. absurd (cc e) | false ↦ λ e. refl ] ((s.nodes n).busy.shows t)
 
 -- ## The whole run
 
@@ -135,37 +109,14 @@ run_whole p old base s (x ∷ xs) r =
     }
 
 -- what holds after each run holds after each entry of a run
-after_each : (P : Net → List Entry → Type 0) (p : Program) → ((lines : List Entry) → IsRun p (fresh_net p) lines → P (net_after_trace p (fresh_net p) lines) lines) → (lines : List Entry) → IsRun p (fresh_net p) lines → AfterEach P p lines
+pub after_each : (P : Net → List Entry → Type 0) (p : Program) → ((lines : List Entry) → IsRun p (fresh_net p) lines → P (net_after_trace p (fresh_net p) lines) lines) → (lines : List Entry) → IsRun p (fresh_net p) lines → AfterEach P p lines
 after_each P p f [] r = tt
 after_each P p f (x ∷ xs) r = (after_each P p f xs r.0, f (x ∷ xs) r)
 
 pub alone_after_run : (p : Program) (lines : List Entry) → IsRun p (fresh_net p) lines → EachRunsAlone p (net_after_trace p (fresh_net p) lines) lines
 alone_after_run p lines r =
     let all : Whole p (at_first p) (fresh_net p) lines = run_whole p (at_first p) (fresh_net p) (starts p) lines r in
-    runs_alone p lines (net_after_trace p (fresh_net p) lines) all.obeys.solo all.obeys.life all.stands
+    runs_alone p (fresh_net p) lines (net_after_trace p (fresh_net p) lines) all.obeys.solo all.obeys.life all.stands
 
 pub held_once_after_run : (p : Program) (lines : List Entry) → IsRun p (fresh_net p) lines → EachHeldOnce (net_after_trace p (fresh_net p) lines)
 held_once_after_run p lines r = one_holder p (spots_of p (at_first p) lines) (net_after_trace p (fresh_net p) lines) (run_whole p (at_first p) (fresh_net p) (starts p) lines r).stands
-
-pub whole : (p : Program) (lines : List Entry) → IsInOrder lines → Begins p lines → AreRising lines → IsRun p (fresh_net p) lines → Legal p lines
-whole p lines order begins rounds runs =
-    let all : ObeysFrom p (at_first p) (fresh_net p) lines = (run_whole p (at_first p) (fresh_net p) (starts p) lines runs).obeys in
-    record {
-      order = order;
-      begins = begins;
-      rounds = rounds;
-      runs = runs;
-      solo = all.solo;
-      alone = after_each (EachRunsAlone p) p (alone_after_run p) lines runs;
-      one_holder = after_each (λ net xs. EachHeldOnce net) p (held_once_after_run p) lines runs;
-      holders = all.holders;
-      life = all.life;
-      replies = all.replies;
-      grants = all.grants;
-      picks = all.picks;
-      carried = all.carried;
-      settled = all.settled;
-    }
-
-pub joined_whole : (p : Program) (lines : List Entry) (h : ℕ → List Event) → Begins p lines → AreRising lines → Joins p (fresh_net p) lines h → Legal p lines
-joined_whole p lines h begins rounds j = whole p lines j.order begins rounds (joined p (fresh_net p) lines h j).legal

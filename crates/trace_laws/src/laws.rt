@@ -5,7 +5,10 @@ ghost use Rattle.rv_step.specs.Run.{after, StopsBy};
 ghost use Rattle.rv_step.specs.Step.{State};
 ghost use Rattle.rv_step.specs.declared.hart.Stop.{Stop};
 ghost use Rattle.slot_space.specs.declared.names.Tid.{Tid};
+ghost use Rattle.marcel_core.specs.declared.end.End.{End};
+ghost use Rattle.run_trace.specs.declared.entry.Act.{Act};
 ghost use Rattle.run_trace.specs.declared.entry.Entry.{Entry};
+ghost use Rattle.run_trace.specs.declared.label.Label.{Label};
 ghost use Rattle.run_trace.specs.declared.node.Row.{Row};
 ghost use Rattle.run_trace.specs.Program.{Program, code_of, nodes_of};
 ghost use Rattle.trace_laws.specs.Beginnings.{BeginsSo};
@@ -17,15 +20,25 @@ ghost use Rattle.run_trace.specs.Console.{console_of, printed};
 ghost use Rattle.run_trace.specs.Guests.{Guest, Run, Thread, is_unwaiting, run_of};
 ghost use Rattle.run_trace.specs.Histories.{IsInOrder, Joins, taken_from, sent_to, Turn};
 ghost use Rattle.run_trace.specs.Holding.{EachHeldOnce, IsAt, IsOn, Place};
-ghost use Rattle.run_trace.specs.Legality.{AreRising, Begins, boot_entries, Legal, ObeysFrom};
-ghost use Rattle.run_trace.specs.Local.{fresh};
+ghost use Rattle.trace_laws.specs.Obeys.{ObeysFrom};
+ghost use Rattle.run_trace.specs.Legality.{AreRising, Begins, boot_entries, IsTold, Legal};
+ghost use Rattle.run_trace.specs.Local.{Local, fresh, nothing};
+ghost use Rattle.run_trace.specs.Machine.{is_range, is_stray, local_event, stamp_limit, turn_event};
+ghost use Rattle.run_trace.specs.declared.packet.Packet.{Packet};
+ghost use Rattle.run_trace.specs.declared.entry.Act.TheVariants.{Take};
 ghost use Rattle.run_trace.specs.Outcome.{AllLinksEmpty, IsStuck, Lives};
 ghost use Rattle.run_trace.specs.Places.{best, is_listed};
 ghost use Rattle.run_trace.specs.Rules.{spots_of};
-ghost use Rattle.run_trace.specs.Same.{HasLivedLike, HasWritten, lived};
+ghost use Rattle.run_trace.specs.Same.{HasEnded, HasLivedLike, HasWritten, lived};
 ghost use Rattle.run_trace.specs.Spots.{On, Spots, Stage, at_first};
+ghost use Rattle.run_trace.specs.Obeying.{KeepsRules, may_act, Starts};
 ghost use Rattle.run_trace.specs.Stands.{Stands};
 ghost use Rattle.run_trace.specs.Trace.{IsRun, entry_of, events_of, Fits, net_after_trace};
+ghost use Rattle.run_trace.specs.World.{World};
+ghost use Rattle.trace_laws.specs.Headings.{heading};
+ghost use Rattle.trace_laws.specs.Obeys.{world_at};
+ghost use Rattle.run_trace.specs.Telling.{first_world, world_of};
+ghost use Rattle.run_trace.specs.Items.{Item};
 
 /// Whatever local runs are merged: in the order of stamps they are one run of the cluster.
 pub fn merged()
@@ -64,9 +77,27 @@ pub fn legal()
     ensures console { (p : Program) (old : Spots) (base : Net) → Stands p old base → (lines : List Entry) → IsRun p base lines → printed (events_of p base lines) ≡ console_of p old lines }
 {}
 
-/// Order, beginnings, rounds and the run give the whole of legality: for one sequence of events, and for nodes side by side.
+/// The rules leave nothing free: two traces that keep them, after the same past, and that have the same stamps, nodes, rounds and
+/// acts, are one trace.
+pub fn one_trace()
+    ensures { (p : Program) (old : World) (xs ys : List Entry) → map heading xs ≡ map heading ys → KeepsRules p old xs → KeepsRules p old ys → xs ≡ ys }
+{}
+
+/// The rules and the machine are two definitions of one thing; and a trace that keeps the rules goes on with each act that may be.
+pub fn rules_and_machine()
+    ensures same { (p : Program) (old : Spots) (base : Net) → Stands p old base → (lines : List Entry) → KeepsRules p (world_at old base) lines ↔ IsRun p base lines }
+    ensures goes_on { (p : Program) (old : Spots) (base : Net) → Stands p old base → (lines : List Entry) → KeepsRules p (world_at old base) lines → (stamp n round : ℕ) (a : Act) (to_do : List Item) → may_act p n ((world_of p (world_at old base) lines).begun n) a ≡ true → Starts p stamp n a (world_of p (world_at old base) lines) to_do → (ls : List Label) × KeepsRules p (world_at old base) ((record { stamp = stamp; node = n; round = round; act = a; labels = ls }) ∷ lines) }
+{}
+
+/// After a run nodes and links are exactly what the labels tell.
+pub fn told()
+    ensures { (p : Program) (old : Spots) (base : Net) → Stands p old base → (lines : List Entry) → IsRun p base lines → IsTold p (world_of p (world_at old base) lines) (net_after_trace p base lines) }
+{}
+
+/// Order, beginnings and rounds, with the run or with the rules, give the whole of legality: for one sequence of events, and for nodes side by side.
 pub fn whole()
     ensures sequential { (p : Program) (lines : List Entry) → IsInOrder lines → Begins p lines → AreRising lines → IsRun p (fresh_net p) lines → Legal p lines }
+    ensures by_rules { (p : Program) (lines : List Entry) → IsInOrder lines → Begins p lines → AreRising lines → KeepsRules p (first_world p) lines → Legal p lines }
     ensures side_by_side { (p : Program) (lines : List Entry) (histories : ℕ → List Event) → Begins p lines → AreRising lines → Joins p (fresh_net p) lines histories → Legal p lines }
 {}
 
@@ -85,10 +116,11 @@ pub fn alone()
 /// No thread can tell where it is, who it is or what has moved, but by asking: in two legal traces of one image, whatever their
 /// nodes, slots, order, preemptions and moves, two threads that were born the same, were given the same slots and the same
 /// replies, and have done as many instructions have the same registers, bytes and blocks, wherever they are, and have written
-/// the same lines.
+/// the same lines; and if both have ended, they have ended the same way.
 pub fn same_wherever()
     ensures guest { (p q : Program) (xs ys : List Entry) → Legal p xs → Legal q ys → code_of p ≡ code_of q → (t u : Tid) → HasLivedLike (lived t xs) (lived u ys) → (a b : Place) (g h : Guest) → IsAt (net_after_trace p (fresh_net p) xs) a t g → IsAt (net_after_trace q (fresh_net q) ys) b u h → g.solo ≡ h.solo }
     ensures lines { (p q : Program) (xs ys : List Entry) → Legal p xs → Legal q ys → code_of p ≡ code_of q → (t u : Tid) → HasLivedLike (lived t xs) (lived u ys) → (before : List (List ℕ)) × (next : List ℕ) × HasWritten p xs t before next × HasWritten q ys u before next }
+    ensures ends { (p q : Program) (xs ys : List Entry) → Legal p xs → Legal q ys → code_of p ≡ code_of q → (t u : Tid) → HasLivedLike (lived t xs) (lived u ys) → (e f : End) → HasEnded ((spots_of p (at_first p) xs).threads t).life e → HasEnded ((spots_of q (at_first q) ys).threads u).life f → e ≡ f }
 {}
 
 /// What does a run's steps and stops by a run's reason is the run that the machine makes.
@@ -105,6 +137,12 @@ pub fn begun()
 /// No packet that a run takes is a stray.
 pub fn expected()
     ensures { (p : Program) (old : Spots) (base : Net) → Stands p old base → (lines : List Entry) → IsRun p base lines → AllExpected p base lines }
+{}
+
+/// A packet that a node doesn't expect, or whose stamp no trace reaches, changes nothing, says nothing and sends nothing.
+pub fn ignored()
+    ensures stray { (p : Program) (me from : ℕ) (s : Local) (packet : Packet) → is_range p me s (Take from) ≡ true → is_stray p me s packet.body ≡ true → local_event p me s (Take from) (Some packet) ≡ Some (nothing s) }
+    ensures beyond { (p : Program) (me : ℕ) (s : Local) (act : Act) (packet : Packet) → stamp_limit ≤ packet.stamp → turn_event p me s act (Some packet) ≡ Some (nothing s) }
 {}
 
 /// Where no thread is on a run list, nothing is under way and no node has halted, a thread that lives makes the trace stuck:

@@ -1,5 +1,5 @@
-use Rattle.trace_laws.proofs.Wholes.{whole, joined_whole}
+use Rattle.trace_laws.proofs.Legals.{whole, whole_by_rules, joined_whole}
 use Rattle.trace_laws.proofs.laws.whole.Goals as goal
 
 pub returns : goal.returns
-returns c = record { sequential = whole; side_by_side = joined_whole }
+returns c = record { sequential = whole; by_rules = whole_by_rules; side_by_side = joined_whole }

@@ -1,7 +1,7 @@
 use Rattle.std.proofs.Common.{◌≡◌, ℕ, ◌<◌, refl, sym, ap, ◌∙◌, subst, Bool, true, false, [], List, Some, None, Option, get_or, length}
 use Rattle.std.specs.List.{position, remove}
 use Rattle.std.proofs.lemmas.List.Quantifiers.{position-Some}
-use Rattle.run_trace.specs.Cluster.{first_of}
+use Rattle.run_trace.specs.Links.{first_of}
 use Rattle.run_judge.specs.declared.flights.Flight.{Flight}
 use Rattle.run_judge.specs.Links.{is_on, link_of}
 use Rattle.run_judge.specs.Nets.{LeftBy}

@@ -1,0 +1,106 @@
+-- A legal trace by its labels alone: what each entry must be, after what the trace before it tells. No machine is named.
+use Rattle.std.specs.Prelude.{◌≡◌, ◌<◌, ◌≤◌, length, ℕ, List, [], ◌∷◌, ◌++◌, if◌then◌else◌, Option, Some, None, Bool, true, false, ◌==◌, ◌&&◌, not, nat_lt, nat_le, ⊤}
+use Rattle.slot_space.specs.declared.names.Tid.{Tid}
+use Rattle.run_trace.specs.declared.entry.Act.{Act}
+use Rattle.run_trace.specs.declared.entry.Act.TheVariants.{Boot, Run, Take, Move}
+use Rattle.run_trace.specs.declared.entry.Entry.{Entry}
+use Rattle.run_trace.specs.declared.label.Label.{Label}
+use Rattle.run_trace.specs.declared.label.Label.TheVariants.{Born, Ran, Left}
+use Rattle.run_trace.specs.declared.label.Why.TheVariants as why
+use Rattle.run_trace.specs.declared.packet.Packet.{Packet}
+use Rattle.run_trace.specs.Names.{tid, is_tid}
+use Rattle.run_trace.specs.Program.{Program, nodes_of, processors_of, quantum_limit}
+use Rattle.rv_step.specs.declared.hart.Stop.{Stop}
+use Rattle.run_trace.specs.Guests.{stack_end}
+use Rattle.run_trace.specs.Spots.{Spots}
+use Rattle.run_trace.specs.Rules.{SoloRule, HoldersRule, LifeRule, RepliesRule, GrantsRule, Occasion, saying, lowest_free}
+use Rattle.run_trace.specs.World.{Listed, World, world_after}
+use Rattle.run_trace.specs.Items.{Runs, Sends, past_sends, for_packet, is_busy_with, doer, Item, Says, Does, to_do_after}
+use Rattle.run_trace.specs.Links.{first_of, taken_packet}
+use Rattle.run_trace.specs.Telling.{world_of}
+
+-- ## Acts that are possible
+
+abbrev pub may_act : Program → (n : ℕ) → (begun : Bool) → Act → Bool
+may_act p n begun Boot = nat_lt n (nodes_of p) && not begun
+may_act p n begun (Run vp quantum) =
+    nat_lt n (nodes_of p) && (begun && (nat_lt vp (processors_of p) && (nat_lt 0 quantum && nat_le quantum quantum_limit)))
+may_act p n begun (Take from) = nat_lt n (nodes_of p) && (begun && nat_lt from (nodes_of p))
+may_act p n begun (Move t to) = nat_lt n (nodes_of p) && (begun && (nat_lt to (nodes_of p) && not (to == n)))
+
+-- ## Who runs: the first of those with the greatest priority
+
+abbrev pub AllBelow : ℕ → List Listed → Type 0
+AllBelow k [] = ⊤
+AllBelow k (x ∷ xs) = (x.priority < k) × AllBelow k xs
+
+abbrev pub AllUpTo : ℕ → List Listed → Type 0
+AllUpTo k [] = ⊤
+AllUpTo k (x ∷ xs) = (x.priority ≤ k) × AllUpTo k xs
+
+pub record IsPicked (x : Listed) (xs : List Listed) : Type 0 where
+  pub before : List Listed
+  pub after : List Listed
+  pub is : xs ≡ before ++ x ∷ after
+  pub first : AllBelow x.priority before
+  pub greatest : AllUpTo x.priority after
+
+abbrev pub is_on_list : Tid → List Listed → Bool
+is_on_list t [] = false
+is_on_list t (x ∷ xs) = if is_tid t x.tid then true else is_on_list t xs
+
+-- ## How an entry begins, by its act
+
+-- the birth of the main thread, where the node has a slot
+abbrev pub first_birth : Program → ℕ → Option ℕ → Spots → List Item
+first_birth p n None w = []
+first_birth p n (Some slot) w = Says (Born (tid n (length (w.births n))) why.Main p.image.main 0 0 (stack_end slot) slot) ∷ []
+
+-- node 0 begins with the main thread; the first of the run list runs; the first packet of the link is taken, which was sent before;
+-- a thread that is sent away is on the run list
+abbrev pub Starts : Program → (stamp n : ℕ) → Act → World → List Item → Type 0
+Starts p stamp n Boot w hand = hand ≡ (if n == 0 then first_birth p n (lowest_free n 1 w.spots) w.spots else [])
+Starts p stamp n (Run vp quantum) w hand = (x : Listed) × IsPicked x (w.lists n) × (hand ≡ Runs x.tid vp ∷ [])
+Starts p stamp n (Take from) w hand = (x : Packet) × (first_of (w.links from n) ≡ Some x) × (x.stamp < stamp) × (hand ≡ for_packet n x.body)
+Starts p stamp n (Move t to) w hand = (is_on_list t (w.lists n) ≡ true) × (hand ≡ Says (Left t to) ∷ [])
+
+-- ## How it goes on: each label is what is to be done next, until there is nothing to do
+
+-- each rule, of one label
+pub record Allows (p : Program) (o : Occasion) (n : ℕ) (l : Label) (w : World) : Type 0 where
+  pub solo : SoloRule p o n l w
+  pub holders : HoldersRule p o n l w
+  pub life : LifeRule p o n l w
+  pub replies : RepliesRule p o n l w
+  pub grants : GrantsRule p o n l w
+
+abbrev pub IsBy : ℕ → Label → Spots → Item → Type 0
+IsBy n l w (Sends to body) = ⊥
+IsBy n l w (Says m) = l ≡ m
+IsBy n l w (Runs t vp) = (count : ℕ) × (stop : Stop) × (l ≡ Ran t vp count stop)
+IsBy n l w (Does s) = (doer l ≡ Some s) × (is_busy_with n s w ≡ true)
+
+abbrev pub IsNext : ℕ → Label → Spots → List Item → Type 0
+IsNext n l w [] = ⊥
+IsNext n l w (i ∷ is) = IsBy n l w i
+
+abbrev pub GoesOn : Program → Occasion → (n : ℕ) → List Label → World → List Item → Type 0
+GoesOn p o n [] w hand = past_sends hand ≡ []
+GoesOn p o n (l ∷ ls) w hand =
+    IsNext n l w.spots (past_sends hand) × Allows p o n l w
+    × GoesOn p (saying l o) n ls (world_after p n l w) (to_do_after p n l w.spots (past_sends hand))
+
+-- ## An entry, and a trace
+
+abbrev pub occasion : Entry → World → Occasion
+occasion x w = record { act = x.act; took = taken_packet x.node x.act w.links; said = [] }
+
+pub record IsEntry (p : Program) (w : World) (x : Entry) : Type 0 where
+  pub may : may_act p x.node (w.begun x.node) x.act ≡ true
+  pub to_do : List Item
+  pub starts : Starts p x.stamp x.node x.act w to_do
+  pub goes : GoesOn p (occasion x w) x.node x.labels w to_do
+
+abbrev pub KeepsRules : Program → World → List Entry → Type 0
+KeepsRules p old [] = ⊤
+KeepsRules p old (x ∷ xs) = KeepsRules p old xs × IsEntry p (world_of p old xs) x

@@ -1,0 +1,26 @@
+-- What a trace tells: what its labels tell, entry by entry.
+use Rattle.std.specs.Prelude.{List, [], ◌∷◌, ◌++◌, true, false, ◌==◌, if◌then◌else◌}
+use Rattle.run_trace.specs.declared.entry.Entry.{Entry}
+use Rattle.run_trace.specs.Program.{Program}
+use Rattle.run_trace.specs.Spots.{after_labels, at_first}
+use Rattle.run_trace.specs.Links.{left_after, packets_to}
+use Rattle.run_trace.specs.World.{World, list_after_all}
+use Rattle.run_trace.specs.Items.{taken_items, all_sent}
+
+abbrev pub after_entry : Program → Entry → World → World
+after_entry p x w = record {
+  spots = after_labels p x.node x.labels w.spots;
+  lists = λ m. if x.node == m then list_after_all p x.node x.labels w.spots (w.lists m) else w.lists m;
+  links = λ i j. (if x.node == j then left_after i x.act (w.links i j) else w.links i j)
+      ++ (if x.node == i then packets_to j x.stamp (all_sent p x.node x.labels w.spots (taken_items x.node x.act w.links)) else []);
+  begun = λ m. if x.node == m then true else w.begun m;
+}
+
+-- newest entry first, after what was told of old
+abbrev pub world_of : Program → World → List Entry → World
+world_of p old [] = old
+world_of p old (x ∷ xs) = after_entry p x (world_of p old xs)
+
+-- before the first entry
+abbrev pub first_world : Program → World
+first_world p = record { spots = at_first p; lists = λ n. []; links = λ i j. []; begun = λ n. false }

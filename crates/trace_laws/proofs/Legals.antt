@@ -1,0 +1,68 @@
+-- A legal trace, from a run or from its labels alone.
+use Rattle.std.proofs.Common.{ℕ, List, ap, subst, ◌≡◌, ◌∷◌, true, sym}
+use Rattle.std.specs.Prelude.{◌↔◌}
+use Rattle.run_trace.specs.declared.entry.Act.{Act}
+use Rattle.run_trace.specs.declared.entry.Entry.{Entry}
+use Rattle.run_trace.specs.declared.label.Label.{Label}
+use Rattle.run_trace.specs.Program.{Program}
+use Rattle.run_trace.specs.Cluster.{Event, Net, fresh_net}
+use Rattle.run_trace.specs.Trace.{IsRun, net_after_trace}
+use Rattle.run_trace.specs.Histories.{IsInOrder, Joins}
+use Rattle.run_trace.specs.Spots.{Spots, at_first}
+use Rattle.run_trace.specs.Rules.{spots_of}
+use Rattle.run_trace.specs.Stands.{Stands}
+use Rattle.run_trace.specs.World.{World}
+use Rattle.run_trace.specs.Items.{Item}
+use Rattle.run_trace.specs.Obeying.{may_act, Starts, IsEntry, KeepsRules}
+use Rattle.run_trace.specs.Holding.{EachHeldOnce}
+use Rattle.run_trace.specs.Alone.{EachRunsAlone}
+use Rattle.run_trace.specs.Legality.{Begins, AreRising, IsTold, Legal}
+use Rattle.trace_laws.specs.Obeys.{world_at}
+use Rattle.trace_laws.proofs.Weave.{joined}
+use Rattle.trace_laws.proofs.Wholes.{starts, run_whole, after_each, alone_after_run, held_once_after_run}
+use Rattle.trace_laws.proofs.Entries.{has_entry, Tells, run_keeps, rules_run}
+use Rattle.run_trace.specs.Telling.{world_of, first_world}
+
+pub rules_are_runs : (p : Program) (old : Spots) (base : Net) → Stands p old base → (lines : List Entry) → KeepsRules p (world_at old base) lines ↔ IsRun p base lines
+rules_are_runs p old base s lines = (λ t. rules_run p old base s lines t, λ r. (run_keeps p old base s lines r).tale)
+
+-- a trace goes on with each act that may be
+pub rules_go_on : (p : Program) (old : Spots) (base : Net) → Stands p old base → (lines : List Entry) → KeepsRules p (world_at old base) lines → (stamp n round : ℕ) (a : Act) (hand : List Item)
+    → may_act p n ((world_of p (world_at old base) lines).begun n) a ≡ true → Starts p stamp n a (world_of p (world_at old base) lines) hand
+    → (ls : List Label) × KeepsRules p (world_at old base) ((record { stamp = stamp; node = n; round = round; act = a; labels = ls }) ∷ lines)
+rules_go_on p old base s lines t stamp n round a hand may o =
+    let r : IsRun p base lines = rules_run p old base s lines t in
+    let told : Tells p old base lines = run_keeps p old base s lines r in
+    let one = has_entry p (spots_of p old lines) (net_after_trace p base lines) (run_whole p old base s lines r).stands stamp n round a hand
+    (subst (λ (z : World). may_act p n (z.begun n) a ≡ true) (sym told.same) may) (subst (λ z. Starts p stamp n a z hand) (sym told.same) o) in
+    (one.0, (t, subst (λ z. IsEntry p z (record { stamp = stamp; node = n; round = round; act = a; labels = one.0 })) told.same one.1))
+
+-- nodes and links are what the labels tell
+pub told_after : (p : Program) (old : Spots) (base : Net) → Stands p old base → (lines : List Entry) → IsRun p base lines → IsTold p (world_of p (world_at old base) lines) (net_after_trace p base lines)
+told_after p old base s lines r =
+    let t : Tells p old base lines = run_keeps p old base s lines r in
+    record {
+      stands = subst (λ (z : World). Stands p z.spots (net_after_trace p base lines)) t.same (run_whole p old base s lines r).stands;
+      lists = λ n. ap (λ (z : World). z.lists n) t.same;
+      links = λ i j. ap (λ (z : World). z.links i j) t.same;
+      begun = λ n. ap (λ (z : World). z.begun n) t.same;
+    }
+
+pub whole : (p : Program) (lines : List Entry) → IsInOrder lines → Begins p lines → AreRising lines → IsRun p (fresh_net p) lines → Legal p lines
+whole p lines order begins rounds runs = record {
+  order = order;
+  begins = begins;
+  rounds = rounds;
+  rules = (rules_are_runs p (at_first p) (fresh_net p) (starts p) lines).1 runs;
+  runs = runs;
+  stands = after_each (λ net xs. IsTold p (world_of p (first_world p) xs) net) p (λ xs r. told_after p (at_first p) (fresh_net p) (starts p) xs r) lines runs;
+  alone = after_each (EachRunsAlone p) p (alone_after_run p) lines runs;
+  one_holder = after_each (λ net xs. EachHeldOnce net) p (held_once_after_run p) lines runs;
+}
+
+-- by the labels alone
+pub whole_by_rules : (p : Program) (lines : List Entry) → IsInOrder lines → Begins p lines → AreRising lines → KeepsRules p (first_world p) lines → Legal p lines
+whole_by_rules p lines order begins rounds tale = whole p lines order begins rounds ((rules_are_runs p (at_first p) (fresh_net p) (starts p) lines).0 tale)
+
+pub joined_whole : (p : Program) (lines : List Entry) (h : ℕ → List Event) → Begins p lines → AreRising lines → Joins p (fresh_net p) lines h → Legal p lines
+joined_whole p lines h begins rounds j = whole p lines j.order begins rounds (joined p (fresh_net p) lines h j).legal

@@ -1,0 +1,88 @@
+-- Consequences of a run, said of the machine's nets: who was picked, what was sent, that nothing is left open.
+use Rattle.std.specs.Prelude.{◌≡◌, ℕ, List, [], ◌∷◌, ◌++◌, true, false, ⊤, map}
+use Rattle.run_trace.specs.declared.packet.Send.{Send}
+use Rattle.slot_space.specs.declared.names.Tid.{Tid}
+use Rattle.rv_step.specs.declared.hart.Stop.{Stop}
+use Rattle.run_trace.specs.declared.entry.Act.{Act}
+use Rattle.run_trace.specs.declared.entry.Act.TheVariants.{Boot, Run, Take, Move}
+use Rattle.run_trace.specs.declared.entry.Entry.{Entry}
+use Rattle.run_trace.specs.declared.label.Label.{Label}
+use Rattle.run_trace.specs.declared.label.Label.TheVariants.{Ran, Left}
+use Rattle.run_trace.specs.declared.node.Row.{Row}
+use Rattle.run_trace.specs.Program.{Program}
+use Rattle.run_trace.specs.Places.{IsBest, is_listed}
+use Rattle.run_trace.specs.Cluster.{Net}
+use Rattle.run_trace.specs.Trace.{net_after_trace, sends_or, done_for}
+use Rattle.run_trace.specs.Spots.{Life, Spots, after_label}
+use Rattle.run_trace.specs.Items.{is_busy}
+use Rattle.run_trace.specs.Stands.{listed}
+use Rattle.run_trace.specs.World.{World, world_after}
+use Rattle.run_trace.specs.Causes.{causes}
+use Rattle.run_trace.specs.Obeying.{occasion}
+use Rattle.run_trace.specs.Rules.{Rule, Occasion, saying, SoloRule, HoldersRule, LifeRule, RepliesRule, GrantsRule, spots_of}
+
+-- ## Picks: the best of the run list runs; a thread that is sent away is on it
+
+abbrev pub RunsFirst : Tid → ℕ → List Label → Type 0
+RunsFirst t vp labels = (count : ℕ) × (stop : Stop) × (more : List Label) × (labels ≡ Ran t vp count stop ∷ more)
+
+abbrev pub PicksBest : Act → List Row → List Label → Type 0
+PicksBest (Run vp quantum) rows labels = (r : Row) × IsBest r rows × RunsFirst r.tid vp labels
+PicksBest Boot rows labels = ⊤
+PicksBest (Take from) rows labels = ⊤
+PicksBest (Move t to) rows labels = (is_listed t rows ≡ true) × (labels ≡ Left t to ∷ [])
+
+abbrev pub Picks : Program → Net → List Entry → Type 0
+Picks p base [] = ⊤
+Picks p base (x ∷ xs) = Picks p base xs × PicksBest x.act ((net_after_trace p base xs).nodes x.node).places.rows x.labels
+
+-- ## Carried: an entry sends what its labels cause, and nothing else
+
+abbrev pub all_causes : Program → ℕ → List Label → Spots → List Send
+all_causes p n [] w = []
+all_causes p n (l ∷ ls) w = causes p n l w ++ all_causes p n ls (after_label p n l w)
+
+abbrev pub Carried : Program → Spots → Net → List Entry → Type 0
+Carried p old base [] = ⊤
+Carried p old base (x ∷ xs) = Carried p old base xs
+    × (sends_or (done_for p (net_after_trace p base xs) x) ≡ all_causes p x.node x.labels (spots_of p old xs))
+
+-- ## Settled: nothing is missing. At the end of an entry no thread is in the midst of a call, a reply or its end
+
+abbrev pub IsSettled : Life → Type 0
+IsSettled life = (n : ℕ) → is_busy n life ≡ false
+
+abbrev pub EachSettled : Program → Spots → List Entry → Type 0
+EachSettled p old [] = ⊤
+EachSettled p old (x ∷ xs) = EachSettled p old xs × ((t : Tid) → IsSettled ((spots_of p old (x ∷ xs)).threads t).life)
+
+-- each label obeys the rule
+abbrev pub ObeyEach : Rule → Program → Occasion → (n : ℕ) → List Label → World → Type 0
+ObeyEach rule p o n [] w = ⊤
+ObeyEach rule p o n (l ∷ ls) w = rule p o n l w × ObeyEach rule p (saying l o) n ls (world_after p n l w)
+
+-- these spots, with the run lists and links of the nodes
+abbrev pub world_at : Spots → Net → World
+world_at w net = record {
+  spots = w;
+  lists = λ n. map listed (net.nodes n).places.rows;
+  links = net.links;
+  begun = λ n. (net.nodes n).booted;
+}
+
+-- each label of a trace obeys the rule, by what was told and what the cluster had come to
+abbrev pub Obey : Rule → Program → Spots → Net → List Entry → Type 0
+Obey rule p old base [] = ⊤
+Obey rule p old base (x ∷ xs) = Obey rule p old base xs
+    × ObeyEach rule p (occasion x (world_at (spots_of p old xs) (net_after_trace p base xs))) x.node x.labels (world_at (spots_of p old xs) (net_after_trace p base xs))
+
+-- the rules, for a trace after what was told of old, of a cluster that had come to base
+pub record ObeysFrom (p : Program) (old : Spots) (base : Net) (lines : List Entry) : Type 0 where
+  pub solo : Obey SoloRule p old base lines
+  pub holders : Obey HoldersRule p old base lines
+  pub life : Obey LifeRule p old base lines
+  pub replies : Obey RepliesRule p old base lines
+  pub grants : Obey GrantsRule p old base lines
+  pub picks : Picks p base lines
+  pub carried : Carried p old base lines
+  pub settled : EachSettled p old lines
