@@ -23,4 +23,5 @@ pub mod Console
 pub mod Outcome
 pub mod Legality
 pub mod Alone
+pub mod Same
 pub mod Holding

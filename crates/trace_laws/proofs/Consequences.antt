@@ -69,14 +69,14 @@ on_node_is n t s x h = by s.life refl h
 
 -- ## Where a thread is, its life and its guest are those that are told
 
-abbrev LivesAt : Place → Life → Type 0
+abbrev pub LivesAt : Place → Life → Type 0
 LivesAt (On_node n) life = (stage : Stage) × (life ≡ On n stage)
 LivesAt (On_link from to) life = life ≡ Moving from to
 
-record Found (place : Place) (s : Spot) (g : Guest) : Type 0 where
-  life : LivesAt place s.life
-  guest : s.guest ≡ g
-  slots : slots_held (held s.life s.guest) ≡ guest_slots g
+pub record Found (place : Place) (s : Spot) (g : Guest) : Type 0 where
+  pub life : LivesAt place s.life
+  pub guest : s.guest ≡ g
+  pub slots : slots_held (held s.life s.guest) ≡ guest_slots g
 
 -- what a packet on a link says stands there
 word_found : (j : ℕ) (ps : List Packet) (body : Body) (t : Tid) → word_subject (word_of j body) ≡ Subject_of t → IsAmong body ps → IsOneOf (word_of j body) (words_about (words_of j ps) (Subject_of t))
@@ -85,7 +85,7 @@ word_found j (x ∷ xs) body t name (inl e) = rw (e, name, is-refl t) (inl refl)
 word_found j (x ∷ xs) body t name (inr k) = elim (same_subject (Subject_of t) (word_subject (word_of j x.body))) as (λ v. IsOneOf (word_of j body) (cond v (word_of j x.body ∷ words_about (words_of j xs) (Subject_of t)) (words_about (words_of j xs) (Subject_of t))))
     [ true ↦ inr (word_found j xs body t name k) | false ↦ word_found j xs body t name k ]
 
-found : (p : Program) (w : Spots) (net : Net) → Stands p w net → (place : Place) (t : Tid) (g : Guest) → IsAt net place t g → Found place (w.threads t) g
+pub found : (p : Program) (w : Spots) (net : Net) → Stands p w net → (place : Place) (t : Tid) (g : Guest) → IsAt net place t g → Found place (w.threads t) g
 found p w net s (On_node n) t g h =
     let on : OnNode n (w.threads t) (waits h.0 g) = on_node_is n t (w.threads t) (waits h.0 g) (sym ((s.nodes n).threads.shows t) ∙ h.1) in
     record { life = (on.stage, on.life); guest = on.guest; slots = on.slots }

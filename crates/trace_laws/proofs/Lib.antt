@@ -31,3 +31,7 @@ pub mod OneTrace
 pub mod Entries
 pub mod Arriving
 pub mod Legals
+pub mod OwnLives
+pub mod OwnLabels
+pub mod SameLives
+pub mod Unexpected

@@ -5,11 +5,12 @@ ghost use Rattle.rv_step.specs.Run.{after, StopsBy};
 ghost use Rattle.rv_step.specs.Step.{State};
 ghost use Rattle.rv_step.specs.declared.hart.Stop.{Stop};
 ghost use Rattle.slot_space.specs.declared.names.Tid.{Tid};
+ghost use Rattle.marcel_core.specs.declared.end.End.{End};
 ghost use Rattle.run_trace.specs.declared.entry.Act.{Act};
 ghost use Rattle.run_trace.specs.declared.entry.Entry.{Entry};
 ghost use Rattle.run_trace.specs.declared.label.Label.{Label};
 ghost use Rattle.run_trace.specs.declared.node.Row.{Row};
-ghost use Rattle.run_trace.specs.Program.{Program, nodes_of};
+ghost use Rattle.run_trace.specs.Program.{Program, code_of, nodes_of};
 ghost use Rattle.trace_laws.specs.Beginnings.{BeginsSo};
 ghost use Rattle.trace_laws.specs.Gathers.{events_in, Gathers};
 ghost use Rattle.trace_laws.specs.Strays.{AllExpected};
@@ -21,10 +22,14 @@ ghost use Rattle.run_trace.specs.Histories.{IsInOrder, Joins, taken_from, sent_t
 ghost use Rattle.run_trace.specs.Holding.{EachHeldOnce, IsAt, IsOn, Place};
 ghost use Rattle.trace_laws.specs.Obeys.{ObeysFrom};
 ghost use Rattle.run_trace.specs.Legality.{AreRising, Begins, boot_entries, IsTold, Legal};
-ghost use Rattle.run_trace.specs.Local.{fresh};
+ghost use Rattle.run_trace.specs.Local.{Local, fresh, nothing};
+ghost use Rattle.run_trace.specs.Machine.{is_range, is_stray, local_event, stamp_limit, turn_event};
+ghost use Rattle.run_trace.specs.declared.packet.Packet.{Packet};
+ghost use Rattle.run_trace.specs.declared.entry.Act.TheVariants.{Take};
 ghost use Rattle.run_trace.specs.Outcome.{AllLinksEmpty, IsStuck, Lives};
 ghost use Rattle.run_trace.specs.Places.{best, is_listed};
 ghost use Rattle.run_trace.specs.Rules.{spots_of};
+ghost use Rattle.run_trace.specs.Same.{HasEnded, HasLivedLike, HasWritten, lived};
 ghost use Rattle.run_trace.specs.Spots.{On, Spots, Stage, at_first};
 ghost use Rattle.run_trace.specs.Obeying.{KeepsRules, may_act, Starts};
 ghost use Rattle.run_trace.specs.Stands.{Stands};
@@ -108,6 +113,16 @@ pub fn alone()
     ensures { (p : Program) (lines : List Entry) → Legal p lines → EachRunsAlone p (net_after_trace p (fresh_net p) lines) lines }
 {}
 
+/// No thread can tell where it is, who it is or what has moved, but by asking: in two legal traces of one image, whatever their
+/// nodes, slots, order, preemptions and moves, two threads that were born the same, were given the same slots and the same
+/// replies, and have done as many instructions have the same registers, bytes and blocks, wherever they are, and have written
+/// the same lines; and if both have ended, they have ended the same way.
+pub fn same_wherever()
+    ensures guest { (p q : Program) (xs ys : List Entry) → Legal p xs → Legal q ys → code_of p ≡ code_of q → (t u : Tid) → HasLivedLike (lived t xs) (lived u ys) → (a b : Place) (g h : Guest) → IsAt (net_after_trace p (fresh_net p) xs) a t g → IsAt (net_after_trace q (fresh_net q) ys) b u h → g.solo ≡ h.solo }
+    ensures lines { (p q : Program) (xs ys : List Entry) → Legal p xs → Legal q ys → code_of p ≡ code_of q → (t u : Tid) → HasLivedLike (lived t xs) (lived u ys) → (before : List (List ℕ)) × (next : List ℕ) × HasWritten p xs t before next × HasWritten q ys u before next }
+    ensures ends { (p q : Program) (xs ys : List Entry) → Legal p xs → Legal q ys → code_of p ≡ code_of q → (t u : Tid) → HasLivedLike (lived t xs) (lived u ys) → (e f : End) → HasEnded ((spots_of p (at_first p) xs).threads t).life e → HasEnded ((spots_of q (at_first q) ys).threads u).life f → e ≡ f }
+{}
+
 /// What does a run's steps and stops by a run's reason is the run that the machine makes.
 pub fn ran()
     ensures { (image : List ℕ) (quantum count : ℕ) (s new : State) (stop : Stop) → after image s count ≡ Some new → StopsBy image new quantum count stop → run_of image quantum s ≡ record { count = count; stop = stop; state = new } }
@@ -122,6 +137,12 @@ pub fn begun()
 /// No packet that a run takes is a stray.
 pub fn expected()
     ensures { (p : Program) (old : Spots) (base : Net) → Stands p old base → (lines : List Entry) → IsRun p base lines → AllExpected p base lines }
+{}
+
+/// A packet that a node doesn't expect, or whose stamp no trace reaches, changes nothing, says nothing and sends nothing.
+pub fn ignored()
+    ensures stray { (p : Program) (me from : ℕ) (s : Local) (packet : Packet) → is_range p me s (Take from) ≡ true → is_stray p me s packet.body ≡ true → local_event p me s (Take from) (Some packet) ≡ Some (nothing s) }
+    ensures beyond { (p : Program) (me : ℕ) (s : Local) (act : Act) (packet : Packet) → stamp_limit ≤ packet.stamp → turn_event p me s act (Some packet) ≡ Some (nothing s) }
 {}
 
 /// Where no thread is on a run list, nothing is under way and no node has halted, a thread that lives makes the trace stuck:
