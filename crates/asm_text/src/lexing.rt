@@ -10,7 +10,7 @@ use crate::words::is_name_byte;
 use std::alloc::{AllocError, Global};
 
 /// What a byte is outside quotes.
-#[derive(Clone, Copy, Debug, PartialEq, Eq)]
+#[derive(Clone, Copy)]
 pub enum Class {
     Blank,
     Word,
@@ -21,7 +21,7 @@ pub enum Class {
 }
 
 /// A token of a line.
-#[derive(Debug, Drop)]
+#[derive(Drop)]
 pub enum Token<'a> {
     /// A minus or none, and letters, digits, `_` and `.`, as many as stand together.
     Word(&'a [u8]),

@@ -14,6 +14,3 @@ pub use reading::{Line, Reading, read_line};
 pub use slots::What;
 pub use source::read_source;
 pub use statements::{Statement, Value, Width};
-
-#[cfg(test)]
-mod tests;

@@ -17,7 +17,7 @@ use basics::NoMemory;
 use std::alloc::Global;
 
 /// What a line says.
-#[derive(Debug, Drop)]
+#[derive(Drop)]
 pub struct Line<'s> {
     pub label: Option<&'s [u8]>,
     pub statement: Option<Statement<'s>>,

@@ -114,37 +114,18 @@ fn read_slot<'s, 't>(
     ensures value { seen fields_seen result ≡ read_slot slot (token_of token.now) (fields_seen fields.entry) }
     ensures bulk { IfOk result (λ f. bulk (fields_seen f) ≤ bulk (fields_seen fields.entry) + span (token_of token.now)) }
 {
+    let mut fields = fields;
     match slot {
-        Slot::Rd => Ok(Fields {
-            rd: register_in(token)?,
-            ..fields
-        }),
-        Slot::Rs1 => Ok(Fields {
-            rs1: register_in(token)?,
-            ..fields
-        }),
-        Slot::Rs2 => Ok(Fields {
-            rs2: register_in(token)?,
-            ..fields
-        }),
-        Slot::Mark(mark) => {
-            mark_in(token, mark)?;
-            Ok(fields)
-        }
-        Slot::Number(below, above) => Ok(Fields {
-            number: number_in(token, below, above)?,
-            ..fields
-        }),
-        Slot::Label => Ok(Fields {
-            label: label_in(token)?,
-            ..fields
-        }),
-        Slot::Values(_, _, _) => Err(What::Form),
-        Slot::Text => Ok(Fields {
-            text: text_in(token)?,
-            ..fields
-        }),
+        Slot::Rd => fields.rd = register_in(token)?,
+        Slot::Rs1 => fields.rs1 = register_in(token)?,
+        Slot::Rs2 => fields.rs2 = register_in(token)?,
+        Slot::Mark(mark) => mark_in(token, mark)?,
+        Slot::Number(below, above) => fields.number = number_in(token, below, above)?,
+        Slot::Label => fields.label = label_in(token)?,
+        Slot::Text => fields.text = text_in(token)?,
+        Slot::Values(_, _, _) => return Err(What::Form),
     }
+    Ok(fields)
 }
 
 fn is_comma(token: &Token<'_>) -> bool

@@ -14,7 +14,7 @@ use rv_inst::{BranchOp, ImmOp, Inst, LoadOp, Reg, RegOp, ShiftOp, StoreOp};
 use std::alloc::Global;
 
 /// How many bytes a value has.
-#[derive(Clone, Copy, Debug, PartialEq, Eq)]
+#[derive(Clone, Copy)]
 pub enum Width {
     Byte,
     Word,
@@ -22,7 +22,7 @@ pub enum Width {
 }
 
 /// A value of a directive.
-#[derive(Clone, Copy, Debug, PartialEq, Eq)]
+#[derive(Clone, Copy)]
 pub enum Value<'s> {
     /// A number's low 64 bits.
     Number(u64),
@@ -31,7 +31,7 @@ pub enum Value<'s> {
 }
 
 /// A statement.
-#[derive(Debug, Drop)]
+#[derive(Drop)]
 pub enum Statement<'s> {
     /// An instruction that names no label.
     Plain(Inst),
@@ -76,7 +76,7 @@ pub enum Statement<'s> {
 }
 
 /// What is made of the fields of a row.
-#[derive(Clone, Copy, Debug, PartialEq, Eq)]
+#[derive(Clone, Copy)]
 pub enum Make {
     Lui,
     Auipc,

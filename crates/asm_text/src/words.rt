@@ -6,7 +6,7 @@ ghost use Rattle.std.specs.Char.{digit_value};
 ghost use Rattle.asm_text.specs.Words.{is_name, is_name_byte, capped_value, are_digits, digits_number, number_of, unsigned_number, in_range, bits_of, register_among, registers, name_and_number, capped};
 
 /// A number as it is written.
-#[derive(Clone, Copy, Debug, PartialEq, Eq)]
+#[derive(Clone, Copy)]
 pub struct Number {
     pub negative: bool,
     /// Nothing from 2^64 on.

@@ -5,42 +5,24 @@ ghost use Rattle.std.specs.Prelude.{◌≡◌};
 use asm_text::What;
 use basics::NoMemory;
 use std::alloc::AllocError;
-use thiserror::Error;
 
 /// Why a source has no image.
-#[derive(Clone, Copy, Debug, PartialEq, Eq, Error)]
+#[derive(Clone, Copy, Debug, PartialEq, Eq)]
 pub enum AsmError {
     /// A line that isn't of the grammar, or an instruction or a service at no multiple of 4.
-    #[error("line {line}: {}", text_of(*what))]
     BadLine { line: u32, what: What },
     /// A label or a service that an earlier line gives.
-    #[error("line {line}: defined twice")]
     Twice { line: u32 },
     /// A label that no line gives.
-    #[error("line {line}: unknown label")]
     Unknown { line: u32 },
     /// A branch or a jump that doesn't reach its label.
-    #[error("line {line}: target out of reach")]
     FarTarget { line: u32 },
     /// No label `main` at a multiple of 4.
-    #[error("no main")]
     NoMain,
     /// A source or an image of more than 1,048,576 bytes.
-    #[error("image too long")]
     TooLong,
     /// There was not enough memory.
-    #[error("out of memory")]
     NoMemory,
-}
-
-/// What a line lacks, in words.
-fn text_of(what: What) -> &'static str {
-    match what {
-        What::Form => "bad form",
-        What::Name => "bad name",
-        What::Range => "out of range",
-        What::Place => "bad place",
-    }
 }
 
 impl From<NoMemory> for AsmError {

@@ -9,14 +9,14 @@ use std::alloc::AllocError;
 use std::collections::BTreeMap;
 
 /// The line that gives a label, and its address.
-#[derive(Clone, Copy, Debug, PartialEq, Eq)]
+#[derive(Clone, Copy)]
 pub struct Mark {
     pub line: u32,
     pub address: u64,
 }
 
 /// The line that gives a service, and its label.
-#[derive(Clone, Copy, Debug, PartialEq, Eq)]
+#[derive(Clone, Copy)]
 pub struct Service<'s> {
     pub line: u32,
     pub label: &'s [u8],

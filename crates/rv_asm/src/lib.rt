@@ -14,6 +14,3 @@ pub use asm_list::list;
 pub use asm_text::What;
 pub use assembling::assemble;
 pub use error::AsmError;
-
-#[cfg(test)]
-mod tests;
