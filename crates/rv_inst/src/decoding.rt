@@ -12,124 +12,211 @@ use crate::fields::{
 use crate::inst::{ImmOp, Inst};
 use crate::rows::{branch_op, imm_op, load_op, reg_op, shift_op, store_op};
 
-/// The instruction of the word, by its opcode, funct3 and funct7.
+/// The instruction of a word of the opcode 0x67.
+#[inline(always)]
+fn jump_by(word: u32) -> Option<Inst>
+    requires { word % 2 ^ 7 ≡ 0x67 }
+    ensures found { IfSome result (λ i. Fits i × (word_of i ≡ word)) }
+    ensures exact { result ≡ inst_of word }
+{
+    if funct3_of(word) != 0 {
+        return None;
+    }
+    Some(Inst::Jalr {
+        rd: rd_of(word),
+        rs1: rs1_of(word),
+        offset: i_offset(word),
+    })
+}
+
+/// The instruction of a word of the opcode 0x63.
+#[inline(always)]
+fn branch(word: u32) -> Option<Inst>
+    requires { word % 2 ^ 7 ≡ 0x63 }
+    ensures found { IfSome result (λ i. Fits i × (word_of i ≡ word)) }
+    ensures exact { result ≡ inst_of word }
+{
+    let op = branch_op(funct3_of(word))?;
+    Some(Inst::Branch {
+        op,
+        rs1: rs1_of(word),
+        rs2: rs2_of(word),
+        offset: b_offset(word),
+    })
+}
+
+/// The instruction of a word of the opcode 0x03.
+#[inline(always)]
+fn load(word: u32) -> Option<Inst>
+    requires { word % 2 ^ 7 ≡ 0x03 }
+    ensures found { IfSome result (λ i. Fits i × (word_of i ≡ word)) }
+    ensures exact { result ≡ inst_of word }
+{
+    let op = load_op(funct3_of(word))?;
+    Some(Inst::Load {
+        op,
+        rd: rd_of(word),
+        rs1: rs1_of(word),
+        offset: i_offset(word),
+    })
+}
+
+/// The instruction of a word of the opcode 0x23.
+#[inline(always)]
+fn store(word: u32) -> Option<Inst>
+    requires { word % 2 ^ 7 ≡ 0x23 }
+    ensures found { IfSome result (λ i. Fits i × (word_of i ≡ word)) }
+    ensures exact { result ≡ inst_of word }
+{
+    let op = store_op(funct3_of(word))?;
+    Some(Inst::Store {
+        op,
+        rs1: rs1_of(word),
+        rs2: rs2_of(word),
+        offset: s_offset(word),
+    })
+}
+
+/// The instruction of a word of the opcode 0x13.
+#[inline(always)]
+fn immediate(word: u32) -> Option<Inst>
+    requires { word % 2 ^ 7 ≡ 0x13 }
+    ensures found { IfSome result (λ i. Fits i × (word_of i ≡ word)) }
+    ensures exact { result ≡ inst_of word }
+{
+    if let Some(op) = imm_op(0x13, funct3_of(word)) {
+        return Some(Inst::Imm {
+            op,
+            rd: rd_of(word),
+            rs1: rs1_of(word),
+            imm: i_offset(word),
+        });
+    }
+    let op = shift_op(0x13, funct3_of(word), funct6_of(word))?;
+    Some(Inst::Shift {
+        op,
+        rd: rd_of(word),
+        rs1: rs1_of(word),
+        amount: shift_amount(word),
+    })
+}
+
+/// The instruction of a word of the opcode 0x1b.
+#[inline(always)]
+fn immediate_w(word: u32) -> Option<Inst>
+    requires { word % 2 ^ 7 ≡ 0x1b }
+    ensures found { IfSome result (λ i. Fits i × (word_of i ≡ word)) }
+    ensures exact { result ≡ inst_of word }
+{
+    if funct3_of(word) == 0 {
+        return Some(Inst::Imm {
+            op: ImmOp::Addiw,
+            rd: rd_of(word),
+            rs1: rs1_of(word),
+            imm: i_offset(word),
+        });
+    }
+    let op = shift_op(0x1b, funct3_of(word), funct7_of(word))?;
+    Some(Inst::Shift {
+        op,
+        rd: rd_of(word),
+        rs1: rs1_of(word),
+        amount: shift_w_amount(word),
+    })
+}
+
+/// The instruction of a word of the opcode 0x33.
+#[inline(always)]
+fn registers(word: u32) -> Option<Inst>
+    requires { word % 2 ^ 7 ≡ 0x33 }
+    ensures found { IfSome result (λ i. Fits i × (word_of i ≡ word)) }
+    ensures exact { result ≡ inst_of word }
+{
+    let op = reg_op(0x33, funct3_of(word), funct7_of(word))?;
+    Some(Inst::Op {
+        op,
+        rd: rd_of(word),
+        rs1: rs1_of(word),
+        rs2: rs2_of(word),
+    })
+}
+
+/// The instruction of a word of the opcode 0x3b.
+#[inline(always)]
+fn registers_w(word: u32) -> Option<Inst>
+    requires { word % 2 ^ 7 ≡ 0x3b }
+    ensures found { IfSome result (λ i. Fits i × (word_of i ≡ word)) }
+    ensures exact { result ≡ inst_of word }
+{
+    let op = reg_op(0x3b, funct3_of(word), funct7_of(word))?;
+    Some(Inst::Op {
+        op,
+        rd: rd_of(word),
+        rs1: rs1_of(word),
+        rs2: rs2_of(word),
+    })
+}
+
+/// The instruction of a word of the opcode 0x0f.
+#[inline(always)]
+fn fence(word: u32) -> Option<Inst>
+    requires { word % 2 ^ 7 ≡ 0x0f }
+    ensures found { IfSome result (λ i. Fits i × (word_of i ≡ word)) }
+    ensures exact { result ≡ inst_of word }
+{
+    if funct3_of(word) != 0 {
+        return None;
+    }
+    Some(Inst::Fence {
+        rd: rd_of(word),
+        rs1: rs1_of(word),
+        bits: fence_bits(word),
+    })
+}
+
+/// The instruction of a word of the opcode 0x73.
+#[inline(always)]
+fn system(word: u32) -> Option<Inst>
+    requires { word % 2 ^ 7 ≡ 0x73 }
+    ensures found { IfSome result (λ i. Fits i × (word_of i ≡ word)) }
+    ensures exact { result ≡ inst_of word }
+{
+    match word {
+        0x0000_0073 => Some(Inst::Ecall),
+        0x0010_0073 => Some(Inst::Ebreak),
+        _ => None,
+    }
+}
+
+/// The instruction of the word, by its opcode.
 #[inline(always)]
 fn decoded(word: u32) -> Option<Inst>
     ensures found { IfSome result (λ i. Fits i × (word_of i ≡ word)) }
     ensures exact { result ≡ inst_of word }
 {
-    let rd = rd_of(word);
-    let rs1 = rs1_of(word);
-    let rs2 = rs2_of(word);
-    let funct3 = funct3_of(word);
-    let funct7 = funct7_of(word);
     match word & 0x7f {
         0x37 => Some(Inst::Lui {
-            rd,
+            rd: rd_of(word),
             imm: u_imm(word),
         }),
         0x17 => Some(Inst::Auipc {
-            rd,
+            rd: rd_of(word),
             imm: u_imm(word),
         }),
         0x6f => Some(Inst::Jal {
-            rd,
+            rd: rd_of(word),
             offset: j_offset(word),
         }),
-        0x67 => {
-            if funct3 != 0 {
-                return None;
-            }
-            Some(Inst::Jalr {
-                rd,
-                rs1,
-                offset: i_offset(word),
-            })
-        }
-        0x63 => {
-            let op = branch_op(funct3)?;
-            Some(Inst::Branch {
-                op,
-                rs1,
-                rs2,
-                offset: b_offset(word),
-            })
-        }
-        0x03 => {
-            let op = load_op(funct3)?;
-            Some(Inst::Load {
-                op,
-                rd,
-                rs1,
-                offset: i_offset(word),
-            })
-        }
-        0x23 => {
-            let op = store_op(funct3)?;
-            Some(Inst::Store {
-                op,
-                rs1,
-                rs2,
-                offset: s_offset(word),
-            })
-        }
-        0x13 => {
-            if let Some(op) = imm_op(0x13, funct3) {
-                return Some(Inst::Imm {
-                    op,
-                    rd,
-                    rs1,
-                    imm: i_offset(word),
-                });
-            }
-            let op = shift_op(0x13, funct3, funct6_of(word))?;
-            Some(Inst::Shift {
-                op,
-                rd,
-                rs1,
-                amount: shift_amount(word),
-            })
-        }
-        0x1b => {
-            if funct3 == 0 {
-                return Some(Inst::Imm {
-                    op: ImmOp::Addiw,
-                    rd,
-                    rs1,
-                    imm: i_offset(word),
-                });
-            }
-            let op = shift_op(0x1b, funct3, funct7)?;
-            Some(Inst::Shift {
-                op,
-                rd,
-                rs1,
-                amount: shift_w_amount(word),
-            })
-        }
-        0x33 => {
-            let op = reg_op(0x33, funct3, funct7)?;
-            Some(Inst::Op { op, rd, rs1, rs2 })
-        }
-        0x3b => {
-            let op = reg_op(0x3b, funct3, funct7)?;
-            Some(Inst::Op { op, rd, rs1, rs2 })
-        }
-        0x0f => {
-            if funct3 != 0 {
-                return None;
-            }
-            Some(Inst::Fence {
-                rd,
-                rs1,
-                bits: fence_bits(word),
-            })
-        }
-        0x73 => match word {
-            0x0000_0073 => Some(Inst::Ecall),
-            0x0010_0073 => Some(Inst::Ebreak),
-            _ => None,
-        },
+        0x67 => jump_by(word),
+        0x63 => branch(word),
+        0x03 => load(word),
+        0x23 => store(word),
+        0x13 => immediate(word),
+        0x1b => immediate_w(word),
+        0x33 => registers(word),
+        0x3b => registers_w(word),
+        0x0f => fence(word),
+        0x73 => system(word),
         _ => None,
     }
 }

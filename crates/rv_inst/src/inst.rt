@@ -115,7 +115,7 @@ pub enum RegOp {
 }
 
 /// One instruction. An offset is in bytes, and counts from the instruction's own address in a jump or branch, else from rs1.
-#[derive(Clone, Copy, PartialEq, Eq, Debug)]
+#[derive(Clone, Copy, Debug)]
 pub enum Inst {
     /// rd gets imm, below 2^20, in bits 31 to 12, sign-extended.
     Lui {

@@ -14,6 +14,3 @@ pub use decoding::decode;
 pub use encoding::encode;
 pub use image::Image;
 pub use inst::{BranchOp, ImmOp, Inst, LoadOp, Reg, RegOp, ShiftOp, StoreOp};
-
-#[cfg(test)]
-mod tests;
