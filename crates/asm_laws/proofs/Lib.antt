@@ -1,2 +1,4 @@
 pub mod Sums
 pub mod Running
+pub mod Quotients
+pub mod Uppers

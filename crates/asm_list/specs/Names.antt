@@ -13,7 +13,7 @@ use Rattle.rv_inst.specs.declared.inst.ImmOp.TheVariants.{Addi, Slti, Sltiu, Xor
 use Rattle.rv_inst.specs.declared.inst.ShiftOp.{ShiftOp}
 use Rattle.rv_inst.specs.declared.inst.ShiftOp.TheVariants.{Slli, Srli, Srai, Slliw, Srliw, Sraiw}
 use Rattle.rv_inst.specs.declared.inst.RegOp.{RegOp}
-use Rattle.rv_inst.specs.declared.inst.RegOp.TheVariants.{Add, Sub, Sll, Slt, Sltu, Xor, Srl, Sra, Or, And, Addw, Subw, Sllw, Srlw, Sraw}
+use Rattle.rv_inst.specs.declared.inst.RegOp.TheVariants.{Add, Sub, Sll, Slt, Sltu, Xor, Srl, Sra, Or, And, Addw, Subw, Sllw, Srlw, Sraw, Mul, Mulh, Mulhsu, Mulhu, Div, Divu, Rem, Remu, Mulw, Divw, Divuw, Remw, Remuw}
 
 abbrev pub branch_name : BranchOp → List ℕ
 branch_name Beq = codes "beq"
@@ -71,6 +71,19 @@ reg_name Subw = codes "subw"
 reg_name Sllw = codes "sllw"
 reg_name Srlw = codes "srlw"
 reg_name Sraw = codes "sraw"
+reg_name Mul = codes "mul"
+reg_name Mulh = codes "mulh"
+reg_name Mulhsu = codes "mulhsu"
+reg_name Mulhu = codes "mulhu"
+reg_name Div = codes "div"
+reg_name Divu = codes "divu"
+reg_name Rem = codes "rem"
+reg_name Remu = codes "remu"
+reg_name Mulw = codes "mulw"
+reg_name Divw = codes "divw"
+reg_name Divuw = codes "divuw"
+reg_name Remw = codes "remw"
+reg_name Remuw = codes "remuw"
 
 -- the name of an instruction
 abbrev pub inst_name : Inst → List ℕ

@@ -89,6 +89,19 @@ fn reg_name(op: RegOp) -> &'static [u8]
         RegOp::Sllw => b"sllw",
         RegOp::Srlw => b"srlw",
         RegOp::Sraw => b"sraw",
+        RegOp::Mul => b"mul",
+        RegOp::Mulh => b"mulh",
+        RegOp::Mulhsu => b"mulhsu",
+        RegOp::Mulhu => b"mulhu",
+        RegOp::Div => b"div",
+        RegOp::Divu => b"divu",
+        RegOp::Rem => b"rem",
+        RegOp::Remu => b"remu",
+        RegOp::Mulw => b"mulw",
+        RegOp::Divw => b"divw",
+        RegOp::Divuw => b"divuw",
+        RegOp::Remw => b"remw",
+        RegOp::Remuw => b"remuw",
     }
 }
 

@@ -110,7 +110,7 @@ service = slot.Number 0 255 ∷ comma ∷ slot.Label ∷ []
 
 -- ---- the rows
 
--- RV64I, each by its own name
+-- RV64IM, each by its own name
 unfoldable pub instructions : List RowOf
 instructions =
     row (codes "add") three_registers (make.Op reg_op.Add)
@@ -128,6 +128,19 @@ instructions =
     ∷ row (codes "sllw") three_registers (make.Op reg_op.Sllw)
     ∷ row (codes "srlw") three_registers (make.Op reg_op.Srlw)
     ∷ row (codes "sraw") three_registers (make.Op reg_op.Sraw)
+    ∷ row (codes "mul") three_registers (make.Op reg_op.Mul)
+    ∷ row (codes "mulh") three_registers (make.Op reg_op.Mulh)
+    ∷ row (codes "mulhsu") three_registers (make.Op reg_op.Mulhsu)
+    ∷ row (codes "mulhu") three_registers (make.Op reg_op.Mulhu)
+    ∷ row (codes "div") three_registers (make.Op reg_op.Div)
+    ∷ row (codes "divu") three_registers (make.Op reg_op.Divu)
+    ∷ row (codes "rem") three_registers (make.Op reg_op.Rem)
+    ∷ row (codes "remu") three_registers (make.Op reg_op.Remu)
+    ∷ row (codes "mulw") three_registers (make.Op reg_op.Mulw)
+    ∷ row (codes "divw") three_registers (make.Op reg_op.Divw)
+    ∷ row (codes "divuw") three_registers (make.Op reg_op.Divuw)
+    ∷ row (codes "remw") three_registers (make.Op reg_op.Remw)
+    ∷ row (codes "remuw") three_registers (make.Op reg_op.Remuw)
     ∷ row (codes "addi") immediate (make.Imm imm_op.Addi)
     ∷ row (codes "slti") immediate (make.Imm imm_op.Slti)
     ∷ row (codes "sltiu") immediate (make.Imm imm_op.Sltiu)

@@ -99,7 +99,7 @@ macro_rules! row {
     };
 }
 
-static INSTRUCTIONS: [Row; 54] = [
+static INSTRUCTIONS: [Row; 67] = [
     row!(b"add", THREE_REGISTERS, Make::Op(RegOp::Add)),
     row!(b"sub", THREE_REGISTERS, Make::Op(RegOp::Sub)),
     row!(b"sll", THREE_REGISTERS, Make::Op(RegOp::Sll)),
@@ -115,6 +115,19 @@ static INSTRUCTIONS: [Row; 54] = [
     row!(b"sllw", THREE_REGISTERS, Make::Op(RegOp::Sllw)),
     row!(b"srlw", THREE_REGISTERS, Make::Op(RegOp::Srlw)),
     row!(b"sraw", THREE_REGISTERS, Make::Op(RegOp::Sraw)),
+    row!(b"mul", THREE_REGISTERS, Make::Op(RegOp::Mul)),
+    row!(b"mulh", THREE_REGISTERS, Make::Op(RegOp::Mulh)),
+    row!(b"mulhsu", THREE_REGISTERS, Make::Op(RegOp::Mulhsu)),
+    row!(b"mulhu", THREE_REGISTERS, Make::Op(RegOp::Mulhu)),
+    row!(b"div", THREE_REGISTERS, Make::Op(RegOp::Div)),
+    row!(b"divu", THREE_REGISTERS, Make::Op(RegOp::Divu)),
+    row!(b"rem", THREE_REGISTERS, Make::Op(RegOp::Rem)),
+    row!(b"remu", THREE_REGISTERS, Make::Op(RegOp::Remu)),
+    row!(b"mulw", THREE_REGISTERS, Make::Op(RegOp::Mulw)),
+    row!(b"divw", THREE_REGISTERS, Make::Op(RegOp::Divw)),
+    row!(b"divuw", THREE_REGISTERS, Make::Op(RegOp::Divuw)),
+    row!(b"remw", THREE_REGISTERS, Make::Op(RegOp::Remw)),
+    row!(b"remuw", THREE_REGISTERS, Make::Op(RegOp::Remuw)),
     row!(b"addi", IMMEDIATE, Make::Imm(ImmOp::Addi)),
     row!(b"slti", IMMEDIATE, Make::Imm(ImmOp::Slti)),
     row!(b"sltiu", IMMEDIATE, Make::Imm(ImmOp::Sltiu)),
@@ -156,7 +169,7 @@ static INSTRUCTIONS: [Row; 54] = [
     row!(b"ebreak", NO_OPERANDS, Make::Ebreak),
 ];
 
-/// RV64I, each instruction by its own name.
+/// RV64IM, each instruction by its own name.
 #[tactic(auto, unfolding(crate::specs::Rows::instructions))]
 pub fn instructions() -> &'static [Row]
     ensures { map row_of result.now ≡ instructions }

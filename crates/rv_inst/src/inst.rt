@@ -1,4 +1,4 @@
-//! Registers, operations and instructions of RV64I, named as in the RISC-V unprivileged manual, "RV32/64G Instruction Set
+//! Registers, operations and instructions of RV64IM, named as in the RISC-V unprivileged manual, "RV32/64G Instruction Set
 //! Listings".
 
 ghost use Rattle.std.specs.Prelude.{◌≡◌, ◌<◌};
@@ -94,7 +94,7 @@ pub enum ShiftOp {
     Sraiw,
 }
 
-/// The operations on two registers: opcode 0x33, and the W forms of 0x3b.
+/// The operations on two registers: opcode 0x33, and the W forms of 0x3b; from `Mul` on, those of the M extension.
 #[derive(Clone, Copy, PartialEq, Eq, Debug)]
 pub enum RegOp {
     Add,
@@ -112,6 +112,19 @@ pub enum RegOp {
     Sllw,
     Srlw,
     Sraw,
+    Mul,
+    Mulh,
+    Mulhsu,
+    Mulhu,
+    Div,
+    Divu,
+    Rem,
+    Remu,
+    Mulw,
+    Divw,
+    Divuw,
+    Remw,
+    Remuw,
 }
 
 /// One instruction. An offset is in bytes, and counts from the instruction's own address in a jump or branch, else from rs1.

@@ -1,4 +1,4 @@
-//! The instructions of RV64I and their words, as a table that reads both ways, and the image that holds a program.
+//! The instructions of RV64IM and their words, as a table that reads both ways, and the image that holds a program.
 //! A layer above uses that `decode` and `encode` undo each other on the table, and what an `Image` has at an address.
 #![tactic(auto)]
 

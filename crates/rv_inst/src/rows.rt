@@ -98,6 +98,19 @@ pub fn reg_op(opcode: u32, funct3: u32, funct7: u32) -> Option<RegOp>
         (0x3b, 1, 0x00) => Some(RegOp::Sllw),
         (0x3b, 5, 0x00) => Some(RegOp::Srlw),
         (0x3b, 5, 0x20) => Some(RegOp::Sraw),
+        (0x33, 0, 0x01) => Some(RegOp::Mul),
+        (0x33, 1, 0x01) => Some(RegOp::Mulh),
+        (0x33, 2, 0x01) => Some(RegOp::Mulhsu),
+        (0x33, 3, 0x01) => Some(RegOp::Mulhu),
+        (0x33, 4, 0x01) => Some(RegOp::Div),
+        (0x33, 5, 0x01) => Some(RegOp::Divu),
+        (0x33, 6, 0x01) => Some(RegOp::Rem),
+        (0x33, 7, 0x01) => Some(RegOp::Remu),
+        (0x3b, 0, 0x01) => Some(RegOp::Mulw),
+        (0x3b, 4, 0x01) => Some(RegOp::Divw),
+        (0x3b, 5, 0x01) => Some(RegOp::Divuw),
+        (0x3b, 6, 0x01) => Some(RegOp::Remw),
+        (0x3b, 7, 0x01) => Some(RegOp::Remuw),
         _ => None,
     }
 }
@@ -313,6 +326,71 @@ pub fn reg_row(op: RegOp) -> Row
             opcode: 0x3b,
             funct3: 5,
             funct7: 0x20,
+        },
+        RegOp::Mul => Row {
+            opcode: 0x33,
+            funct3: 0,
+            funct7: 0x01,
+        },
+        RegOp::Mulh => Row {
+            opcode: 0x33,
+            funct3: 1,
+            funct7: 0x01,
+        },
+        RegOp::Mulhsu => Row {
+            opcode: 0x33,
+            funct3: 2,
+            funct7: 0x01,
+        },
+        RegOp::Mulhu => Row {
+            opcode: 0x33,
+            funct3: 3,
+            funct7: 0x01,
+        },
+        RegOp::Div => Row {
+            opcode: 0x33,
+            funct3: 4,
+            funct7: 0x01,
+        },
+        RegOp::Divu => Row {
+            opcode: 0x33,
+            funct3: 5,
+            funct7: 0x01,
+        },
+        RegOp::Rem => Row {
+            opcode: 0x33,
+            funct3: 6,
+            funct7: 0x01,
+        },
+        RegOp::Remu => Row {
+            opcode: 0x33,
+            funct3: 7,
+            funct7: 0x01,
+        },
+        RegOp::Mulw => Row {
+            opcode: 0x3b,
+            funct3: 0,
+            funct7: 0x01,
+        },
+        RegOp::Divw => Row {
+            opcode: 0x3b,
+            funct3: 4,
+            funct7: 0x01,
+        },
+        RegOp::Divuw => Row {
+            opcode: 0x3b,
+            funct3: 5,
+            funct7: 0x01,
+        },
+        RegOp::Remw => Row {
+            opcode: 0x3b,
+            funct3: 6,
+            funct7: 0x01,
+        },
+        RegOp::Remuw => Row {
+            opcode: 0x3b,
+            funct3: 7,
+            funct7: 0x01,
         },
     }
 }

@@ -1,0 +1,5 @@
+use Rattle.asm_laws.proofs.Quotients.{quotients_w}
+use Rattle.asm_laws.proofs.products.quotient_w_law.Goals as goal
+
+pub returns-clause-signed : goal.returns-clause-signed
+returns-clause-signed c = quotients_w
