@@ -27,14 +27,14 @@ pub rules_are_runs : (p : Program) (old : Spots) (base : Net) → Stands p old b
 rules_are_runs p old base s lines = (λ t. rules_run p old base s lines t, λ r. (run_keeps p old base s lines r).tale)
 
 -- a trace goes on with each act that may be
-pub rules_go_on : (p : Program) (old : Spots) (base : Net) → Stands p old base → (lines : List Entry) → KeepsRules p (world_at old base) lines → (stamp n round : ℕ) (a : Act) (hand : List Item)
-    → may_act p n ((world_of p (world_at old base) lines).begun n) a ≡ true → Starts p stamp n a (world_of p (world_at old base) lines) hand
+pub rules_go_on : (p : Program) (old : Spots) (base : Net) → Stands p old base → (lines : List Entry) → KeepsRules p (world_at old base) lines → (stamp n round : ℕ) (a : Act) (to_do : List Item)
+    → may_act p n ((world_of p (world_at old base) lines).begun n) a ≡ true → Starts p stamp n a (world_of p (world_at old base) lines) to_do
     → (ls : List Label) × KeepsRules p (world_at old base) ((record { stamp = stamp; node = n; round = round; act = a; labels = ls }) ∷ lines)
-rules_go_on p old base s lines t stamp n round a hand may o =
+rules_go_on p old base s lines t stamp n round a to_do may o =
     let r : IsRun p base lines = rules_run p old base s lines t in
     let told : Tells p old base lines = run_keeps p old base s lines r in
-    let one = has_entry p (spots_of p old lines) (net_after_trace p base lines) (run_whole p old base s lines r).stands stamp n round a hand
-    (subst (λ (z : World). may_act p n (z.begun n) a ≡ true) (sym told.same) may) (subst (λ z. Starts p stamp n a z hand) (sym told.same) o) in
+    let one = has_entry p (spots_of p old lines) (net_after_trace p base lines) (run_whole p old base s lines r).stands stamp n round a to_do
+    (subst (λ (z : World). may_act p n (z.begun n) a ≡ true) (sym told.same) may) (subst (λ z. Starts p stamp n a z to_do) (sym told.same) o) in
     (one.0, (t, subst (λ z. IsEntry p z (record { stamp = stamp; node = n; round = round; act = a; labels = one.0 })) told.same one.1))
 
 -- nodes and links are what the labels tell
