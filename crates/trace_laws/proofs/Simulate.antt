@@ -38,14 +38,14 @@ use Rattle.trace_laws.proofs.Parts.{at_row, not_busy, row_found, listed_found, a
 use Rattle.trace_laws.proofs.Subjects.{subject-refl, less_word, IsOneOf, on_way}
 use Rattle.run_trace.specs.Items.{Thread as Subject_of}
 use Rattle.trace_laws.proofs.Picking.{best_is}
-use Rattle.trace_laws.proofs.Firsts.{run-first}
+use Rattle.trace_laws.proofs.Firsts.{run-first, RunsFirst, runs_next}
 use Rattle.trace_laws.proofs.Steps.{on_node, sent_ok}
 use Rattle.trace_laws.proofs.Lifetimes.{main_born_ok}
 use Rattle.trace_laws.proofs.Takes.{shows_ok, acknowledges_ok, tell_taken_ok, open_birth, may_come_ok, comes_ok}
 use Rattle.trace_laws.proofs.Joins.{hears_ok, knows_ok}
 use Rattle.trace_laws.proofs.Events.{run_ok}
 use Rattle.run_trace.specs.Links.{first_of, rest_of, left_after, packets_to}
-use Rattle.trace_laws.specs.Obeys.{world_at, PicksBest, RunsFirst, all_causes}
+use Rattle.trace_laws.specs.Obeys.{world_at, PicksBest, all_causes}
 
 -- an act and the packet that it takes, before anything is said
 abbrev pub asked_of : Act → Option Packet → Occasion
@@ -358,7 +358,7 @@ acts_simulate p w net stamp n round (RunThread vp q) None d s range is i h = by_
     by_thread r e (Some x) f g =
         let same : run_thread p n vp q r.tid x (nothing (net.nodes n)) ≡ d = cc g in
         simulated p w net stamp n round (RunThread vp q) None d _ is (subst (λ z. Midst p net (asked_of (RunThread vp q) None) n (world_at w net) (under_way net) z []) same (ran_midst p w net s (asked_of (RunThread vp q) None) n (range_below p n (net.nodes n) (RunThread vp q) range) vp r x e f)) (none_left net n (RunThread vp q) (λ i ps. refl))
-        (r, best_is (net.nodes n).places.rows r e, subst (λ (z : Doing). RunsFirst r.tid vp z.labels) same (run-first r.tid vp p n q x (net.nodes n))) s.rising
+        (r, best_is (net.nodes n).places.rows r e, runs_next r.tid vp d.labels (subst (λ (z : Doing). RunsFirst r.tid vp z.labels) same (run-first r.tid vp p n q x (net.nodes n)))) s.rising
 
     by_row : (r : Option Row) → best (net.nodes n).places.rows ≡ r → run_picked p n vp q r (net.nodes n) ≡ Some d → Simulates p w net (event stamp n round (RunThread vp q) None d)
     by_row None e g = absurd (cc g)
