@@ -224,14 +224,14 @@ label_alone p q n (Asked u call args bytes) w t solo life =
 label_alone p q n (Heard u) w t solo life = seen_so w.spots.threads u t _ (heard_asks n w.spots.births (w.spots.threads u).life life)
 label_alone p q n (Judged u reply extra) w t solo life =
     let o : Spot = w.spots.threads u in
-    let v : Response = record { code = reply; second = second_of extra } in
+    let v : Response = record { code = reply; extra = extra } in
     seen w.spots.threads u t _ (λ z a. alone_then p z (Judged u reply extra) a)
     (ap (λ z. record { solo = (judged_guest o.life o.guest).solo; asked = z; reply = v }) (judged_asks n o.life life)
     ∙ ap (λ z. record { solo = z; asked = None; reply = v }) (judged_solo o.life o.guest))
 label_alone p q n (Told u) w t solo life =
     let o : Spot = w.spots.threads u in
     seen w.spots.threads u t _ (λ z a. alone_then p z (Told u) a)
-    (ap (λ z. record { solo = (told o.verdict.code o.verdict.second o.guest).solo; asked = z; reply = o.verdict }) (told_asks n o.life ∙ sym (tell_asks n o.life life)))
+    (ap (λ z. record { solo = (told o.verdict.code (second_of o.verdict.extra) o.guest).solo; asked = z; reply = o.verdict }) (told_asks n o.life ∙ sym (tell_asks n o.life life)))
 label_alone p q n (Took u first count) w t solo life = seen w.spots.threads u t _ (λ z a. alone_then p z (Took u first count) a) refl
 label_alone p q n (Gave u slots) w t solo life =
     let o : Spot = w.spots.threads u in
