@@ -28,7 +28,7 @@ use Rattle.run_trace.specs.Keyed.{about, StandsFor, MapStandsFor}
 use Rattle.run_trace.specs.Rules.{is_free}
 use Rattle.run_trace.specs.declared.call.Call.{Call}
 use Rattle.run_trace.specs.declared.call.Call.TheVariants.{Isofree}
-use Rattle.run_trace.specs.Spots.{Stage, Ready, Served, Departs, Leaves, Stays, Shows, Showing, Shown_there, Asks, Awaits, Answers, Answered, Life, Unborn, On, Moving, Noting, Gone, Response, Spot, Spots, Holder, Of_node, Of_thread, Nobody}
+use Rattle.run_trace.specs.Spots.{Stage, Ready, Served, Departs, Leaves, Stays, Shows, Showing, Shown_there, Asks, Awaits, Answers, Answered, Life, Unborn, On, Moving, Noting, Gone, Response, Spot, Spots, Holder, Of_thread}
 use Rattle.run_trace.specs.World.{Listed}
 use Rattle.run_trace.specs.Items.{is_busy, Subject, Thread as Thread_of, same_subject}
 
@@ -187,8 +187,7 @@ phase_at (Some Over) = After
 
 abbrev pub is_thread : Tid → Holder → Bool
 is_thread t (Of_thread u) = is_tid t u
-is_thread t (Of_node n) = false
-is_thread t Nobody = false
+is_thread t _ = false
 
 -- what a thread holds: its slots, which of them is its stack, and its blocks
 pub record Holding : Type 0 where

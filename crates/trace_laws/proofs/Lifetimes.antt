@@ -26,7 +26,7 @@ use Rattle.run_trace.specs.Steps.{say, put, arrive, thread_in, thread_out, slots
 use Rattle.run_trace.specs.Machine.{free_run, free_slot, end_thread}
 use Rattle.run_trace.specs.Cluster.{Net}
 use Rattle.run_trace.specs.Keyed.{StandsFor}
-use Rattle.run_trace.specs.Spots.{Stage, Stays, Ready, Due, Served, Ends, Leaves, Awaits, Life, Unborn, On, Moving, Noting, Gone, Response, Spot, Spots, Holder, Of_node, Of_thread, Nobody, update, at_node, after_label, gave_life, born_spot, asked_priority, no_response}
+use Rattle.run_trace.specs.Spots.{Stage, Stays, Ready, Due, Served, Ends, Leaves, Awaits, Life, Unborn, On, Moving, Noting, Gone, Response, Spot, Spots, Holder, Of_node, Of_thread, update, at_node, after_label, gave_life, born_spot, asked_priority, no_response}
 use Rattle.run_trace.specs.Rules.{Occasion, is_free, lowest_free, MayGive}
 use Rattle.run_trace.specs.Console.{shown_by}
 use Rattle.run_trace.specs.Stands.{Here, Agrees, Busy, busy, busy_name, busy_part, thread_part, thread_in_life, row_part, row_in_life, listed, listed_name, ways_of, phase_of, phase_at, Before, During, held, slots_held, IsWellHeld, is_thread}
@@ -45,14 +45,12 @@ use Rattle.run_trace.specs.Items.{Thread as Its, Does, is_busy}
 -- ## Holders
 
 pub thread_holds : (t : Tid) (h : Holder) → is_thread t h ≡ true → h ≡ Of_thread t
-thread_holds t (Of_node m) e = absurd (cc e)
-thread_holds t Nobody e = absurd (cc e)
 thread_holds t (Of_thread u) e = ap Of_thread (sym (is-true t u e))
+thread_holds t h e = absurd (cc e)
 
 pub node_holds : (n : ℕ) (h : Holder) → is_free n h ≡ true → h ≡ Of_node n
 node_holds n (Of_node m) e = ap Of_node (eqb-true m n e)
-node_holds n (Of_thread u) e = absurd (cc e)
-node_holds n Nobody e = absurd (cc e)
+node_holds n h e = absurd (cc e)
 
 unborn_of : (life : Life) → Before ≡ phase_of life → life ≡ Unborn
 unborn_of Unborn e = refl
