@@ -1,6 +1,5 @@
 -- A thread by its own labels: its code run alone in its own memory, with the replies that it was told.
 use Rattle.std.specs.Prelude.{◌≡◌, List, [], ◌∷◌, Option, Some, None, Bool, false, if◌then◌else◌}
-use Rattle.rv_step.specs.Birth.{told as hart_told}
 use Rattle.slot_space.specs.declared.names.Tid.{Tid}
 use Rattle.run_trace.specs.declared.entry.Entry.{Entry}
 use Rattle.run_trace.specs.declared.label.Label.{Label}
@@ -16,7 +15,7 @@ use Rattle.run_trace.specs.Calls.{call_of, refusal}
 use Rattle.run_trace.specs.Guests.{Solo, Guest, newborn, with_zero_slots, without_slots, heap_of}
 use Rattle.run_trace.specs.Cluster.{Net}
 use Rattle.run_trace.specs.Holding.{Place, IsAt}
-use Rattle.run_trace.specs.Spots.{Response, no_response, stepped, second_of, Life, On, Served, Spot, unborn}
+use Rattle.run_trace.specs.Spots.{Response, no_response, stepped, told_state, Life, On, Served, Spot, unborn}
 use Rattle.run_trace.specs.Items.{Subject, Thread, subject}
 
 abbrev pub is_about : Tid → Option Subject → Bool
@@ -55,8 +54,8 @@ alone_then p t (Ran u vp count stop) a =
 alone_then p t (Asked u call args bytes) a =
     record a { asked = unless_refused (refusal p t a.solo (call_of a.solo.state)) (heap_call (call_of a.solo.state)) }
 alone_then p t (Judged u reply extra) a =
-    record { solo = answered a.asked a.solo; asked = None; reply = record { code = reply; second = second_of extra } }
-alone_then p t (Told u) a = record a { solo = record a.solo { state = hart_told a.solo.state a.reply.code a.reply.second } }
+    record { solo = answered a.asked a.solo; asked = None; reply = record { code = reply; extra = extra } }
+alone_then p t (Told u) a = record a { solo = record a.solo { state = told_state a.reply a.solo.state } }
 alone_then p t (Took u first count) a =
     record a { solo = record a.solo { state = record a.solo.state { memory = with_zero_slots (run first count) a.solo.state.memory } } }
 alone_then p t (Gave u slots) a =

@@ -59,10 +59,10 @@ first_birth p n (Some slot) w = Says (Born (tid n (length (w.births n))) why.Mai
 -- node 0 begins with the main thread; the first of the run list runs; the first packet of the link is taken, which was sent before;
 -- a thread that is sent away is on the run list
 abbrev pub Starts : Program → (stamp n : ℕ) → Act → World → List Item → Type 0
-Starts p stamp n Boot w hand = hand ≡ (if n == 0 then first_birth p n (lowest_free n 1 w.spots) w.spots else [])
-Starts p stamp n (Run vp quantum) w hand = (x : Listed) × IsPicked x (w.lists n) × (hand ≡ Runs x.tid vp ∷ [])
-Starts p stamp n (Take from) w hand = (x : Packet) × (first_of (w.links from n) ≡ Some x) × (x.stamp < stamp) × (hand ≡ for_packet n x.body)
-Starts p stamp n (Move t to) w hand = (is_on_list t (w.lists n) ≡ true) × (hand ≡ Says (Left t to) ∷ [])
+Starts p stamp n Boot w to_do = to_do ≡ (if n == 0 then first_birth p n (lowest_free n 1 w.spots) w.spots else [])
+Starts p stamp n (Run vp quantum) w to_do = (x : Listed) × IsPicked x (w.lists n) × (to_do ≡ Runs x.tid vp ∷ [])
+Starts p stamp n (Take from) w to_do = (x : Packet) × (first_of (w.links from n) ≡ Some x) × (x.stamp < stamp) × (to_do ≡ for_packet n x.body)
+Starts p stamp n (Move t to) w to_do = (is_on_list t (w.lists n) ≡ true) × (to_do ≡ Says (Left t to) ∷ [])
 
 -- ## How it goes on: each label is what is to be done next, until there is nothing to do
 
@@ -85,10 +85,10 @@ IsNext n l w [] = ⊥
 IsNext n l w (i ∷ is) = IsBy n l w i
 
 abbrev pub GoesOn : Program → Occasion → (n : ℕ) → List Label → World → List Item → Type 0
-GoesOn p o n [] w hand = past_sends hand ≡ []
-GoesOn p o n (l ∷ ls) w hand =
-    IsNext n l w.spots (past_sends hand) × Allows p o n l w
-    × GoesOn p (saying l o) n ls (world_after p n l w) (to_do_after p n l w.spots (past_sends hand))
+GoesOn p o n [] w to_do = past_sends to_do ≡ []
+GoesOn p o n (l ∷ ls) w to_do =
+    IsNext n l w.spots (past_sends to_do) × Allows p o n l w
+    × GoesOn p (saying l o) n ls (world_after p n l w) (to_do_after p n l w.spots (past_sends to_do))
 
 -- ## An entry, and a trace
 

@@ -171,7 +171,6 @@ RepliesRule p o n _ w = ⊤
 
 abbrev pub is_free : ℕ → Holder → Bool
 is_free n (Of_node m) = m == n
-is_free n (Of_thread t) = false
 is_free n _ = false
 
 -- the lowest run of so many slots of node n

@@ -9,6 +9,8 @@ use Rattle.marcel_core.specs.declared.end.End.{End}
 use Rattle.marcel_core.specs.declared.birth.Birth.{Birth}
 use Rattle.marcel_core.specs.declared.birth.Birth.TheVariants.{Lives, Awaited, Detached, Ended, Over}
 use Rattle.pack_thread.specs.Threads.{Thread as Packed}
+use Rattle.run_trace.specs.declared.label.Extra.{Extra}
+use Rattle.run_trace.specs.declared.label.Extra.TheVariants.{Nothing}
 use Rattle.run_trace.specs.declared.packet.Body.{Body}
 use Rattle.run_trace.specs.declared.packet.Body.TheVariants.{Mover, Show, ShowDone, JoinAsk, Answer, EndNote}
 use Rattle.run_trace.specs.declared.packet.Packet.{Packet}
@@ -20,12 +22,13 @@ use Rattle.run_trace.specs.Program.{Program, nodes_of}
 use Rattle.run_trace.specs.Guests.{Guest, Thread, waits, guest_slots, packed}
 use Rattle.run_trace.specs.Local.{Local}
 use Rattle.run_trace.specs.Places.{IsRising}
+use Rattle.run_trace.specs.Calls.{extra_of}
 use Rattle.run_trace.specs.Cluster.{Net}
 use Rattle.run_trace.specs.Keyed.{about, StandsFor, MapStandsFor}
 use Rattle.run_trace.specs.Rules.{is_free}
 use Rattle.run_trace.specs.declared.call.Call.{Call}
 use Rattle.run_trace.specs.declared.call.Call.TheVariants.{Isofree}
-use Rattle.run_trace.specs.Spots.{Stage, Ready, Served, Departs, Leaves, Stays, Shows, Showing, Shown_there, Asks, Awaits, Answers, Answered, Life, Unborn, On, Moving, Noting, Gone, Response, Spot, Spots, Holder, Of_node, Of_thread, Nobody}
+use Rattle.run_trace.specs.Spots.{Stage, Ready, Served, Departs, Leaves, Stays, Shows, Showing, Shown_there, Asks, Awaits, Answers, Answered, Life, Unborn, On, Moving, Noting, Gone, Response, Spot, Spots, Holder, Of_thread}
 use Rattle.run_trace.specs.World.{Listed}
 use Rattle.run_trace.specs.Items.{is_busy, Subject, Thread as Thread_of, same_subject}
 
@@ -94,26 +97,26 @@ busy_part n t s = if is_busy n s.life then Some (busy t s.life) else None
 pub data Word : Type 0 where
   Travels : (x : Packed) → Word
   Line : (t : Tid) (bytes : List ℕ) → Word
-  Line_shown : (t : Tid) (code : ℕ) (second : Option ℕ) → Word
+  Line_shown : (t : Tid) (code : ℕ) (extra : Extra) → Word
   Joins : (t u : Tid) → Word
-  Reply : (t : Tid) (code : ℕ) (second : Option ℕ) → Word
+  Reply : (t : Tid) (code : ℕ) (extra : Extra) → Word
   Ended_word : (t : Tid) (end : End) → Word
 
 abbrev pub word_subject : Word → Subject
 word_subject (Travels x) = Thread_of x.tid
 word_subject (Line t bytes) = Thread_of t
-word_subject (Line_shown t code second) = Thread_of t
+word_subject (Line_shown t code extra) = Thread_of t
 word_subject (Joins t u) = Thread_of t
-word_subject (Reply t code second) = Thread_of t
+word_subject (Reply t code extra) = Thread_of t
 word_subject (Ended_word t end) = Thread_of t
 
 -- of a packet on a link to node j
 abbrev pub word_of : ℕ → Body → Word
 word_of j (Mover x) = Travels x
 word_of j (Show t bytes) = Line t bytes
-word_of j (ShowDone t) = Line_shown t 0 None
+word_of j (ShowDone t) = Line_shown t 0 Nothing
 word_of j (JoinAsk by seq) = Joins by (tid j seq)
-word_of j (Answer t reply second) = Reply t (reply_code reply) second
+word_of j (Answer t reply second) = Reply t (reply_code reply) (extra_of second)
 word_of j (EndNote seq end) = Ended_word (tid j seq) end
 
 abbrev pub words_of : ℕ → List Packet → List Word
@@ -133,9 +136,9 @@ way from to word = (record { from = from; to = to; word = word }) ∷ []
 abbrev pub ways_of : Tid → Life → Response → Guest → List Way
 ways_of t (Moving m to) v g = way m to (Travels (packed t g))
 ways_of t (On m (Shows bytes)) v g = way m 0 (Line t bytes)
-ways_of t (On m Shown_there) v g = way 0 m (Line_shown t v.code v.second)
+ways_of t (On m Shown_there) v g = way 0 m (Line_shown t v.code v.extra)
 ways_of t (On m (Asks u)) v g = way m u.home (Joins t u)
-ways_of t (On m (Answered h)) v g = way h m (Reply t v.code v.second)
+ways_of t (On m (Answered h)) v g = way h m (Reply t v.code v.extra)
 ways_of t (Noting m end) v g = way m t.home (Ended_word t end)
 ways_of t _ v g = []
 
@@ -184,8 +187,7 @@ phase_at (Some Over) = After
 
 abbrev pub is_thread : Tid → Holder → Bool
 is_thread t (Of_thread u) = is_tid t u
-is_thread t (Of_node n) = false
-is_thread t Nobody = false
+is_thread t _ = false
 
 -- what a thread holds: its slots, which of them is its stack, and its blocks
 pub record Holding : Type 0 where

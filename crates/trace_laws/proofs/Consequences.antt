@@ -30,7 +30,7 @@ use Rattle.run_trace.specs.Trace.{net_after_trace}
 use Rattle.trace_laws.specs.Obeys.{Obey, world_at, ObeyEach}
 use Rattle.run_trace.specs.Rules.{Occasion, saying, spots_of, is_free, IsBorn, JoinerAwaits, MayHear, MayJudge, MayTell, MayKnow, MayLeave, MayCome, MayShow, SoloRule, LifeRule}
 use Rattle.run_trace.specs.Obeying.{occasion}
-use Rattle.run_trace.specs.Spots.{Stage, Life, Unborn, On, Moving, Noting, Gone, Response, Spot, Spots, Holder, Of_node, Of_thread, Nobody, update, creator_served, joiner_served, end_in, at_first, after_label, after_labels, stepped, ran_stage, ran_spot, passed_stage, asked_stage, heard_at, judged_life, judged_guest, told_stage, gave_life, shown_life, second_of}
+use Rattle.run_trace.specs.Spots.{Stage, Life, Unborn, On, Moving, Noting, Gone, Response, Spot, Spots, Holder, Of_node, Of_thread, update, creator_served, joiner_served, end_in, at_first, after_label, after_labels, stepped, ran_stage, ran_spot, passed_stage, asked_stage, heard_at, judged_life, judged_guest, told_stage, gave_life, shown_life, second_of}
 use Rattle.run_trace.specs.Stands.{Stands, thread_part, thread_in_life, thread_in_stage, held, slots_held, is_thread, Word, Travels, word_subject, word_of, words_of, words_about, ways_of, on_link}
 use Rattle.run_trace.specs.Alone.{Alone, alone_then, alone_after, alone_in, alone_of, asked_in, heap_call, unless_refused, answered, is_about, EachRunsAlone}
 use Rattle.run_trace.specs.Holding.{Place, On_node, On_link, IsAmong, IsAt, Has, EachHeldOnce}
@@ -117,13 +117,11 @@ one_place p w net s t a b g h x y =
 
 free_is : (n : ℕ) (h : Holder) → is_free n h ≡ true → Of_node n ≡ h
 free_is n (Of_node m) e = ap Of_node (sym (eqb-true m n e))
-free_is n (Of_thread t) e = absurd (cc e)
-free_is n Nobody e = absurd (cc e)
+free_is n h e = absurd (cc e)
 
 thread_is : (t : Tid) (h : Holder) → is_thread t h ≡ true → Of_thread t ≡ h
 thread_is t (Of_thread u) e = ap Of_thread (is-true t u e)
-thread_is t (Of_node n) e = absurd (cc e)
-thread_is t Nobody e = absurd (cc e)
+thread_is t h e = absurd (cc e)
 
 -- whoever has a slot is its holder by the labels
 has_is : (p : Program) (w : Spots) (net : Net) → Stands p w net → (slot : ℕ) (h : Holder) → Has net slot h → h ≡ w.slots slot
@@ -131,7 +129,7 @@ has_is p w net s slot (Of_node n) k = free_is n (w.slots slot) (sym ((s.nodes n)
 has_is p w net s slot (Of_thread t) k =
     let at : Found k.0 (w.threads t) k.1 = found p w net s k.0 t k.1 k.2 in
     thread_is t (w.slots slot) (sym (s.agrees.slots t slot) ∙ ap (has slot) at.slots ∙ k.3)
-has_is p w net s slot Nobody k = absurd k
+has_is p w net s slot h k = absurd k
 
 pub one_holder : (p : Program) (w : Spots) (net : Net) → Stands p w net → EachHeldOnce net
 one_holder p w net s slot a b h k = has_is p w net s slot a h ∙ sym (has_is p w net s slot b k)
@@ -224,14 +222,14 @@ label_alone p q n (Asked u call args bytes) w t solo life =
 label_alone p q n (Heard u) w t solo life = seen_so w.spots.threads u t _ (heard_asks n w.spots.births (w.spots.threads u).life life)
 label_alone p q n (Judged u reply extra) w t solo life =
     let o : Spot = w.spots.threads u in
-    let v : Response = record { code = reply; second = second_of extra } in
+    let v : Response = record { code = reply; extra = extra } in
     seen w.spots.threads u t _ (λ z a. alone_then p z (Judged u reply extra) a)
     (ap (λ z. record { solo = (judged_guest o.life o.guest).solo; asked = z; reply = v }) (judged_asks n o.life life)
     ∙ ap (λ z. record { solo = z; asked = None; reply = v }) (judged_solo o.life o.guest))
 label_alone p q n (Told u) w t solo life =
     let o : Spot = w.spots.threads u in
     seen w.spots.threads u t _ (λ z a. alone_then p z (Told u) a)
-    (ap (λ z. record { solo = (told o.verdict.code o.verdict.second o.guest).solo; asked = z; reply = o.verdict }) (told_asks n o.life ∙ sym (tell_asks n o.life life)))
+    (ap (λ z. record { solo = (told o.verdict.code (second_of o.verdict.extra) o.guest).solo; asked = z; reply = o.verdict }) (told_asks n o.life ∙ sym (tell_asks n o.life life)))
 label_alone p q n (Took u first count) w t solo life = seen w.spots.threads u t _ (λ z a. alone_then p z (Took u first count) a) refl
 label_alone p q n (Gave u slots) w t solo life =
     let o : Spot = w.spots.threads u in

@@ -40,7 +40,7 @@ use Rattle.run_trace.specs.Causes.{causes}
 use Rattle.run_trace.specs.Obeying.{IsNext, may_act, first_birth, Starts, IsBy, GoesOn, IsEntry, KeepsRules}
 use Rattle.trace_laws.specs.Obeys.{world_at, all_causes}
 use Rattle.trace_laws.proofs.Midst.{AreNext, NextAll, Obeyed, to_do_after_all}
-use Rattle.trace_laws.proofs.Firsts.{run-first}
+use Rattle.trace_laws.proofs.Firsts.{run-first, RunsFirst}
 use Rattle.trace_laws.proofs.Lifetimes.{lowest_is}
 use Rattle.trace_laws.proofs.Simulate.{asked_of, Simulates, Beyond, simulates, event, possible, taken_expected}
 use Rattle.trace_laws.proofs.Stillness.{picked_there}
@@ -49,7 +49,7 @@ use Rattle.trace_laws.proofs.Determined.{fits_exactly}
 use Rattle.trace_laws.proofs.Wholes.{run_whole}
 use Rattle.trace_laws.proofs.OneTrace.{one_entry}
 use Rattle.run_trace.specs.Links.{first_of, left_after, packets_to}
-use Rattle.trace_laws.specs.Obeys.{PicksBest, RunsFirst}
+use Rattle.trace_laws.specs.Obeys.{PicksBest}
 use Rattle.run_trace.specs.Items.{Sends, Does, sends_first, past_sends, for_packet, all_but_first, busy_among, goes_on_with, is_busy_with, Subject, for_taken, taken_items, all_sent, Item, Says, Runs, to_do_after}
 use Rattle.run_trace.specs.Telling.{after_entry, world_of}
 

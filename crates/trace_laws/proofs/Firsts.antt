@@ -1,5 +1,5 @@
 -- The first label of an event stays its first: steps say theirs after it.
-use Rattle.std.proofs.Common.{ℕ, List, [], ◌∷◌, ◌++◌, Option, Some, None, true, false, eqb, cond, refl, ap}
+use Rattle.std.proofs.Common.{◌≡◌, ℕ, List, [], ◌∷◌, ◌++◌, Option, Some, None, true, false, eqb, cond, refl, ap}
 use Rattle.std.specs.Prelude.{nat_lt}
 use Rattle.slot_space.specs.declared.names.Tid.{Tid}
 use Rattle.slot_space.specs.declared.names.Reply.{Reply}
@@ -7,6 +7,7 @@ use Rattle.marcel_core.specs.declared.end.End.{End}
 use Rattle.rv_step.specs.declared.hart.Stop.{Stop}
 use Rattle.rv_step.specs.declared.hart.Stop.TheVariants as stops
 use Rattle.run_trace.specs.declared.label.Label.{Label}
+use Rattle.run_trace.specs.declared.label.Label.TheVariants.{Ran}
 use Rattle.run_trace.specs.declared.label.Why.{Why}
 use Rattle.run_trace.specs.Program.{Program, nodes_of}
 use Rattle.iso_blocks.specs.Heap.{emptied}
@@ -16,7 +17,14 @@ use Rattle.run_trace.specs.declared.call.Call.TheVariants.{Exit, Name, Node, Nod
 use Rattle.run_trace.specs.Local.{Local, Doing, nothing}
 use Rattle.run_trace.specs.Steps.{thread_at, at_found, at_thread, say, put, arrive, take_off, keep, thread_in, thread_out, slots_out, slots_in, name_in, halt, birth, ran, asks, asks_show, asks_join, halts, judge, tell, tell_found, settle, takes_run, returns, gives, ends, leaves}
 use Rattle.run_trace.specs.Machine.{answer, settles, places, allocates_with, returns_any, frees_block, frees, end_thread, creates_in, goes, migrates, does, calls, stopped, run_thread}
-use Rattle.trace_laws.specs.Obeys.{RunsFirst}
+use Rattle.trace_laws.specs.Obeys.{RunsNext}
+
+-- nothing is shifted as yet
+abbrev pub RunsFirst : Tid → ℕ → List Label → Type 0
+RunsFirst t vp labels = (count : ℕ) × (stop : Stop) × (more : List Label) × (labels ≡ Ran t vp count stop ∷ more)
+
+pub runs_next : (t : Tid) (vp : ℕ) (ls : List Label) → RunsFirst t vp ls → RunsNext t vp ls
+runs_next t vp ls h = ([], tt, h.0, h.1, h.2, h.3)
 
 append-first : (t : Tid) (vp : ℕ) (ls more : List Label) → RunsFirst t vp ls → RunsFirst t vp (ls ++ more)
 append-first t vp ls more h = (h.0, h.1, h.2 ++ more, ap (λ zs. zs ++ more) h.3)

@@ -1,6 +1,11 @@
 -- A legal trace, from a run or from its labels alone.
-use Rattle.std.proofs.Common.{ℕ, List, ap, subst, ◌≡◌, ◌∷◌, true, sym}
-use Rattle.std.specs.Prelude.{◌↔◌}
+use Rattle.std.proofs.Common.{ℕ, List, None, ap, refl, subst, ◌≡◌, ◌∷◌, ◌∙◌, true, sym}
+use Rattle.std.specs.Prelude.{◌↔◌, is_some}
+use Rattle.std.proofs.lemmas.Bool.{eq-eqb}
+use Rattle.slot_space.specs.declared.names.Tid.{Tid}
+use Rattle.run_trace.specs.declared.entry.Act.TheVariants.{Boot}
+use Rattle.run_trace.specs.declared.node.Row.{Row}
+use Rattle.run_trace.specs.Places.{is_listed}
 use Rattle.run_trace.specs.declared.entry.Act.{Act}
 use Rattle.run_trace.specs.declared.entry.Entry.{Entry}
 use Rattle.run_trace.specs.declared.label.Label.{Label}
@@ -8,16 +13,19 @@ use Rattle.run_trace.specs.Program.{Program}
 use Rattle.run_trace.specs.Cluster.{Event, Net, fresh_net}
 use Rattle.run_trace.specs.Trace.{IsRun, net_after_trace}
 use Rattle.run_trace.specs.Histories.{IsInOrder, Joins}
-use Rattle.run_trace.specs.Spots.{Spots, at_first}
+use Rattle.run_trace.specs.Spots.{Ready, On, Spots, at_first}
 use Rattle.run_trace.specs.Rules.{spots_of}
-use Rattle.run_trace.specs.Stands.{Stands}
+use Rattle.run_trace.specs.Stands.{Stands, row_in_life}
 use Rattle.run_trace.specs.World.{World}
 use Rattle.run_trace.specs.Items.{Item}
-use Rattle.run_trace.specs.Obeying.{may_act, Starts, IsEntry, KeepsRules}
+use Rattle.run_trace.specs.Obeying.{may_act, is_on_list, Starts, IsEntry, KeepsRules}
 use Rattle.run_trace.specs.Holding.{EachHeldOnce}
 use Rattle.run_trace.specs.Alone.{EachRunsAlone}
 use Rattle.run_trace.specs.Legality.{Begins, AreRising, IsTold, Legal}
 use Rattle.trace_laws.specs.Obeys.{world_at}
+use Rattle.trace_laws.proofs.Arriving.{on_list_is}
+use Rattle.trace_laws.proofs.Parts.{listed_found}
+use Rattle.trace_laws.proofs.Simulate.{asked_of, listed_ready}
 use Rattle.trace_laws.proofs.Weave.{joined}
 use Rattle.trace_laws.proofs.Wholes.{starts, run_whole, after_each, alone_after_run, held_once_after_run}
 use Rattle.trace_laws.proofs.Entries.{has_entry, Tells, run_keeps, rules_run}
@@ -27,14 +35,14 @@ pub rules_are_runs : (p : Program) (old : Spots) (base : Net) → Stands p old b
 rules_are_runs p old base s lines = (λ t. rules_run p old base s lines t, λ r. (run_keeps p old base s lines r).tale)
 
 -- a trace goes on with each act that may be
-pub rules_go_on : (p : Program) (old : Spots) (base : Net) → Stands p old base → (lines : List Entry) → KeepsRules p (world_at old base) lines → (stamp n round : ℕ) (a : Act) (hand : List Item)
-    → may_act p n ((world_of p (world_at old base) lines).begun n) a ≡ true → Starts p stamp n a (world_of p (world_at old base) lines) hand
+pub rules_go_on : (p : Program) (old : Spots) (base : Net) → Stands p old base → (lines : List Entry) → KeepsRules p (world_at old base) lines → (stamp n round : ℕ) (a : Act) (to_do : List Item)
+    → may_act p n ((world_of p (world_at old base) lines).begun n) a ≡ true → Starts p stamp n a (world_of p (world_at old base) lines) to_do
     → (ls : List Label) × KeepsRules p (world_at old base) ((record { stamp = stamp; node = n; round = round; act = a; labels = ls }) ∷ lines)
-rules_go_on p old base s lines t stamp n round a hand may o =
+rules_go_on p old base s lines t stamp n round a to_do may o =
     let r : IsRun p base lines = rules_run p old base s lines t in
     let told : Tells p old base lines = run_keeps p old base s lines r in
-    let one = has_entry p (spots_of p old lines) (net_after_trace p base lines) (run_whole p old base s lines r).stands stamp n round a hand
-    (subst (λ (z : World). may_act p n (z.begun n) a ≡ true) (sym told.same) may) (subst (λ z. Starts p stamp n a z hand) (sym told.same) o) in
+    let one = has_entry p (spots_of p old lines) (net_after_trace p base lines) (run_whole p old base s lines r).stands stamp n round a to_do
+    (subst (λ (z : World). may_act p n (z.begun n) a ≡ true) (sym told.same) may) (subst (λ z. Starts p stamp n a z to_do) (sym told.same) o) in
     (one.0, (t, subst (λ z. IsEntry p z (record { stamp = stamp; node = n; round = round; act = a; labels = one.0 })) told.same one.1))
 
 -- nodes and links are what the labels tell
@@ -66,3 +74,26 @@ whole_by_rules p lines order begins rounds tale = whole p lines order begins rou
 
 pub joined_whole : (p : Program) (lines : List Entry) (h : ℕ → List Event) → Begins p lines → AreRising lines → Joins p (fresh_net p) lines h → Legal p lines
 joined_whole p lines h begins rounds j = whole p lines j.order begins rounds (joined p (fresh_net p) lines h j).legal
+
+-- by what is told: on the run list are those that are ready there
+pub listed_told : (p : Program) (old : Spots) (base : Net) → Stands p old base → (lines : List Entry) → KeepsRules p (world_at old base) lines → (n : ℕ) (t : Tid)
+    → (is_on_list t ((world_of p (world_at old base) lines).lists n) ≡ true) ↔ (((world_of p (world_at old base) lines).spots.threads t).life ≡ On n Ready)
+listed_told p old base s lines rules n t = (
+  λ h. listed_ready p w.spots net told.stands (asked_of Boot None) n t (same ∙ h),
+  λ e. sym same ∙ listed_found rows t ∙ ap is_some ((told.stands.nodes n).rows.shows t) ∙ ap (λ z. is_some (row_in_life n t z (w.spots.threads t).guest.priority)) e ∙ (rw (eq-eqb n n refl) refl),
+)
+  where
+    net : Net
+    net = net_after_trace p base lines
+
+    w : World
+    w = world_of p (world_at old base) lines
+
+    rows : List Row
+    rows = (net.nodes n).places.rows
+
+    told : IsTold p w net
+    told = told_after p old base s lines ((rules_are_runs p old base s lines).0 rules)
+
+    same : is_listed t rows ≡ is_on_list t (w.lists n)
+    same = on_list_is t rows ∙ ap (is_on_list t) (told.lists n)

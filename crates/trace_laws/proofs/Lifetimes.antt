@@ -26,7 +26,7 @@ use Rattle.run_trace.specs.Steps.{say, put, arrive, thread_in, thread_out, slots
 use Rattle.run_trace.specs.Machine.{free_run, free_slot, end_thread}
 use Rattle.run_trace.specs.Cluster.{Net}
 use Rattle.run_trace.specs.Keyed.{StandsFor}
-use Rattle.run_trace.specs.Spots.{Stage, Stays, Ready, Due, Served, Ends, Leaves, Awaits, Life, Unborn, On, Moving, Noting, Gone, Response, Spot, Spots, Holder, Of_node, Of_thread, Nobody, update, at_node, after_label, gave_life, born_spot, asked_priority}
+use Rattle.run_trace.specs.Spots.{Stage, Stays, Ready, Due, Served, Ends, Leaves, Awaits, Life, Unborn, On, Moving, Noting, Gone, Response, Spot, Spots, Holder, Of_node, Of_thread, update, at_node, after_label, gave_life, born_spot, asked_priority, no_response}
 use Rattle.run_trace.specs.Rules.{Occasion, is_free, lowest_free, MayGive}
 use Rattle.run_trace.specs.Console.{shown_by}
 use Rattle.run_trace.specs.Stands.{Here, Agrees, Busy, busy, busy_name, busy_part, thread_part, thread_in_life, row_part, row_in_life, listed, listed_name, ways_of, phase_of, phase_at, Before, During, held, slots_held, IsWellHeld, is_thread}
@@ -45,14 +45,12 @@ use Rattle.run_trace.specs.Items.{Thread as Its, Does, is_busy}
 -- ## Holders
 
 pub thread_holds : (t : Tid) (h : Holder) → is_thread t h ≡ true → h ≡ Of_thread t
-thread_holds t (Of_node m) e = absurd (cc e)
-thread_holds t Nobody e = absurd (cc e)
 thread_holds t (Of_thread u) e = ap Of_thread (sym (is-true t u e))
+thread_holds t h e = absurd (cc e)
 
 pub node_holds : (n : ℕ) (h : Holder) → is_free n h ≡ true → h ≡ Of_node n
 node_holds n (Of_node m) e = ap Of_node (eqb-true m n e)
-node_holds n (Of_thread u) e = absurd (cc e)
-node_holds n Nobody e = absurd (cc e)
+node_holds n h e = absurd (cc e)
 
 unborn_of : (life : Life) → Before ≡ phase_of life → life ≡ Unborn
 unborn_of Unborn e = refl
@@ -386,12 +384,12 @@ module _ (p : Program) (net : Net) (q : Occasion) (n : ℕ) (w : World) (L : Lin
       let least : lowest_free n 1 v ≡ Some slot = lowest_is n 1 v d.node [] m.here ∙ free in
       let o : Holds_there p net n v (under n L d.sends) d.node [] = record { here = m.here; there = m.there; links = m.links; agrees = m.agrees } in
       let holder : v.slots slot ≡ Of_node n = least_held n v slot least in
-      let new : Holds_there p net n (born_spots p net n v (under n L d.sends) d.node [] below g (record { code = 0; second = None }) slot holder refl (new_well p.image.main 0 0 (stack_end slot) slot main_priority)) (under n L d.sends) (with_newborn n t (waits wait.No g) g.priority slot d.node) [] =
-      newcomer p net n v (under n L d.sends) d.node [] below g (record { code = 0; second = None }) slot holder refl (new_well p.image.main 0 0 (stack_end slot) slot main_priority) o in
+      let new : Holds_there p net n (born_spots p net n v (under n L d.sends) d.node [] below g no_response slot holder refl (new_well p.image.main 0 0 (stack_end slot) slot main_priority)) (under n L d.sends) (with_newborn n t (waits wait.No g) g.priority slot d.node) [] =
+      newcomer p net n v (under n L d.sends) d.node [] below g no_response slot holder refl (new_well p.image.main 0 0 (stack_end slot) slot main_priority) o in
       subst (λ (k : ℕ). Midst p net q n w L (record { node = with_newborn n (tid n k) (waits wait.No g) g.priority slot d.node; labels = d.labels ++ Born (tid n k) why.Main p.image.main 0 0 (stack_end slot) slot ∷ []; sends = d.sends; prints = d.prints }) [])
       (ap length (sym m.here.names))
       (labelled p net q n w L L d [] [] (Born t why.Main p.image.main 0 0 (stack_end slot) slot) _ _ d.sends d.prints m refl
-      (record { solo = ((refl, refl, zero), refl, refl); holders = holder; life = (unborn p net n v (under n L d.sends) d.node [] below g (record { code = 0; second = None }) slot holder refl (new_well p.image.main 0 0 (stack_end slot) slot main_priority) o, refl); replies = tt; grants = least })
+      (record { solo = ((refl, refl, zero), refl, refl); holders = holder; life = (unborn p net n v (under n L d.sends) d.node [] below g no_response slot holder refl (new_well p.image.main 0 0 (stack_end slot) slot main_priority) o, refl); replies = tt; grants = least })
       (sym (append-nil d.sends)) (sym (append-nil d.prints)) new.here new.there new.links new.agrees
       (record { places = refl; booted = refl; next = is_first n (Born t why.Main p.image.main 0 0 (stack_end slot) slot) v d.labels [] first; still = refl })).midst
 
@@ -411,7 +409,7 @@ module _ (p : Program) (net : Net) (q : Occasion) (n : ℕ) (w : World) (L : Lin
       let v1 : Spots = spots_with (update v.threads by r) v.slots v.births v.halts in
       let hand : List Busy = busy by (On n (Due (tid_value t))) ∷ hs in
       let M : Links = under n L d.sends in
-      let none : Response = record { code = 0; second = None } in
+      let none : Response = no_response in
       let served : Holds_there p net n v1 M d.node hand = record {
         here = record {
           threads = map_kept is_tid is-true is-refl (thread_part n) v.threads by r d.node.threads m.here.threads (thread_was p net q n w L r by (Due (tid_value t)) refl ∙ sym (thread_was p net q n w L s by (Served (Create e a k)) x));

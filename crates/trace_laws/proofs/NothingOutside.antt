@@ -195,9 +195,9 @@ module _ (p : Program) (w : Spots) (net : Net) (s : Stands p w net) (asks : AllA
   to_node : (t : Tid) (i j : ℕ) (word : Word) → Tells t i j word (w.threads t).life (w.threads t).verdict (w.threads t).guest → j < nodes_of p
   to_node t i j (Travels x) k = subst (λ z. asked_home z < nodes_of p) k.0 (asks t)
   to_node t i j (Line u bytes) k = subst (λ z. z < nodes_of p) (sym k.2) (first_node p)
-  to_node t i j (Line_shown u code second) k = on_inside t j _ k.1
+  to_node t i j (Line_shown u code extra) k = on_inside t j _ k.1
   to_node t i j (Joins u target) k = subst (λ z. z < nodes_of p) (sym k.2) (subst (λ z. asked_home z < nodes_of p) k.1 (asks t))
-  to_node t i j (Reply_word u code second) k = on_inside t j _ k.1
+  to_node t i j (Reply_word u code extra) k = on_inside t j _ k.1
   to_node t i j (Ended_word u end) k = by (nat_lt t.home (nodes_of p)) refl
     where
       by : (v : Bool) → nat_lt t.home (nodes_of p) ≡ v → j < nodes_of p

@@ -39,23 +39,23 @@ one_label p q n l m w (Runs t vp) x y a b =
     x.2 ∙ one_run p q n vp x.0 y.0 x.1 y.1 t w (subst (λ z. Allows p q n z w) x.2 a) (subst (λ z. Allows p q n z w) y.2 b) ∙ sym y.2
 one_label p q n l m w (Does (Thread t)) x y a b = one_next p q n w l m t x.0 y.0 x.1 a b
 
-one_next_label : (p : Program) (q : Occasion) (n : ℕ) (l m : Label) (w : World) (hand : List Item) → IsNext n l w.spots hand → IsNext n m w.spots hand → Allows p q n l w → Allows p q n m w → l ≡ m
+one_next_label : (p : Program) (q : Occasion) (n : ℕ) (l m : Label) (w : World) (to_do : List Item) → IsNext n l w.spots to_do → IsNext n m w.spots to_do → Allows p q n l w → Allows p q n m w → l ≡ m
 one_next_label p q n l m w [] x y a b = absurd x
 one_next_label p q n l m w (i ∷ is) x y a b = one_label p q n l m w i x y a b
 
 -- ## All labels
 
-nothing_to_do : (n : ℕ) (l : Label) (w : Spots) (hand : List Item) → hand ≡ [] → IsNext n l w hand → ⊥
-nothing_to_do n l w hand e k = subst (λ z. IsNext n l w z) e k
+nothing_to_do : (n : ℕ) (l : Label) (w : Spots) (to_do : List Item) → to_do ≡ [] → IsNext n l w to_do → ⊥
+nothing_to_do n l w to_do e k = subst (λ z. IsNext n l w z) e k
 
-one_way_on : (p : Program) (q : Occasion) (n : ℕ) (ls ms : List Label) (w : World) (hand : List Item) → GoesOn p q n ls w hand → GoesOn p q n ms w hand → ls ≡ ms
-one_way_on p q n [] [] w hand x y = refl
-one_way_on p q n [] (m ∷ ms) w hand x y = absurd (nothing_to_do n m w.spots (past_sends hand) x y.0)
-one_way_on p q n (l ∷ ls) [] w hand x y = absurd (nothing_to_do n l w.spots (past_sends hand) y x.0)
-one_way_on p q n (l ∷ ls) (m ∷ ms) w hand x y =
-    let one : l ≡ m = one_next_label p q n l m w (past_sends hand) x.0 y.0 x.1 y.1 in
-    let rest : ls ≡ ms = one_way_on p (saying l q) n ls ms (world_after p n l w) (to_do_after p n l w.spots (past_sends hand)) x.2
-    (subst (λ z. GoesOn p (saying z q) n ms (world_after p n z w) (to_do_after p n z w.spots (past_sends hand))) (sym one) y.2) in
+one_way_on : (p : Program) (q : Occasion) (n : ℕ) (ls ms : List Label) (w : World) (to_do : List Item) → GoesOn p q n ls w to_do → GoesOn p q n ms w to_do → ls ≡ ms
+one_way_on p q n [] [] w to_do x y = refl
+one_way_on p q n [] (m ∷ ms) w to_do x y = absurd (nothing_to_do n m w.spots (past_sends to_do) x y.0)
+one_way_on p q n (l ∷ ls) [] w to_do x y = absurd (nothing_to_do n l w.spots (past_sends to_do) y x.0)
+one_way_on p q n (l ∷ ls) (m ∷ ms) w to_do x y =
+    let one : l ≡ m = one_next_label p q n l m w (past_sends to_do) x.0 y.0 x.1 y.1 in
+    let rest : ls ≡ ms = one_way_on p (saying l q) n ls ms (world_after p n l w) (to_do_after p n l w.spots (past_sends to_do)) x.2
+    (subst (λ z. GoesOn p (saying z q) n ms (world_after p n z w) (to_do_after p n z w.spots (past_sends to_do))) (sym one) y.2) in
     ap (λ z. z ∷ ls) one ∙ ap (λ zs. m ∷ zs) rest
 
 -- ## The beginning of an entry
@@ -76,8 +76,8 @@ with_labels h ls = record { stamp = h.stamp; node = h.node; round = h.round; act
 pub one_entry : (p : Program) (w : World) (x y : Entry) → heading x ≡ heading y → IsEntry p w x → IsEntry p w y → x ≡ y
 one_entry p w x y e i j =
     let k : IsEntry p w (with_labels (heading x) y.labels) = subst (λ h. IsEntry p w (with_labels h y.labels)) (sym e) j in
-    let hand : i.to_do ≡ k.to_do = one_start p x.stamp x.node x.act w i.to_do k.to_do i.starts k.starts in
-    let labels : x.labels ≡ y.labels = one_way_on p (occasion x w) x.node x.labels y.labels w i.to_do i.goes (subst (λ h. GoesOn p (occasion x w) x.node y.labels w h) (sym hand) k.goes) in
+    let to_do : i.to_do ≡ k.to_do = one_start p x.stamp x.node x.act w i.to_do k.to_do i.starts k.starts in
+    let labels : x.labels ≡ y.labels = one_way_on p (occasion x w) x.node x.labels y.labels w i.to_do i.goes (subst (λ h. GoesOn p (occasion x w) x.node y.labels w h) (sym to_do) k.goes) in
     ap (λ ls. with_labels (heading x) ls) labels ∙ ap (λ h. with_labels h y.labels) e
 
 -- two traces that were asked the same are the same

@@ -40,7 +40,7 @@ use Rattle.run_trace.specs.Items.{subject}
 use Rattle.run_trace.specs.Alone.{is_about}
 use Rattle.run_trace.specs.World.{World}
 use Rattle.run_trace.specs.Rules.{IsBorn, MayHear, MayJudge, MayTell, MayTake, MayGive, MayLeave, MayCome, MayShow, MayKnow, JoinerAwaits, IsReply, SoloRule, LifeRule, RepliesRule, Occasion, quantum_in}
-use Rattle.run_trace.specs.Spots.{Stage, Ready, Running, Due, Served, Told_next, Told_then, Departs, Ends, Leaves, Halts, Stays, Shows, Showing, Shown_there, Asks, Awaits, Answers, Answered, Life, Unborn, On, Moving, Noting, Gone, Response, Spot, Spots, creator_served, priority_by, joiner_served, born_spot, ran_spot, ran_stage, stepped, passed_stage, asked_stage, stage_of_call, heard_life, heard_at, judged_life, judged_guest, told_stage, gave_life, shown_life, end_in, second_of, after_label}
+use Rattle.run_trace.specs.Spots.{Stage, Ready, Running, Due, Served, Told_next, Told_then, Departs, Ends, Leaves, Halts, Stays, Shows, Showing, Shown_there, Asks, Awaits, Answers, Answered, Life, Unborn, On, Moving, Noting, Gone, Response, Spot, Spots, creator_served, priority_by, joiner_served, born_spot, ran_spot, ran_stage, stepped, passed_stage, asked_stage, stage_of_call, heard_life, heard_at, judged_life, judged_guest, told_stage, gave_life, shown_life, end_in, second_of, told_guest, after_label}
 use Rattle.trace_laws.proofs.Tids.{is-true}
 use Rattle.trace_laws.proofs.Heaps.{gave_all}
 use Rattle.trace_laws.proofs.OwnLives.{exit_value, ends_as, end_at, began, with_slots, free_of, is_address, allotted, given_to, goes_on, ran_on, answered_with, solo_after, printed_by, printed_at, named_line, lines_after, EachCalls}
@@ -155,7 +155,7 @@ pub record IsJudged (image : List ℕ) (v : Response) (a : Lived) (x : Solo) (li
   pub was : Solo
   pub at : Calling image a was
   pub same : x ≡ given_to (call_of was.state) a.coming.slots a.coming.code was
-  pub verdict : v ≡ record { code = a.coming.code; second = second_of a.coming.extra }
+  pub verdict : v ≡ record { code = a.coming.code; extra = a.coming.extra }
   pub lines_are : lines ≡ lines_before image a ++ printed_at image a.coming.code was
 
 pub record IsShown (image : List ℕ) (v : Response) (a : Lived) (x : Solo) (lines : List (List ℕ)) : Type 0 where
@@ -323,7 +323,7 @@ with_reply reply extra a = record a { coming = record a.coming { code = reply; e
 -- a reply that gives nothing and writes nothing
 judged_plainly : (image : List ℕ) (a : Lived) (x : Solo) (lines : List (List ℕ)) (reply : ℕ) (extra : Extra)
     → IsWaiting image a x lines → given_to (call_of x.state) [] reply x ≡ x → printed_at image reply x ≡ []
-    → IsJudged image (record { code = reply; second = second_of extra }) (with_reply reply extra a) x lines
+    → IsJudged image (record { code = reply; extra = extra }) (with_reply reply extra a) x lines
 judged_plainly image a x lines reply extra k same silent = record {
   was = x;
   at = k.at;
@@ -335,7 +335,7 @@ judged_plainly image a x lines reply extra k same silent = record {
 -- the reply of a call that its node serves
 judged_served : (image : List ℕ) (a : Lived) (x y : Solo) (lines : List (List ℕ)) (reply : ℕ) (extra : Extra) (c : Call)
     → Calling image a y → c ≡ call_of y.state → lines ≡ lines_before image a → x ≡ given_to c a.coming.slots reply y → printed_by image c reply y.state ≡ []
-    → IsJudged image (record { code = reply; second = second_of extra }) (with_reply reply extra a) x lines
+    → IsJudged image (record { code = reply; extra = extra }) (with_reply reply extra a) x lines
 judged_served image a x y lines reply extra c at is lines_are same silent = record {
   was = y;
   at = at;
@@ -364,7 +364,7 @@ freed_so x y address (inl same) none =
 
 own_judged : (image : List ℕ) (n : ℕ) (life : Life) (g : Guest) (v : Response) (lines : List (List ℕ)) (a : Lived) (reply : ℕ) (extra : Extra)
     → MayJudge n life → IsReply life g reply extra → LifeTale image life g.solo v lines a
-    → LifeTale image (judged_life life) (judged_guest life g).solo (record { code = reply; second = second_of extra }) lines (with_reply reply extra a)
+    → LifeTale image (judged_life life) (judged_guest life g).solo (record { code = reply; extra = extra }) lines (with_reply reply extra a)
 own_judged image n (On m (Due code)) g v lines a reply extra may is k =
     judged_plainly image a g.solo lines reply extra k.waits (ap (λ z. given_to (call_of g.solo.state) [] z g.solo) is.0 ∙ k.same) (ap (λ z. printed_at image z g.solo) is.0 ∙ k.silent)
 own_judged image n (On m Showing) g v lines a reply extra may is k =
@@ -398,10 +398,10 @@ own_judged image n (On m (Served (Isofree address))) g v lines a reply extra may
     ∙ sym (ap (λ z. given_to (Isofree address) a.coming.slots z k.was) is.0.0)) refl
 own_judged image n (On m (Served (MigrateSelf to))) g v lines a reply extra may is k = by (eqb to m)
   where
-    judged : IsJudged image (record { code = reply; second = second_of extra }) (with_reply reply extra a) g.solo lines
+    judged : IsJudged image (record { code = reply; extra = extra }) (with_reply reply extra a) g.solo lines
     judged = judged_served image a g.solo k.was lines reply extra (MigrateSelf to) k.at k.is k.lines_are k.midst.1 refl
 
-    by : (b : Bool) → StageTale image (cond b Told_next (Told_then to)) g.solo (record { code = reply; second = second_of extra }) lines (with_reply reply extra a)
+    by : (b : Bool) → StageTale image (cond b Told_next (Told_then to)) g.solo (record { code = reply; extra = extra }) lines (with_reply reply extra a)
     by true = judged
     by false = judged
 own_judged image n life g v lines a reply extra may is k = grind (arith, may, is)
@@ -421,11 +421,11 @@ told_calls : (image : List ℕ) (v : Response) (a : Lived) (x : Solo) (lines : L
 told_calls image v a x lines calls k = (calls, (k.was.state, k.at.reached.steps, k.at.call))
 
 told_ready : (image : List ℕ) (v : Response) (a : Lived) (g : Guest) (lines : List (List ℕ)) → IsJudged image v a g.solo lines
-    → IsReady image (told_then a) (told v.code v.second g).solo lines
+    → IsReady image (told_then a) (told_guest v g).solo lines
 told_ready image v a g lines k =
     let came : ran_on image a.since (solo_after image a.start a.stretches) ≡ k.was = came_so image a k.was k.at.reached in
-    let same : (told v.code v.second g).solo ≡ solo_after image a.start (told_then a).stretches =
-    ap (λ (z : Response). (told z.code z.second g).solo) k.verdict
+    let same : (told_guest v g).solo ≡ solo_after image a.start (told_then a).stretches =
+    ap (λ (z : Response). (told_guest z g).solo) k.verdict
     ∙ ap (λ (z : Solo). goes_on a.coming.code a.coming.extra z) k.same
     ∙ ap (λ (z : Solo). answered_with a.coming z) (sym came) in
     record {
@@ -450,12 +450,12 @@ goes_ready image n (On m (Told_then to)) x v lines a k = k
 goes_ready image n life x v lines a k = grind (arith, k)
 
 own_told : (image : List ℕ) (n : ℕ) (s : Spot) (lines : List (List ℕ)) (a : Lived) → MayTell n s.life → Tale image s lines a
-    → Tale image (record s { life = On n (told_stage s.life); guest = told s.verdict.code s.verdict.second s.guest }) lines (told_then a)
+    → Tale image (record s { life = On n (told_stage s.life); guest = told_guest s.verdict s.guest }) lines (told_then a)
 own_told image n s lines a may k =
     let judged : IsJudged image s.verdict a s.guest.solo lines = tells_judged image n s.life s.guest.solo s.verdict lines a may k.life in
     record {
       calls = told_calls image s.verdict a s.guest.solo lines k.calls judged;
-      life = goes_ready image n s.life (told s.verdict.code s.verdict.second s.guest).solo s.verdict lines (told_then a) (told_ready image s.verdict a s.guest lines judged);
+      life = goes_ready image n s.life (told_guest s.verdict s.guest).solo s.verdict lines (told_then a) (told_ready image s.verdict a s.guest lines judged);
     }
 
 -- ## Slots

@@ -87,9 +87,9 @@ at_hand t false life old h = absurd (cc h)
 abbrev pub Tells : Tid → ℕ → ℕ → Word → Life → Response → Guest → Type 0
 Tells t i j (Travels x) life v g = (life ≡ Moving i j) × (x ≡ packed t g)
 Tells t i j (Line u bytes) life v g = (u ≡ t) × (life ≡ On i (Shows bytes)) × (j ≡ 0)
-Tells t i j (Line_shown u code second) life v g = (u ≡ t) × (life ≡ On j Shown_there) × (i ≡ 0) × (v.code ≡ code) × (v.second ≡ second)
+Tells t i j (Line_shown u code extra) life v g = (u ≡ t) × (life ≡ On j Shown_there) × (i ≡ 0) × (v.code ≡ code) × (v.extra ≡ extra)
 Tells t i j (Joins u target) life v g = (u ≡ t) × (life ≡ On i (Asks target)) × (j ≡ target.home)
-Tells t i j (Reply u code second) life v g = (u ≡ t) × (life ≡ On j (Answered i)) × (v.code ≡ code) × (v.second ≡ second)
+Tells t i j (Reply u code extra) life v g = (u ≡ t) × (life ≡ On j (Answered i)) × (v.code ≡ code) × (v.extra ≡ extra)
 Tells t i j (Ended_word u end) life v g = (u ≡ t) × (life ≡ Noting i end) × (j ≡ t.home)
 
 pub at_way : (t : Tid) (life : Life) (v : Response) (g : Guest) (x : Way) → IsOneOf x (ways_of t life v g) → Tells t x.from x.to x.word life v g

@@ -27,7 +27,7 @@ use Rattle.run_trace.specs.Cluster.{Event, Net, net_after, next_packet, after_or
 use Rattle.run_trace.specs.Keyed.{item_of}
 use Rattle.run_trace.specs.Rules.{Occasion, quantum_in}
 use Rattle.run_trace.specs.Console.{shown_by_all}
-use Rattle.run_trace.specs.Spots.{Ready, Shown_there, Answered, Unborn, On, Noting, Response, Spots, after_labels}
+use Rattle.run_trace.specs.Spots.{Ready, Shown_there, Answered, Unborn, On, Noting, Response, Spots, second_of, after_labels}
 use Rattle.run_trace.specs.Stands.{Here, Stands, Line_shown, Reply, word_subject, word_of, words_of, words_about, way, ways_of, link_part, listed, listed_name, phase_of}
 use Rattle.trace_laws.proofs.Tids.{is-refl}
 use Rattle.run_trace.specs.declared.label.Label.{Label}
@@ -38,14 +38,14 @@ use Rattle.trace_laws.proofs.Parts.{at_row, not_busy, row_found, listed_found, a
 use Rattle.trace_laws.proofs.Subjects.{subject-refl, less_word, IsOneOf, on_way}
 use Rattle.run_trace.specs.Items.{Thread as Subject_of}
 use Rattle.trace_laws.proofs.Picking.{best_is}
-use Rattle.trace_laws.proofs.Firsts.{run-first}
-use Rattle.trace_laws.proofs.Steps.{on_node, sent_ok}
+use Rattle.trace_laws.proofs.Firsts.{run-first, RunsFirst, runs_next}
+use Rattle.trace_laws.proofs.Steps.{on_node, sent_ok, second-extra}
 use Rattle.trace_laws.proofs.Lifetimes.{main_born_ok}
 use Rattle.trace_laws.proofs.Takes.{shows_ok, acknowledges_ok, tell_taken_ok, open_birth, may_come_ok, comes_ok}
 use Rattle.trace_laws.proofs.Joins.{hears_ok, knows_ok}
 use Rattle.trace_laws.proofs.Events.{run_ok}
 use Rattle.run_trace.specs.Links.{first_of, rest_of, left_after, packets_to}
-use Rattle.trace_laws.specs.Obeys.{world_at, PicksBest, RunsFirst, all_causes}
+use Rattle.trace_laws.specs.Obeys.{world_at, PicksBest, all_causes}
 
 -- an act and the packet that it takes, before anything is said
 abbrev pub asked_of : Act → Option Packet → Occasion
@@ -219,8 +219,8 @@ module _ (p : Program) (w : Spots) (net : Net) (s : Stands p w net) (q : Occasio
           record {
             expected = rw (on_node p net q n (world_at w net) (under_way net) (nothing (net.nodes n)) [] t Shown_there here k.1, in_cluster t (λ e. absurd (cc (e, k.1)))) refl;
             comes = subst (λ z. Midst p net q n (world_at w net) (at_link i n (less_word (Subject_of t)) (under_way net)) (tell t z None (nothing (net.nodes n))) []) k.3
-                (subst (λ z. Midst p net q n (world_at w net) (at_link i n (less_word (Subject_of t)) (under_way net)) (tell t v.code z (nothing (net.nodes n))) []) k.4
-                (tell_taken_ok p net q n (world_at w net) (under_way net) (net.nodes n) i t Shown_there wait.ForShow (Line_shown t v.code v.second) here k.1 refl refl (ap (λ z. way z n (Line_shown t v.code v.second)) (sym k.2)) refl refl (λ j. refl) (λ u j e. absurd (cc e)) refl));
+                (subst (λ z. Midst p net q n (world_at w net) (at_link i n (less_word (Subject_of t)) (under_way net)) (tell t v.code (second_of z) (nothing (net.nodes n))) []) k.4
+                (tell_taken_ok p net q n (world_at w net) (under_way net) (net.nodes n) i t Shown_there wait.ForShow (Line_shown t v.code v.extra) here k.1 refl refl (ap (λ z. way z n (Line_shown t v.code v.extra)) (sym k.2)) refl refl (λ j. refl) (λ u j e. absurd (cc e)) refl));
           }
       by (JoinAsk t seq) tells =
           let k = tells t refl in
@@ -234,8 +234,8 @@ module _ (p : Program) (w : Spots) (net : Net) (s : Stands p w net) (q : Occasio
           record {
             expected = rw (on_node p net q n (world_at w net) (under_way net) (nothing (net.nodes n)) [] t (Answered i) here k.1, in_cluster t (λ e. absurd (cc (e, k.1)))) refl;
             comes = subst (λ z. Midst p net q n (world_at w net) (at_link i n (less_word (Subject_of t)) (under_way net)) (tell t z second (nothing (net.nodes n))) []) k.2
-                (subst (λ z. Midst p net q n (world_at w net) (at_link i n (less_word (Subject_of t)) (under_way net)) (tell t v.code z (nothing (net.nodes n))) []) k.3
-                (tell_taken_ok p net q n (world_at w net) (under_way net) (net.nodes n) i t (Answered i) wait.ForAnswer (Reply t v.code v.second) here k.1 refl refl refl refl refl (λ j. refl) (λ u j e. absurd (cc e)) refl));
+                (subst (λ z. Midst p net q n (world_at w net) (at_link i n (less_word (Subject_of t)) (under_way net)) (tell t v.code z (nothing (net.nodes n))) []) (ap second_of k.3 ∙ second-extra second)
+                (tell_taken_ok p net q n (world_at w net) (under_way net) (net.nodes n) i t (Answered i) wait.ForAnswer (Reply t v.code v.extra) here k.1 refl refl refl refl refl (λ j. refl) (λ u j e. absurd (cc e)) refl));
           }
       by (EndNote seq end) tells =
           let k = tells (tid n seq) refl in
@@ -358,7 +358,7 @@ acts_simulate p w net stamp n round (RunThread vp q) None d s range is i h = by_
     by_thread r e (Some x) f g =
         let same : run_thread p n vp q r.tid x (nothing (net.nodes n)) ≡ d = cc g in
         simulated p w net stamp n round (RunThread vp q) None d _ is (subst (λ z. Midst p net (asked_of (RunThread vp q) None) n (world_at w net) (under_way net) z []) same (ran_midst p w net s (asked_of (RunThread vp q) None) n (range_below p n (net.nodes n) (RunThread vp q) range) vp r x e f)) (none_left net n (RunThread vp q) (λ i ps. refl))
-        (r, best_is (net.nodes n).places.rows r e, subst (λ (z : Doing). RunsFirst r.tid vp z.labels) same (run-first r.tid vp p n q x (net.nodes n))) s.rising
+        (r, best_is (net.nodes n).places.rows r e, runs_next r.tid vp d.labels (subst (λ (z : Doing). RunsFirst r.tid vp z.labels) same (run-first r.tid vp p n q x (net.nodes n)))) s.rising
 
     by_row : (r : Option Row) → best (net.nodes n).places.rows ≡ r → run_picked p n vp q r (net.nodes n) ≡ Some d → Simulates p w net (event stamp n round (RunThread vp q) None d)
     by_row None e g = absurd (cc g)

@@ -213,7 +213,7 @@ module _ (p : Program) (net : Net) (q : Occasion) (n : ℕ) (w : World) (L : Lin
 
   pub judge_ok : (d : Doing) (t : Tid) (code : ℕ) (second : Option ℕ) (a b : Stage) (hs : List Busy) → (m : Is d (busy t (On n a) ∷ hs))
       → Allows p (having_said d.labels q) n (Judged t code (extra_of second)) m.now
-      → after_label p n (Judged t code (extra_of second)) m.now.spots ≡ spots_with (update m.now.spots.threads t (record (spot m.now.spots t) { life = On n b; verdict = record { code = code; second = second_of (extra_of second) } })) m.now.spots.slots m.now.spots.births m.now.spots.halts
+      → after_label p n (Judged t code (extra_of second)) m.now.spots ≡ spots_with (update m.now.spots.threads t (record (spot m.now.spots t) { life = On n b; verdict = record { code = code; extra = extra_of second } })) m.now.spots.slots m.now.spots.births m.now.spots.halts
       → causes p n (Judged t code (extra_of second)) m.now.spots ≡ []
       → is_home a ≡ true → thread_in_stage a (spot m.now.spots t).guest ≡ Some (waits wait.No (spot m.now.spots t).guest) → row_in_stage t a (spot m.now.spots t).guest.priority ≡ None → held_in_stage a (spot m.now.spots t).guest ≡ Some (holding_of (spot m.now.spots t).guest)
       → is_home b ≡ true → is_busy n (On n b) ≡ true → thread_in_stage b (spot m.now.spots t).guest ≡ Some (waits wait.No (spot m.now.spots t).guest) → row_in_stage t b (spot m.now.spots t).guest.priority ≡ None → held_in_stage b (spot m.now.spots t).guest ≡ Some (holding_of (spot m.now.spots t).guest)
@@ -223,7 +223,7 @@ module _ (p : Program) (net : Net) (q : Occasion) (n : ℕ) (w : World) (L : Lin
       let v : Spots = m.now.spots in
       let s : Spot = spot m.now.spots t in
       let x : s.life ≡ On n a = in_hand d t (On n a) hs m in
-      let r : Spot = record s { life = On n b; verdict = record { code = code; second = second_of (extra_of second) } } in
+      let r : Spot = record s { life = On n b; verdict = record { code = code; extra = extra_of second } } in
       home_step d _ (busy t (On n b) ∷ hs) (Judged t code (extra_of second)) t r d.node a b m same ok sent refl x refl home home_b (keeps _ _ (slots_b ∙ sym slots))
       (record {
         threads = map_kept is_tid is-true is-refl (thread_part n) v.threads t r d.node.threads m.here.threads (thread_was r t b refl ∙ there_b ∙ sym (thread_was s t a x ∙ there));
@@ -233,7 +233,7 @@ module _ (p : Program) (net : Net) (q : Occasion) (n : ℕ) (w : World) (L : Lin
 
   -- what a thread that is told is then
   abbrev told_with : Spots → Tid → Stage → Spot
-  told_with v t b = record (spot v t) { life = On n b; guest = told (spot v t).verdict.code (spot v t).verdict.second (spot v t).guest }
+  told_with v t b = record (spot v t) { life = On n b; guest = told (spot v t).verdict.code (second_of (spot v t).verdict.extra) (spot v t).guest }
 
   -- a thread in this stage is told, and goes on in that one
   tells_ok : (d : Doing) (t : Tid) (a b : Stage) (hs more : List Busy) → (m : Is d (busy t (On n a) ∷ hs))
@@ -243,16 +243,16 @@ module _ (p : Program) (net : Net) (q : Occasion) (n : ℕ) (w : World) (L : Lin
       → ((g : Guest) → held_in_stage a g ≡ Some (holding_of g)) → ((g : Guest) → held_in_stage b g ≡ Some (holding_of g))
       → StandsFor is_tid busy_name (busy_part n) more (update m.now.spots.threads t (told_with m.now.spots t b))
       → Own n (Told t) t m.now.spots d.labels (busy t (On n a) ∷ hs) more (On n b)
-      → Is (tell t (spot m.now.spots t).verdict.code (spot m.now.spots t).verdict.second d) more
+      → Is (tell t (spot m.now.spots t).verdict.code (second_of (spot m.now.spots t).verdict.extra) d) more
   unfolding tell arrive say keep
   tells_ok d t a b hs more m may next home_a home_b there_a there_b row_a row_b held_a held_b hand own =
       let v : Spots = m.now.spots in
       let s : Spot = spot m.now.spots t in
       let x : s.life ≡ On n a = in_hand d t (On n a) hs m in
-      let y : Guest = told s.verdict.code s.verdict.second s.guest in
+      let y : Guest = told s.verdict.code (second_of s.verdict.extra) s.guest in
       let r : Spot = told_with m.now.spots t b in
       let stage : told_stage s.life ≡ b = ap told_stage x ∙ next in
-      subst (λ o. Is (tell_found t s.verdict.code s.verdict.second o d) more) (sym (on_node d _ t a m x ∙ there_a s.guest))
+      subst (λ o. Is (tell_found t s.verdict.code (second_of s.verdict.extra) o d) more) (sym (on_node d _ t a m x ∙ there_a s.guest))
       (home_step d _ more (Told t) t r _ a b m (ap (λ z. spots_with (update v.threads t (record s { life = On n z; guest = y })) v.slots v.births v.halts) stage)
       (record { solo = tt; holders = tt; life = subst (λ z. MayTell n z) (sym x) may; replies = tt; grants = tt }) refl refl x refl home_a home_b (keeps _ _ (held_b y ∙ sym (held_a s.guest)))
       (record {
@@ -263,7 +263,7 @@ module _ (p : Program) (net : Net) (q : Occasion) (n : ℕ) (w : World) (L : Lin
       }) refl refl refl own refl refl).midst
 
   -- it is told, and is ready
-  pub tell_ok : (d : Doing) (t : Tid) (hs : List Busy) → (m : Is d (busy t (On n Told_next) ∷ hs)) → Is (tell t (spot m.now.spots t).verdict.code (spot m.now.spots t).verdict.second d) hs
+  pub tell_ok : (d : Doing) (t : Tid) (hs : List Busy) → (m : Is d (busy t (On n Told_next) ∷ hs)) → Is (tell t (spot m.now.spots t).verdict.code (second_of (spot m.now.spots t).verdict.extra) d) hs
   tell_ok d t hs m =
       let v : Spots = m.now.spots in
       let r : Spot = told_with m.now.spots t Ready in
@@ -272,7 +272,7 @@ module _ (p : Program) (net : Net) (q : Occasion) (n : ℕ) (w : World) (L : Lin
       (own_goes d t (On n Told_next) hs (Told t) (On n Ready) m refl refl refl)
 
   -- it is told, and leaves next
-  tell_then_ok : (d : Doing) (t : Tid) (to : ℕ) (hs : List Busy) → (m : Is d (busy t (On n (Told_then to)) ∷ hs)) → Is (tell t (spot m.now.spots t).verdict.code (spot m.now.spots t).verdict.second d) (busy t (On n (Departs to)) ∷ hs)
+  tell_then_ok : (d : Doing) (t : Tid) (to : ℕ) (hs : List Busy) → (m : Is d (busy t (On n (Told_then to)) ∷ hs)) → Is (tell t (spot m.now.spots t).verdict.code (second_of (spot m.now.spots t).verdict.extra) d) (busy t (On n (Departs to)) ∷ hs)
   tell_then_ok d t to hs m =
       let v : Spots = m.now.spots in
       let r : Spot = told_with m.now.spots t (Departs to) in
@@ -287,9 +287,9 @@ module _ (p : Program) (net : Net) (q : Occasion) (n : ℕ) (w : World) (L : Lin
   judged_verdict v u t code second s e same = ap (λ (z : World). (z.spots.threads t).verdict) e ∙ ap (λ (z : Spots). (z.threads t).verdict) same ∙ ap (λ (z : Spot). z.verdict) (updated v.spots.threads t s)
 
   judged_same : (v : Spots) (t : Tid) (code : ℕ) (second : Option ℕ) (life : Life) → (spot v t).life ≡ life
-      → after_label p n (Judged t code (extra_of second)) v ≡ spots_with (update v.threads t (record { life = judged_life life; guest = judged_guest life (spot v t).guest; verdict = record { code = code; second = second_of (extra_of second) } })) v.slots v.births v.halts
+      → after_label p n (Judged t code (extra_of second)) v ≡ spots_with (update v.threads t (record { life = judged_life life; guest = judged_guest life (spot v t).guest; verdict = record { code = code; extra = extra_of second } })) v.slots v.births v.halts
   judged_same v t code second life x =
-      ap (λ z. spots_with (update v.threads t (record { life = judged_life z; guest = judged_guest z (spot v t).guest; verdict = record { code = code; second = second_of (extra_of second) } })) v.slots v.births v.halts) x
+      ap (λ z. spots_with (update v.threads t (record { life = judged_life z; guest = judged_guest z (spot v t).guest; verdict = record { code = code; extra = extra_of second } })) v.slots v.births v.halts) x
 
   -- a thread that is due a reply has it at once
   pub answer_ok : (d : Doing) (t : Tid) (code : ℕ) (hs : List Busy) → (m : Is d (busy t (On n (Due code)) ∷ hs)) → Is (answer t code d) hs
@@ -297,7 +297,7 @@ module _ (p : Program) (net : Net) (q : Occasion) (n : ℕ) (w : World) (L : Lin
       let x : (spot m.now.spots t).life ≡ On n (Due code) = in_hand d t (On n (Due code)) hs m in
       let same = judged_same m.now.spots t code None (On n (Due code)) x in
       let k = judge_ok d t code None (Due code) Told_next hs m (record { solo = tt; holders = tt; life = rw x refl; replies = rw x (refl, refl); grants = rw x tt }) same (ap (judged_causes t) x) refl refl refl refl refl (eq-eqb n n refl) refl refl refl in
-      subst (λ (z : Response). Is (tell t z.code z.second (judge t code None d)) hs) (judged_verdict m.now k.midst.now t code None _ k.now same)
+      subst (λ (z : Response). Is (tell t z.code (second_of z.extra) (judge t code None d)) hs) (judged_verdict m.now k.midst.now t code None _ k.now same)
       (tell_ok (judge t code None d) t hs k.midst)
 
   -- Full, where the node has no slot
@@ -308,7 +308,7 @@ module _ (p : Program) (net : Net) (q : Occasion) (n : ℕ) (w : World) (L : Lin
       let code : ℕ = reply_code replies.Full in
       let same = judged_same m.now.spots t code None (On n stage) x in
       let k = judge_ok d t code None stage Told_next hs m (record { solo = tt; holders = tt; life = rw x refl; replies = rw x (refl, refl); grants = rw x none }) same (ap (judged_causes t) x) refl refl refl refl refl (eq-eqb n n refl) refl refl refl in
-      subst (λ (z : Response). Is (tell t z.code z.second (judge t code None d)) hs) (judged_verdict m.now k.midst.now t code None _ k.now same)
+      subst (λ (z : Response). Is (tell t z.code (second_of z.extra) (judge t code None d)) hs) (judged_verdict m.now k.midst.now t code None _ k.now same)
       (tell_ok (judge t code None d) t hs k.midst)
 
   -- a move to another node is answered, and leaves next
@@ -318,9 +318,9 @@ module _ (p : Program) (net : Net) (q : Occasion) (n : ℕ) (w : World) (L : Lin
       let stage : Stage = Served (MigrateSelf to) in
       let x : (spot m.now.spots t).life ≡ On n stage = in_hand d t (On n stage) hs m in
       let same = judged_same m.now.spots t 0 None (On n stage) x
-      ∙ ap (λ z. spots_with (update v.threads t (record { life = On n (cond z Told_next (Told_then to)); guest = (spot m.now.spots t).guest; verdict = record { code = 0; second = None } })) v.slots v.births v.halts) away in
+      ∙ ap (λ z. spots_with (update v.threads t (record { life = On n (cond z Told_next (Told_then to)); guest = (spot m.now.spots t).guest; verdict = record { code = 0; extra = Nothing } })) v.slots v.births v.halts) away in
       let k = judge_ok d t 0 None stage (Told_then to) hs m (record { solo = tt; holders = tt; life = rw x refl; replies = rw x (refl, refl); grants = rw x tt }) same (ap (judged_causes t) x) refl refl refl refl refl (eq-eqb n n refl) refl refl refl in
-      subst (λ (z : Response). Is (tell t z.code z.second (judge t 0 None d)) (busy t (On n (Departs to)) ∷ hs)) (judged_verdict m.now k.midst.now t 0 None _ k.now same)
+      subst (λ (z : Response). Is (tell t z.code (second_of z.extra) (judge t 0 None d)) (busy t (On n (Departs to)) ∷ hs)) (judged_verdict m.now k.midst.now t 0 None _ k.now same)
       (tell_then_ok (judge t 0 None d) t to hs k.midst)
 
   -- a move to the thread's own node is answered, and it is ready
@@ -330,9 +330,9 @@ module _ (p : Program) (net : Net) (q : Occasion) (n : ℕ) (w : World) (L : Lin
       let stage : Stage = Served (MigrateSelf to) in
       let x : (spot m.now.spots t).life ≡ On n stage = in_hand d t (On n stage) hs m in
       let same = judged_same m.now.spots t 0 None (On n stage) x
-      ∙ ap (λ z. spots_with (update v.threads t (record { life = On n (cond z Told_next (Told_then to)); guest = (spot m.now.spots t).guest; verdict = record { code = 0; second = None } })) v.slots v.births v.halts) stays in
+      ∙ ap (λ z. spots_with (update v.threads t (record { life = On n (cond z Told_next (Told_then to)); guest = (spot m.now.spots t).guest; verdict = record { code = 0; extra = Nothing } })) v.slots v.births v.halts) stays in
       let k = judge_ok d t 0 None stage Told_next hs m (record { solo = tt; holders = tt; life = rw x refl; replies = rw x (refl, refl); grants = rw x tt }) same (ap (judged_causes t) x) refl refl refl refl refl (eq-eqb n n refl) refl refl refl in
-      subst (λ (z : Response). Is (tell t z.code z.second (judge t 0 None d)) hs) (judged_verdict m.now k.midst.now t 0 None _ k.now same)
+      subst (λ (z : Response). Is (tell t z.code (second_of z.extra) (judge t 0 None d)) hs) (judged_verdict m.now k.midst.now t 0 None _ k.now same)
       (tell_ok (judge t 0 None d) t hs k.midst)
 
   -- a reply that changes its thread
@@ -346,10 +346,10 @@ module _ (p : Program) (net : Net) (q : Occasion) (n : ℕ) (w : World) (L : Lin
       let v : Spots = m.now.spots in
       let s : Spot = spot m.now.spots t in
       let x : s.life ≡ On n (Served c) = in_hand d t (On n (Served c)) hs m in
-      let r : Spot = record { life = On n Told_next; guest = g; verdict = record { code = code; second = None } } in
+      let r : Spot = record { life = On n Told_next; guest = g; verdict = record { code = code; extra = Nothing } } in
       let same = judged_same m.now.spots t code None (On n (Served c)) x
-      ∙ ap (λ z. spots_with (update v.threads t (record { life = On n z; guest = judged_guest (On n (Served c)) s.guest; verdict = record { code = code; second = None } })) v.slots v.births v.halts) next
-      ∙ ap (λ (z : Guest). spots_with (update v.threads t (record { life = On n Told_next; guest = z; verdict = record { code = code; second = None } })) v.slots v.births v.halts) becomes in
+      ∙ ap (λ z. spots_with (update v.threads t (record { life = On n z; guest = judged_guest (On n (Served c)) s.guest; verdict = record { code = code; extra = Nothing } })) v.slots v.births v.halts) next
+      ∙ ap (λ (z : Guest). spots_with (update v.threads t (record { life = On n Told_next; guest = z; verdict = record { code = code; extra = Nothing } })) v.slots v.births v.halts) becomes in
       home_step d _ (busy t (On n Told_next) ∷ hs) (Judged t code Nothing) t r _ (Served c) Told_next m same ok (ap (judged_causes t) x) refl x refl refl refl holds
       (record {
         threads = map_set is_tid is-true is-refl (thread_part n) v.threads t r d.node.threads (waits wait.No s.guest) (waits wait.No g) m.here.threads (thread_was s t (Served c) x) (thread_was r t Told_next refl);
@@ -365,7 +365,7 @@ module _ (p : Program) (net : Net) (q : Occasion) (n : ℕ) (w : World) (L : Lin
       → Is (settles t code g d) hs
   settles_ok d t code g c hs m next becomes ok holds =
       let k = settle_ok d t code g c hs m next becomes ok holds in
-      subst (λ (z : Response). Is (tell t z.code z.second (settle t code g d)) hs) (judged_verdict m.now k.midst.now t code None _ k.now refl)
+      subst (λ (z : Response). Is (tell t z.code (second_of z.extra) (settle t code g d)) hs) (judged_verdict m.now k.midst.now t code None _ k.now refl)
       (tell_ok (settle t code g d) t hs k.midst)
 
   -- ## Runs

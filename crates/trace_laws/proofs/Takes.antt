@@ -36,7 +36,7 @@ use Rattle.trace_laws.proofs.Midst.{Links, Midst, plain, keeps, LinkStands, at_l
 use Rattle.trace_laws.proofs.Parts.{listed_arrived, away_thread, away_row, busy_none}
 use Rattle.trace_laws.proofs.Consequences.{OnNode, on_node_is}
 use Rattle.trace_laws.proofs.Lifetimes.{thread_holds}
-use Rattle.trace_laws.proofs.Steps.{own_goes, moved, send_step, in_hand, is_in_hand, on_node, thread_was, row_was, idle_was, second-extra}
+use Rattle.trace_laws.proofs.Steps.{own_goes, moved, send_step, in_hand, is_in_hand, on_node, thread_was, row_was, idle_was}
 use Rattle.run_trace.specs.Calls.{extra_of}
 use Rattle.run_trace.specs.Causes.{judged_causes}
 use Rattle.run_trace.specs.Items.{is_busy, Thread as Subject_of}
@@ -112,13 +112,13 @@ module _ (p : Program) (net : Net) (q : Occasion) (n : ℕ) (w : World) (L : Lin
       → MayTell n (On n a) → told_stage (On n a) ≡ Ready → ways_of t (On n a) (m.now.spots.threads t).verdict (m.now.spots.threads t).guest ≡ way from n y
       → thread_in_stage a (m.now.spots.threads t).guest ≡ Some (waits waiting (m.now.spots.threads t).guest) → row_in_stage t a (m.now.spots.threads t).guest.priority ≡ None
       → ((k : ℕ) → is_busy k (On n a) ≡ false) → ((u : Tid) (m : ℕ) → On n a ≡ On m (Awaits u) → ⊥) → Some (holding_of (m.now.spots.threads t).guest) ≡ held (On n a) (m.now.spots.threads t).guest
-      → Midst p net q n w (Left from t) (tell t (m.now.spots.threads t).verdict.code (m.now.spots.threads t).verdict.second (nothing s)) []
+      → Midst p net q n w (Left from t) (tell t (m.now.spots.threads t).verdict.code (second_of (m.now.spots.threads t).verdict.extra) (nothing s)) []
   unfolding tell arrive say keep
   tell_taken_ok s from t a waiting y m x may next ways there row idle quiet slots =
       let o : Spot = m.now.spots.threads t in
-      let g : Guest = told o.verdict.code o.verdict.second o.guest in
+      let g : Guest = told o.verdict.code (second_of o.verdict.extra) o.guest in
       let r : Spot = record o { life = On n Ready; guest = g } in
-      subst (λ f. Midst p net q n w (Left from t) (tell_found t o.verdict.code o.verdict.second f (nothing s)) []) (sym (on_node p net q n w L (nothing s) [] t a m x ∙ there))
+      subst (λ f. Midst p net q n w (Left from t) (tell_found t o.verdict.code (second_of o.verdict.extra) f (nothing s)) []) (sym (on_node p net q n w L (nothing s) [] t a m x ∙ there))
       (moved p net q n w L (Left from t) (nothing s) [] [] (Told t) t r _ [] [] m (ap (λ z. spots_with (update m.now.spots.threads t (record o { life = On n z; guest = g })) m.now.spots.slots m.now.spots.births m.now.spots.halts) (ap told_stage x ∙ next))
       (record { solo = tt; holders = tt; life = subst (λ z. MayTell n z) (sym x) may; replies = tt; grants = tt }) refl refl
       (record {
@@ -147,11 +147,11 @@ module _ (p : Program) (net : Net) (q : Occasion) (n : ℕ) (w : World) (L : Lin
       let o : Spot = v.threads t in
       let x : o.life ≡ On at Showing = in_hand p net q n w L d t (On at Showing) hs m in
       let zero : 0 ≡ n = eqb-true 0 n (is_in_hand p net q n w L d t (On at Showing) hs m) in
-      let r : Spot = record o { life = On at Shown_there; verdict = record { code = 0; second = None } } in
+      let r : Spot = record o { life = On at Shown_there; verdict = record { code = 0; extra = Nothing } } in
       (send_step p net q n w L d _ hs (Judged t 0 Nothing) t r d.node at (ShowDone t) m
-      (ap (λ z. spots_with (update v.threads t (record { life = judged_life z; guest = judged_guest z o.guest; verdict = record { code = 0; second = None } })) v.slots v.births v.halts) x)
+      (ap (λ z. spots_with (update v.threads t (record { life = judged_life z; guest = judged_guest z o.guest; verdict = record { code = 0; extra = Nothing } })) v.slots v.births v.halts) x)
       (record { solo = tt; holders = tt; life = rw x (sym zero); replies = rw x (refl, refl); grants = rw x tt }) (ap (judged_causes t) x) refl
-      (ap (λ z. ways_of t z o.verdict o.guest) x) (ap (λ z. way z at (Line_shown t 0 None)) zero) refl
+      (ap (λ z. ways_of t z o.verdict o.guest) x) (ap (λ z. way z at (Line_shown t 0 Nothing)) zero) refl
       (record {
         threads = map_kept is_tid is-true is-refl (thread_part n) v.threads t r d.node.threads m.here.threads (sym (ap (λ z. thread_in_life n z o.guest) x));
         rows = kept is_tid is-true is-refl listed_name (row_part n) v.threads t r (map listed d.node.places.rows) m.here.rows (sym (ap (λ z. row_in_life n t z o.guest.priority) x));
@@ -174,11 +174,11 @@ module _ (p : Program) (net : Net) (q : Occasion) (n : ℕ) (w : World) (L : Lin
       let v : Spots = m.now.spots in
       let o : Spot = v.threads t in
       let x : o.life ≡ On at (Answers n reply second) = in_hand p net q n w L d t (On at (Answers n reply second)) hs m in
-      let r : Spot = record o { life = On at (Answered n); verdict = record { code = reply_code reply; second = second_of (extra_of second) } } in
+      let r : Spot = record o { life = On at (Answered n); verdict = record { code = reply_code reply; extra = extra_of second } } in
       (send_step p net q n w L d _ hs (Judged t (reply_code reply) (extra_of second)) t r d.node at (Answer t reply second) m
-      (ap (λ z. spots_with (update v.threads t (record { life = judged_life z; guest = judged_guest z o.guest; verdict = record { code = reply_code reply; second = second_of (extra_of second) } })) v.slots v.births v.halts) x)
+      (ap (λ z. spots_with (update v.threads t (record { life = judged_life z; guest = judged_guest z o.guest; verdict = record { code = reply_code reply; extra = extra_of second } })) v.slots v.births v.halts) x)
       (record { solo = tt; holders = tt; life = rw x refl; replies = rw x (refl, refl); grants = rw x tt }) (ap (judged_causes t) x) refl
-      (ap (λ z. ways_of t z o.verdict o.guest) x) (ap (λ z. way n at (Reply t (reply_code reply) z)) (second-extra second)) refl
+      (ap (λ z. ways_of t z o.verdict o.guest) x) refl refl
       (record {
         threads = map_kept is_tid is-true is-refl (thread_part n) v.threads t r d.node.threads m.here.threads (sym (ap (λ z. thread_in_life n z o.guest) x));
         rows = kept is_tid is-true is-refl listed_name (row_part n) v.threads t r (map listed d.node.places.rows) m.here.rows (sym (ap (λ z. row_in_life n t z o.guest.priority) x));

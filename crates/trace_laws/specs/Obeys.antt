@@ -1,5 +1,5 @@
 -- Consequences of a run, said of the machine's nets: who was picked, what was sent, that nothing is left open.
-use Rattle.std.specs.Prelude.{◌≡◌, ℕ, List, [], ◌∷◌, ◌++◌, true, false, ⊤, map}
+use Rattle.std.specs.Prelude.{◌≡◌, ℕ, List, [], ◌∷◌, ◌++◌, Bool, true, false, ⊤, map}
 use Rattle.run_trace.specs.declared.packet.Send.{Send}
 use Rattle.slot_space.specs.declared.names.Tid.{Tid}
 use Rattle.rv_step.specs.declared.hart.Stop.{Stop}
@@ -7,7 +7,7 @@ use Rattle.run_trace.specs.declared.entry.Act.{Act}
 use Rattle.run_trace.specs.declared.entry.Act.TheVariants.{Boot, Run, Take, Move}
 use Rattle.run_trace.specs.declared.entry.Entry.{Entry}
 use Rattle.run_trace.specs.declared.label.Label.{Label}
-use Rattle.run_trace.specs.declared.label.Label.TheVariants.{Ran, Left}
+use Rattle.run_trace.specs.declared.label.Label.TheVariants.{Ran, Left, Down, Burst}
 use Rattle.run_trace.specs.declared.node.Row.{Row}
 use Rattle.run_trace.specs.Program.{Program}
 use Rattle.run_trace.specs.Places.{IsBest, is_listed}
@@ -23,11 +23,23 @@ use Rattle.run_trace.specs.Rules.{Rule, Occasion, saying, SoloRule, HoldersRule,
 
 -- ## Picks: the best of the run list runs; a thread that is sent away is on it
 
-abbrev pub RunsFirst : Tid → ℕ → List Label → Type 0
-RunsFirst t vp labels = (count : ℕ) × (stop : Stop) × (more : List Label) × (labels ≡ Ran t vp count stop ∷ more)
+-- a label that says what was shifted on the run lists
+abbrev pub is_shift : Label → Bool
+is_shift (Down bubble list) = true
+is_shift (Burst bubble list) = true
+is_shift _ = false
+
+abbrev pub AllShift : List Label → Type 0
+AllShift [] = ⊤
+AllShift (l ∷ ls) = (is_shift l ≡ true) × AllShift ls
+
+-- the thread runs; before that is said nothing but what was shifted
+abbrev pub RunsNext : Tid → ℕ → List Label → Type 0
+RunsNext t vp labels =
+    (shifts : List Label) × AllShift shifts × (count : ℕ) × (stop : Stop) × (more : List Label) × (labels ≡ shifts ++ Ran t vp count stop ∷ more)
 
 abbrev pub PicksBest : Act → List Row → List Label → Type 0
-PicksBest (Run vp quantum) rows labels = (r : Row) × IsBest r rows × RunsFirst r.tid vp labels
+PicksBest (Run vp quantum) rows labels = (r : Row) × IsBest r rows × RunsNext r.tid vp labels
 PicksBest Boot rows labels = ⊤
 PicksBest (Take from) rows labels = ⊤
 PicksBest (Move t to) rows labels = (is_listed t rows ≡ true) × (labels ≡ Left t to ∷ [])

@@ -30,8 +30,8 @@ ghost use Rattle.run_trace.specs.Outcome.{AllLinksEmpty, IsStuck, Lives};
 ghost use Rattle.run_trace.specs.Places.{best, is_listed};
 ghost use Rattle.run_trace.specs.Rules.{spots_of};
 ghost use Rattle.run_trace.specs.Same.{HasEnded, HasLivedLike, HasWritten, lived};
-ghost use Rattle.run_trace.specs.Spots.{On, Spots, Stage, at_first};
-ghost use Rattle.run_trace.specs.Obeying.{KeepsRules, may_act, Starts};
+ghost use Rattle.run_trace.specs.Spots.{On, Ready, Spots, Stage, at_first};
+ghost use Rattle.run_trace.specs.Obeying.{KeepsRules, is_on_list, may_act, Starts};
 ghost use Rattle.run_trace.specs.Stands.{Stands};
 ghost use Rattle.run_trace.specs.Trace.{IsRun, entry_of, events_of, Fits, net_after_trace};
 ghost use Rattle.run_trace.specs.World.{World};
@@ -168,7 +168,9 @@ pub fn picked()
 {}
 
 /// A thread that is on a node is on its run list exactly where it waits for nothing, and each on the run list is on the node.
+/// By the labels alone: a thread is on a node's run list exactly where it is ready there.
 pub fn ready()
     ensures unwaiting { (p : Program) (w : Spots) (net : Net) → Stands p w net → (n : ℕ) (t : Tid) (x : Thread) → IsOn net n t x → is_listed t (net.nodes n).places.rows ≡ is_unwaiting x }
     ensures there { (p : Program) (w : Spots) (net : Net) → Stands p w net → (n : ℕ) (t : Tid) → is_listed t (net.nodes n).places.rows ≡ true → (x : Thread) × IsOn net n t x }
+    ensures told { (p : Program) (old : Spots) (base : Net) → Stands p old base → (lines : List Entry) → KeepsRules p (world_at old base) lines → (n : ℕ) (t : Tid) → (is_on_list t ((world_of p (world_at old base) lines).lists n) ≡ true) ↔ (((world_of p (world_at old base) lines).spots.threads t).life ≡ On n Ready) }
 {}
