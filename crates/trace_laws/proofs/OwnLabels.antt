@@ -32,7 +32,7 @@ use Rattle.run_trace.specs.declared.label.Why.{Why}
 use Rattle.run_trace.specs.declared.label.Why.TheVariants as why
 use Rattle.run_trace.specs.Names.{is_tid}
 use Rattle.run_trace.specs.Program.{Program, code_of}
-use Rattle.run_trace.specs.Guests.{Solo, Guest, newborn, stack_end, with_zero_slots, without_slots, takes_slots, gives_slots, told, heap_of}
+use Rattle.run_trace.specs.Guests.{Solo, Guest, newborn, stack_end, with_zero_slots, without_slots, takes_slots, gives_slots, heap_of}
 use Rattle.run_trace.specs.Calls.{place_code, call_of, refusal}
 use Rattle.run_trace.specs.Console.{asked_bytes}
 use Rattle.run_trace.specs.Same.{Start, Stretch, Lived, lived_then, written_then}
@@ -40,7 +40,7 @@ use Rattle.run_trace.specs.Items.{subject}
 use Rattle.run_trace.specs.Alone.{is_about}
 use Rattle.run_trace.specs.World.{World}
 use Rattle.run_trace.specs.Rules.{IsBorn, MayHear, MayJudge, MayTell, MayTake, MayGive, MayLeave, MayCome, MayShow, MayKnow, JoinerAwaits, IsReply, SoloRule, LifeRule, RepliesRule, Occasion, quantum_in}
-use Rattle.run_trace.specs.Spots.{Stage, Ready, Running, Due, Served, Told_next, Told_then, Departs, Ends, Leaves, Halts, Stays, Shows, Showing, Shown_there, Asks, Awaits, Answers, Answered, Life, Unborn, On, Moving, Noting, Gone, Response, Spot, Spots, creator_served, priority_by, joiner_served, born_spot, ran_spot, ran_stage, stepped, passed_stage, asked_stage, stage_of_call, heard_life, heard_at, judged_life, judged_guest, told_stage, gave_life, shown_life, end_in, second_of, told_guest, after_label}
+use Rattle.run_trace.specs.Spots.{Stage, Ready, Running, Due, Served, Told_next, Told_then, Departs, Ends, Leaves, Halts, Stays, Shows, Showing, Shown_there, Asks, Awaits, Answers, Answered, Life, Unborn, On, Moving, Noting, Gone, Response, Spot, Spots, creator_served, priority_by, joiner_served, born_spot, ran_spot, ran_stage, stepped, passed_stage, asked_stage, stage_of_call, heard_life, heard_at, judged_life, judged_guest, told_stage, gave_life, shown_life, end_in, told_guest, after_label}
 use Rattle.trace_laws.proofs.Tids.{is-true}
 use Rattle.trace_laws.proofs.Heaps.{gave_all}
 use Rattle.trace_laws.proofs.OwnLives.{exit_value, ends_as, end_at, began, with_slots, free_of, is_address, allotted, given_to, goes_on, ran_on, answered_with, solo_after, printed_by, printed_at, named_line, lines_after, EachCalls}
