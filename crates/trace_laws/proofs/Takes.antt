@@ -28,7 +28,7 @@ use Rattle.run_trace.specs.Keyed.{StandsFor, AreDistinct}
 use Rattle.run_trace.specs.Spots.{Stage, Ready, Shows, Showing, Shown_there, Awaits, Answers, Answered, On, Moving, Spot, Spots, Of_thread, update, shown_life, judged_life, judged_guest, told_stage, second_of}
 use Rattle.run_trace.specs.Rules.{Occasion, MayTell, is_free}
 use Rattle.run_trace.specs.Console.{asked_bytes}
-use Rattle.run_trace.specs.Stands.{Busy, busy, busy_name, busy_part, thread_part, thread_in_life, thread_in_stage, row_part, row_in_life, row_in_stage, listed, listed_name, Word, Travels, Line, Line_shown, Reply, way, ways_of, phase_of, phase_at, During, held, holding_of, slots_held, is_thread}
+use Rattle.run_trace.specs.Stands.{Busy, busy, busy_name, busy_part, thread_part, thread_in_life, thread_in_stage, row_part, row_in_life, row_in_stage, listed, listed_name, Word, Travels, Line, Line_shown, way, ways_of, phase_of, phase_at, During, held, holding_of, slots_held, is_thread}
 use Rattle.trace_laws.proofs.Tids.{is-true, is-refl}
 use Rattle.trace_laws.proofs.KeyedLemmas.{kept, added, fronted, unfronted, map_kept, map_set, map_added}
 use Rattle.run_trace.specs.World.{World}
