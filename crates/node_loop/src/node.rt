@@ -15,7 +15,7 @@ ghost use Rattle.node_loop.specs.Turns.{Turns, IsInRange, IsLost, can, entry_lim
 use crate::links;
 use basics::{Items, NoMemory};
 use node_state::{Done, NodeState};
-use run_trace::{Act, Entry, Packet, Setup};
+use run_trace::{Act, Entry, Labels, Packet, Setup};
 use rv_inst::Image;
 use slot_space::{NodeNo, Tid};
 use std::alloc::Global;
@@ -175,7 +175,7 @@ impl Node {
             node: self.me,
             round: self.round,
             act: *act,
-            labels,
+            labels: Labels::new(self.alloc, labels),
         });
         self.clock = stamp;
         Ok(())

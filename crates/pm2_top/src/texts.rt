@@ -105,7 +105,8 @@ fn faults_text(alloc: Global, trace: &[Entry]) -> Result<String, NoMemory>
 {
     let mut text = String::new(alloc);
     for entry in trace {
-        push_labels(alloc, entry.labels.as_slice(), &mut text)?;
+        let mut room = None;
+        push_labels(alloc, entry.labels.as_slice(&mut room), &mut text)?;
     }
     Ok(text)
 }

@@ -63,7 +63,8 @@ impl Cluster {
         else {
             return Ok(false);
         };
-        if !same_labels(entry.labels.as_slice(), done.labels.as_slice()) {
+        let mut room = None;
+        if !same_labels(entry.labels.as_slice(&mut room), done.labels.as_slice()) {
             return Ok(false);
         }
         self.flights.send(entry.node, entry.stamp, done.sends)?;

@@ -121,8 +121,9 @@ fn is_beginning(image: &Image, number: usize, entry: &Entry) -> bool
     if entry.round != 0 {
         return false;
     }
+    let mut room = None;
     match entry.act {
-        Act::Boot => are_first_labels(image, number, entry.labels.as_slice()),
+        Act::Boot => are_first_labels(image, number, entry.labels.as_slice(&mut room)),
         _ => false,
     }
 }

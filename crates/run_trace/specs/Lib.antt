@@ -25,3 +25,4 @@ pub mod Legality
 pub mod Alone
 pub mod Same
 pub mod Holding
+pub mod Kept
