@@ -167,6 +167,7 @@ impl Node {
             prints,
         } = done;
         links::reserve_all(&mut self.ends, sends.as_slice())?;
+        let labels = Labels::new(self.alloc, labels)?;
         self.entries.reserve(1)?;
         self.console.extend_from_slice(prints.as_slice())?;
         links::send_all(&mut self.ends, stamp, sends.into_vec());
@@ -175,7 +176,7 @@ impl Node {
             node: self.me,
             round: self.round,
             act: *act,
-            labels: Labels::new(self.alloc, labels),
+            labels,
         });
         self.clock = stamp;
         Ok(())

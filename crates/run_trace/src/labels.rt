@@ -1,9 +1,9 @@
 //! The labels of an entry, kept small.
 
-ghost use Rattle.std.specs.Prelude.{◌≡◌};
+ghost use Rattle.std.specs.Prelude.{◌≡◌, IfOk};
 
 use crate::label::{Extra, Label};
-use basics::Items;
+use basics::{Items, NoMemory};
 use rv_step::Stop;
 use slot_space::Tid;
 use std::alloc::Global;
@@ -31,6 +31,17 @@ enum Kept {
     },
 }
 
+// The same labels, with no room for more.
+fn without_room(alloc: Global, labels: Vec<Label>) -> Result<Vec<Label>, NoMemory>
+    ensures { IfOk result (λ exact. exact.items ≡ labels.items) }
+{
+    let mut labels = labels;
+    let mut exact = Vec::new(alloc);
+    exact.reserve_exact(labels.len())?;
+    exact.append(&mut labels)?;
+    Ok(exact)
+}
+
 impl Model for Labels {
     ghost use Rattle.std.specs.Prelude.{List};
     ghost use Rattle.run_trace.specs.declared.label.Label.{Label as TheLabel};
@@ -43,8 +54,8 @@ impl Model for Labels {
 
 impl Labels {
     /// These labels.
-    pub fn new(alloc: Global, labels: Items<Label>) -> Labels
-        ensures { result ≡ labels }
+    pub fn new(alloc: Global, labels: Items<Label>) -> Result<Labels, NoMemory>
+        ensures { IfOk result (λ l. l ≡ labels) }
     {
         let kept = match labels.as_slice() {
             [
@@ -82,10 +93,11 @@ impl Labels {
             }
             _ => None,
         };
-        Labels {
-            alloc,
-            kept: kept.unwrap_or(Kept::All(labels)),
-        }
+        let kept = match kept {
+            Some(kept) => kept,
+            None => Kept::All(Items::new(without_room(alloc, labels.into_vec())?)),
+        };
+        Ok(Labels { alloc, kept })
     }
 
     /// The labels, in order; `room` is where those are put together that take no memory.
