@@ -56,25 +56,25 @@ least_of test t (u ∷ us) h = by (test u) (least_of test t us h.1)
 -- it stands after the first name, where it is a later one
 later : (t k : Tid) (es : List (Tid × Thread)) (x : Thread) → IsAfter k (keys_of es) → lookup (is_tid t) es ≡ Some x → tid_cmp k t ≡ Less
 later t k [] x h e = absurd (cc e)
-later t k (f ∷ es) x h e = by (is_tid t f.0) refl e
+later t k (f ∷ es) x h e = by (is_tid t f.0) refl e (later t k es x h.1)
   where
-    by : (b : Bool) → is_tid t f.0 ≡ b → cond b (Some f.1) (lookup (is_tid t) es) ≡ Some x → tid_cmp k t ≡ Less
-    by true i g = ap (tid_cmp k) (is-true t f.0 i) ∙ h.0
-    by false i g = later t k es x h.1 g
+    by : (b : Bool) → is_tid t f.0 ≡ b → cond b (Some f.1) (lookup (is_tid t) es) ≡ Some x → (lookup (is_tid t) es ≡ Some x → tid_cmp k t ≡ Less) → tid_cmp k t ≡ Less
+    by true i g more = ap (tid_cmp k) (is-true t f.0 i) ∙ h.0
+    by false i g more = more g
 
 filter_put : (test : Tid → Bool) (t : Tid) (es : List (Tid × Thread)) (x : Thread) → AreInOrder es → lookup (is_tid t) es ≡ Some x → test t ≡ false
     → filter (and_also t test) (keys_of es) ≡ put tid_cmp t (filter test (keys_of es))
 unfolding IsStrictlySortedBy
 filter_put test t [] x o e n = absurd (cc e)
-filter_put test t (f ∷ es) x o e n = by (is_tid t f.0) refl e
+filter_put test t (f ∷ es) x o e n = by (is_tid t f.0) refl e (λ g. filter_put test t es x o.1 g n)
   where
     other : (b : Bool) → test f.0 ≡ b → tid_cmp f.0 t ≡ Less → filter (and_also t test) (keys_of es) ≡ put tid_cmp t (filter test (keys_of es))
         → cond b (f.0 ∷ filter (and_also t test) (keys_of es)) (filter (and_also t test) (keys_of es)) ≡ put tid_cmp t (cond b (f.0 ∷ filter test (keys_of es)) (filter test (keys_of es)))
     other true i l more = ap (λ vs. f.0 ∷ vs) more ∙ sym (ap (λ r. cond (is_lt r) (f.0 ∷ put tid_cmp t (filter test (keys_of es))) (t ∷ f.0 ∷ filter test (keys_of es))) l)
     other false i l more = more
 
-    by : (b : Bool) → is_tid t f.0 ≡ b → cond b (Some f.1) (lookup (is_tid t) es) ≡ Some x → filter (and_also t test) (keys_of (f ∷ es)) ≡ put tid_cmp t (filter test (keys_of (f ∷ es)))
-    by true i g =
+    by : (b : Bool) → is_tid t f.0 ≡ b → cond b (Some f.1) (lookup (is_tid t) es) ≡ Some x → (lookup (is_tid t) es ≡ Some x → filter (and_also t test) (keys_of es) ≡ put tid_cmp t (filter test (keys_of es))) → filter (and_also t test) (keys_of (f ∷ es)) ≡ put tid_cmp t (filter test (keys_of (f ∷ es)))
+    by true i g more =
         let s : t ≡ f.0 = is-true t f.0 i in
         let after : IsAfter t (keys_of es) = subst (λ u. IsAfter u (keys_of es)) (sym s) o.0 in
         let it : is_tid f.0 t ≡ true = ap (λ u. is_tid u t) (sym s) ∙ is-refl t in
@@ -83,10 +83,10 @@ filter_put test t (f ∷ es) x o e n = by (is_tid t f.0) refl e
         ∙ ap (λ u. u ∷ filter (and_also t test) (keys_of es)) (sym s) ∙ ap (λ vs. t ∷ vs) (none_of test t (keys_of es) after)
         ∙ sym (put_least tid_cmp total tied t (filter test (keys_of es)) (least_of test t (keys_of es) after))
         ∙ ap (λ b. put tid_cmp t (cond b (f.0 ∷ filter test (keys_of es)) (filter test (keys_of es)))) (sym no)
-    by false i g =
+    by false i g more =
         let l = later t f.0 es x o.0 g in
         ap (λ b. cond (cond b true (test f.0)) (f.0 ∷ filter (and_also t test) (keys_of es)) (filter (and_also t test) (keys_of es))) (is-flip t f.0 i)
-        ∙ other (test f.0) refl l (filter_put test t es x o.1 g n)
+        ∙ other (test f.0) refl l (more g)
 
 none_listed : (es : List Tid) → filter (λ t. is_listed t []) es ≡ []
 none_listed [] = refl

@@ -57,7 +57,10 @@ fn known_senders(node: &Node, count: u8) -> usize
 {
     let mut known = 0;
     for sender in 0..count {
-        known += usize::from(node.has_packet(NodeNo(sender)));
+        if !node.has_packet(NodeNo(sender)) {
+            continue;
+        }
+        known += 1;
     }
     known
 }
@@ -122,9 +125,12 @@ fn move_at(node: &Node, count: u8, moves: bool, place: usize) -> Option<(NodeNo,
     requires { nodes_of node.now.program ≡ count }
     ensures { result ≡ slice_get (listed_moves moves node.now) place }
 {
+    if !moves {
+        return None;
+    }
     let own = node.me();
     let others = usize::from(count - 1);
-    if !moves || others == 0 {
+    if others == 0 {
         return None;
     }
     match node.ready_at(place / others) {

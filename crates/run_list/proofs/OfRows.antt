@@ -1,5 +1,5 @@
 -- The names of rows: as rows come and go.
-use Rattle.std.proofs.Common.{◌≡◌, ℕ, true, false, Bool, List, [], ◌∷◌, ◌++◌, cond, refl, sym, ap, ◌∙◌, arith}
+use Rattle.std.proofs.Common.{◌≡◌, ℕ, suc, length, true, false, Bool, List, [], ◌∷◌, ◌++◌, cond, refl, sym, ap, ◌∙◌, arith}
 use Rattle.std.specs.Cmp.{IsTotalOrder}
 use Rattle.std.specs.declared.cmp.Ordering.{Ordering}
 use Rattle.std.specs.declared.cmp.Ordering.TheVariants.{Less, Equal, Greater}
@@ -12,7 +12,7 @@ use Rattle.run_trace.specs.Names.{tid, tid_cmp, is_tid}
 use Rattle.run_trace.specs.Places.{is_listed, without_row}
 use Rattle.run_list.specs.Names.{names_of}
 use Rattle.run_list.specs.Sorted.{put, without, holds, AreUp}
-use Rattle.run_list.proofs.Sorted.{put_put, up_put, holds_put, without_put}
+use Rattle.run_list.proofs.Sorted.{put_put, up_put, holds_put, put_length, without_put}
 
 pub total : IsTotalOrder tid_cmp
 total = then_total (on_total (λ (t : Tid). t.home) nat_cmp_total) (on_total (λ (t : Tid). t.seq) nat_cmp_total)
@@ -51,3 +51,7 @@ names_less t (r ∷ rows) = by (is_tid t r.tid) refl (names_less t rows)
 pub listed_holds : (t : Tid) (rows : List Row) → is_listed t rows ≡ holds tid_cmp t (names_of rows)
 listed_holds t [] = refl
 listed_holds t (r ∷ rows) = ap (λ v. cond (is_tid t r.tid) true v) (listed_holds t rows) ∙ sym (holds_put tid_cmp total tied t r.tid (names_of rows))
+
+pub names_length : (rows : List Row) → length (names_of rows) ≡ length rows
+names_length [] = refl
+names_length (r ∷ rows) = put_length tid_cmp total tied r.tid (names_of rows) ∙ ap suc (names_length rows)

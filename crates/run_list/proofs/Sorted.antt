@@ -53,7 +53,7 @@ module _ {K : Type 0} (cmp : K → K → Ordering) (o : IsTotalOrder cmp) (tied 
   one : (a b : K) → is_lt (cmp a b) ≡ false → is_lt (cmp b a) ≡ false → a ≡ b
   one a b h k = tied a b (level (cmp a b) h (flip a b ∙ k))
 
-  not_back : (a b : K) → is_lt (cmp a b) ≡ true → is_lt (cmp b a) ≡ false
+  pub not_back : (a b : K) → is_lt (cmp a b) ≡ true → is_lt (cmp b a) ≡ false
   not_back a b h = by (is_lt (cmp b a)) refl
     where
       by : (v : Bool) → is_lt (cmp b a) ≡ v → is_lt (cmp b a) ≡ false
@@ -115,6 +115,14 @@ module _ {K : Type 0} (cmp : K → K → Ordering) (o : IsTotalOrder cmp) (tied 
       by : (v : Bool) → is_lt (cmp x a) ≡ v → AreUp cmp (put cmp a xs) → AreUp cmp (put cmp a (x ∷ xs))
       by true e more = rw e (least_put a x xs (not_back x a e) h.0, more)
       by false e more = rw e ((e, least_after a x xs e h.0), h)
+
+  pub put_length : (a : K) (xs : List K) → length (put cmp a xs) ≡ suc (length xs)
+  put_length a [] = refl
+  put_length a (x ∷ xs) = by (is_lt (cmp x a)) (put_length a xs)
+    where
+      by : (v : Bool) → length (put cmp a xs) ≡ suc (length xs) → length (cond v (x ∷ put cmp a xs) (a ∷ x ∷ xs)) ≡ suc (suc (length xs))
+      by true more = ap suc more
+      by false more = refl
 
   -- ## By places
 
@@ -226,7 +234,7 @@ module _ {K : Type 0} (cmp : K → K → Ordering) (o : IsTotalOrder cmp) (tied 
 
   -- ## Without an item
 
-  put_least : (a : K) (xs : List K) → IsLeast cmp a xs → put cmp a xs ≡ a ∷ xs
+  pub put_least : (a : K) (xs : List K) → IsLeast cmp a xs → put cmp a xs ≡ a ∷ xs
   put_least a [] l = refl
   put_least a (x ∷ xs) l = rw l.0 refl
 
