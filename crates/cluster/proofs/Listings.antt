@@ -102,10 +102,10 @@ module _ (c : ClusterView) (lines : List Entry) (s : StandsFor c lines) where
   abbrev w : Spots
   w = spots_of p (at_first p) lines
 
-  stands : Stands p w net
+  pub stands : Stands p w net
   stands = (run_whole p (at_first p) (fresh_net p) (starts p) lines s.legal.runs).stands
 
-  ready_names : (n : ℕ) → unwaiting (net.nodes n).threads ≡ ready_on (net.nodes n)
+  pub ready_names : (n : ℕ) → unwaiting (net.nodes n).threads ≡ ready_on (net.nodes n)
   ready_names n = same_names (net.nodes n).places.rows (net.nodes n).threads (net.nodes n).threads (found_all (net.nodes n).threads (stands.nodes n).threads.apart) (λ t x h. listed_is p w net stands n t x h)
 
   acts_same : (moves : Bool) (n : ℕ) (v : NodeView) → slice_get c.nodes n ≡ Some v → acts_by moves v ≡ acts_of moves p net n

@@ -3,3 +3,4 @@ pub mod Acts
 pub mod Standing
 pub mod Outcomes
 pub mod Between
+pub mod Choosing

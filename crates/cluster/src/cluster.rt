@@ -1,6 +1,6 @@
 //! The cluster.
 
-ghost use Rattle.std.specs.Prelude.{◌≡◌, ◌<◌, ◌≤◌, ◌↔◌, [], List, length, reverse, Bool, false, IfOk, OnErr};
+ghost use Rattle.std.specs.Prelude.{◌≡◌, ◌<◌, ◌≤◌, ◌↔◌, ◌%◌, [], List, length, reverse, Bool, false, IfOk, OnErr, slice_get};
 ghost use Rattle.run_trace.specs.declared.entry.Entry.{Entry};
 ghost use Rattle.run_trace.specs.Legality.{boot_entries};
 ghost use Rattle.run_trace.specs.Program.{nodes_of, quantum_limit};
@@ -13,6 +13,7 @@ ghost use Rattle.cluster.specs.Standing.{StandsFor, IsStanding, HasTrace, Steps,
 ghost use Rattle.cluster.specs.View.{console_in, wires_of};
 
 use crate::beginning::begun;
+use crate::choosing::{act_at, count_all};
 use crate::deciding::{State, any_halted, any_packet, any_ready, any_thread, decided};
 use crate::ending::taken_apart;
 use crate::listing::push_acts;
@@ -108,6 +109,19 @@ impl Cluster {
             push_acts(&mut acts, &self.setup, moves, node)?;
         }
         Ok(acts)
+    }
+
+    /// The possible act at the word's place, counted round and round, or None where no act is possible; moves only where they
+    /// are asked for.
+    pub fn choose(&self, moves: bool, word: u32) -> Option<(NodeNo, Act)>
+        ensures { (lines : List Entry) → StandsFor self.now lines → (let acts = possible_acts moves self.now.program (net_after self.now.program lines) in result ≡ slice_get acts (word % length acts)) }
+    {
+        let count = self.setup.geometry.nodes();
+        let total = count_all(&self.nodes, count, moves);
+        if total == 0 {
+            return None;
+        }
+        act_at(&self.nodes, &self.setup, moves, word as usize % total)
     }
 
     /// Whether the program goes on.

@@ -3,6 +3,7 @@
 #![tactic(auto)]
 
 mod beginning;
+mod choosing;
 mod cluster;
 mod deciding;
 mod ending;

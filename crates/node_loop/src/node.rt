@@ -1,12 +1,14 @@
 //! The node.
 
-ghost use Rattle.std.specs.Prelude.{◌≡◌, ◌+◌, ◌^◌, ◌<◌, ◌≤◌, [], length, max, min, suc, true, IfOk, OnOk, OnErr, IsOk};
+ghost use Rattle.std.specs.Prelude.{◌≡◌, ◌+◌, ◌^◌, ◌<◌, ◌≤◌, [], length, max, min, suc, true, IfOk, OnOk, OnErr, IsOk, slice_get};
 ghost use Rattle.run_trace.specs.Guests.{unwaiting};
 ghost use Rattle.run_trace.specs.Histories.{seen};
 ghost use Rattle.run_trace.specs.Machine.{turn_event, is_beyond};
 ghost use Rattle.wires.specs.Ends.{node_of, width, ArePaired, BothChanged, LinkChanged};
 ghost use Rattle.wires.specs.Link.{IsSettled, BothBecome, OwnBecomes};
 ghost use Rattle.wires.specs.Wires.{StaysWired};
+ghost use Rattle.run_list.specs.Names.{names_of};
+ghost use Rattle.node_state.specs.Views.{AreInOrder};
 ghost use Rattle.node_state.specs.Events.{program, Answers, StartsAligned};
 ghost use Rattle.node_loop.specs.View.{unbooted, raised, with_ends};
 ghost use Rattle.node_loop.specs.Links.{Records, Rests};
@@ -248,6 +250,13 @@ impl Node {
         self.state.ready()
     }
 
+    /// The name at this place among those of the threads on the run list, in the order of names.
+    pub fn ready_at(&self, place: usize) -> Option<Tid>
+        ensures { result ≡ slice_get (names_of self.now.state.places.rows) place }
+    {
+        self.state.ready_at(place)
+    }
+
     /// The names of the threads that are here and wait for nothing, ascending.
     pub fn ready_threads(&self) -> Result<Vec<Tid>, NoMemory>
         ensures { IfOk result (λ names. names.items ≡ unwaiting self.now.state.threads) }
@@ -255,9 +264,10 @@ impl Node {
         self.state.ready_names(self.alloc)
     }
 
-    /// How many threads are here and live.
+    /// How many threads are here and live. They stand in the order of their names.
     pub fn threads(&self) -> usize
-        ensures { result ≡ length self.now.state.threads }
+        ensures count { result ≡ length self.now.state.threads }
+        ensures ordered { AreInOrder self.now.state.threads }
     {
         self.state.threads()
     }

@@ -1,4 +1,3 @@
-pub mod Rows
 pub mod Runs
 pub mod Zeros
 pub mod Lowest

@@ -1,5 +1,7 @@
 -- How the parts in code mean the parts of the definition.
 use Rattle.std.specs.Prelude.{◌≡◌, ℕ, ◌%◌, ◌≤◌, List, [], ◌∷◌, Bool, true, slice_index}
+use Rattle.std.specs.List.Sorted.{IsStrictlySortedBy}
+use Rattle.std.specs.Map.{keys_of}
 use Rattle.slot_space.specs.Sets.{has, minus}
 use Rattle.iso_blocks.specs.Heap.{Heap}
 use Rattle.rv_step.specs.Memory.{slots_of}
@@ -8,9 +10,9 @@ use Rattle.rv_step.specs.declared.hart.Hart.{Hart}
 use Rattle.rv_step.specs.Step.{state_of}
 use Rattle.marcel_core.specs.declared.birth.Birth.{Birth}
 use Rattle.run_trace.specs.declared.node.Wait.{Wait}
-use Rattle.run_trace.specs.declared.node.Row.{Row}
 use Rattle.run_trace.specs.declared.label.Label.{Label}
 use Rattle.run_trace.specs.declared.packet.Send.{Send}
+use Rattle.run_trace.specs.Names.{tid_cmp}
 use Rattle.run_trace.specs.Guests.{Thread}
 use Rattle.run_trace.specs.Places.{Places}
 use Rattle.run_trace.specs.Local.{Local, Doing}
@@ -34,8 +36,9 @@ pub record CanTravel (priority : ℕ) (hart : Hart) : Type 0 where
   pub pc : hart.pc % 4 ≡ 0
   pub low : priority ≤ 7
 
-abbrev pub places_of : List Row → ℕ → Places
-places_of rows next = record { rows = rows; next = next }
+-- the threads stand in the order of their names
+abbrev pub AreInOrder : List (Tid × Thread) → Type 0
+AreInOrder threads = IsStrictlySortedBy tid_cmp (keys_of threads)
 
 abbrev pub local_of : Bool → List ℕ → List (Tid × Thread) → Places → List Birth → Bool → Local
 local_of booted own threads places names halted = record {

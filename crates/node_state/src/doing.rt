@@ -13,11 +13,11 @@ ghost use Rattle.node_state.specs.Runs.{ran_at, stop_found};
 
 use crate::done::Done;
 use crate::homes::{ended, joined};
-use crate::places::Places;
 use crate::thread::Thread;
 use basics::{Items, NoMemory};
 use marcel_core::{Birth, End};
 use raw_slots::Pool;
+use run_list::RunList;
 use run_trace::{Body, Call, Extra, Label, Send, Setup, Wait, Why};
 use rv_inst::Image;
 use rv_step::Stop;
@@ -35,7 +35,7 @@ pub(crate) struct State {
     pub(crate) own: SlotSet,
     /// The threads that are here and live.
     pub(crate) threads: BTreeMap<Tid, Thread>,
-    pub(crate) places: Places,
+    pub(crate) places: RunList,
     /// The births of this home, by their numbers.
     pub(crate) names: Vec<Birth>,
     pub(crate) halted: bool,
@@ -127,7 +127,7 @@ impl Doing {
                 booted: false,
                 own: SlotSet::starting(&setup.geometry, me),
                 threads: BTreeMap::new(alloc),
-                places: Places::new(alloc),
+                places: RunList::new(alloc),
                 names: Vec::new(alloc),
                 halted: false,
             },

@@ -16,7 +16,6 @@ mod moves;
 mod newcomer;
 mod node;
 mod packets;
-mod places;
 mod thread;
 
 pub use done::Done;

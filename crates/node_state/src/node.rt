@@ -1,9 +1,11 @@
 //! A node.
 
-ghost use Rattle.std.specs.Prelude.{◌≡◌, IfOk, length};
+ghost use Rattle.std.specs.Prelude.{◌≡◌, IfOk, length, slice_get};
 ghost use Rattle.run_trace.specs.Machine.{local_event};
 ghost use Rattle.run_trace.specs.Places.{is_listed};
 ghost use Rattle.run_trace.specs.Guests.{unwaiting};
+ghost use Rattle.run_list.specs.Names.{names_of};
+ghost use Rattle.node_state.specs.Views.{AreInOrder};
 ghost use Rattle.node_state.specs.Events.{program, StartsAligned, fresh_in, Answers};
 
 use crate::doing::Doing;
@@ -80,6 +82,13 @@ impl NodeState {
         self.doing.node.places.is_listed(t)
     }
 
+    /// The name at this place among those of the threads on the run list, in the order of names.
+    pub fn ready_at(&self, place: usize) -> Option<Tid>
+        ensures { result ≡ slice_get (names_of self.now.places.rows) place }
+    {
+        self.doing.node.places.name_at(place)
+    }
+
     /// The names of the threads that are here and wait for nothing, ascending.
     pub fn ready_names(&self, alloc: Global) -> Result<Vec<Tid>, NoMemory>
         ensures { IfOk result (λ names. names.items ≡ unwaiting self.now.threads) }
@@ -87,9 +96,10 @@ impl NodeState {
         self.doing.node.ready_names(alloc)
     }
 
-    /// How many threads are here and live.
+    /// How many threads are here and live. They stand in the order of their names.
     pub fn threads(&self) -> usize
-        ensures { result ≡ length self.now.threads }
+        ensures count { result ≡ length self.now.threads }
+        ensures ordered { AreInOrder self.now.threads }
     {
         self.doing.node.threads.len()
     }

@@ -107,26 +107,21 @@ item_passes {A = A} P [] i a all e = absurd (let none : slice_get {X = A} [] i �
 item_passes P (x ∷ xs) zero a all e = let same : x ≡ a = cc e in subst P same all.0
 item_passes P (x ∷ xs) (suc i) a all e = item_passes P xs i a all.1 e
 
-pub chosen_possible : (moves : Bool) (c : ClusterView) (lines : List Entry) (acts items : List (ℕ × Act)) (o : Option (ℕ × Act)) (word : ℕ) (a : ℕ × Act) → StandsFor c lines
-    → acts ≡ possible_after moves c.program lines → items ≡ acts → o ≡ chosen word items → o ≡ Some a → IsPossible c.program (net_after c.program lines) a
-chosen_possible moves c lines acts items o word a s listed same is some =
+pub chosen_possible : (moves : Bool) (c : ClusterView) (lines : List Entry) (o : Option (ℕ × Act)) (word : ℕ) (a : ℕ × Act) → StandsFor c lines
+    → o ≡ chosen word (possible_after moves c.program lines) → o ≡ Some a → IsPossible c.program (net_after c.program lines) a
+chosen_possible moves c lines o word a s is some =
     item_passes (IsPossible c.program (net_after c.program lines)) (possible_after moves c.program lines) (word % length (possible_after moves c.program lines)) a
-    (each_possible c.program (net_after c.program lines) s.some_quantum s.bounded_quantum moves) (ap (chosen word) (sym (same ∙ listed)) ∙ sym is ∙ some)
+    (each_possible c.program (net_after c.program lines) s.some_quantum s.bounded_quantum moves) (sym is ∙ some)
 
-pub some_chosen : (acts all items : List (ℕ × Act)) (o : Option (ℕ × Act)) (word : ℕ) → acts ≡ all → (all ≡ [] → ⊥) → items ≡ acts → o ≡ chosen word items → o ≡ None → ⊥
-some_chosen acts all items o word listed some same c none = by acts (sym (ap (chosen word) same) ∙ sym c ∙ none) listed
-  where
-    by : (xs : List (ℕ × Act)) → chosen word xs ≡ None → xs ≡ all → ⊥
-    by [] e l = some (sym l)
-    by (x ∷ xs) e l =
-        let inside : word % length (x ∷ xs) < length (x ∷ xs) = omega arith in
-        cc (e, slice_get-get_or (x ∷ xs) (word % length (x ∷ xs)) x inside)
+pub some_chosen : (all : List (ℕ × Act)) (o : Option (ℕ × Act)) (word : ℕ) → (all ≡ [] → ⊥) → o ≡ chosen word all → o ≡ None → ⊥
+some_chosen [] o word some is none = some refl
+some_chosen (x ∷ xs) o word some is none =
+    let inside : word % length (x ∷ xs) < length (x ∷ xs) = omega arith in
+    cc (is, none, slice_get-get_or (x ∷ xs) (word % length (x ∷ xs)) x inside)
 
 -- an act that can be done is done
-pub draws : (moves : Bool) (old new : ClusterView) (lines : List Entry) (acts items : List (ℕ × Act)) (o : Option (ℕ × Act)) (word n : ℕ) (act : Act) (t : Turned) → StandsFor old lines
-    → acts ≡ possible_after moves old.program lines → items ≡ acts → o ≡ chosen word items → o ≡ Some (n, act) → Steps old lines n act new t
+pub draws : (moves : Bool) (old new : ClusterView) (lines : List Entry) (o : Option (ℕ × Act)) (word n : ℕ) (act : Act) (t : Turned) → StandsFor old lines
+    → o ≡ chosen word (possible_after moves old.program lines) → o ≡ Some (n, act) → Steps old lines n act new t
     → (t ≡ Idle) ↔ (is_possible (net_after old.program lines) n act ≡ false) → Draws moves word lines old new
-draws moves old new lines acts items o word n act Idle s listed same is some h i =
-    absurd (cc (i.0 refl, (chosen_possible moves old lines acts items o word (n, act) s listed same is some).possible))
-draws moves old new lines acts items o word n act Did s listed same is some h i =
-    record { node = n; act = act; chosen_is = ap (chosen word) (sym (same ∙ listed)) ∙ sym is ∙ some; adds = h }
+draws moves old new lines o word n act Idle s is some h i = absurd (cc (i.0 refl, (chosen_possible moves old lines o word (n, act) s is some).possible))
+draws moves old new lines o word n act Did s is some h i = record { node = n; act = act; chosen_is = sym is ∙ some; adds = h }

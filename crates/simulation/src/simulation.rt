@@ -9,7 +9,7 @@ ghost use Rattle.node_state.specs.Events.{program, StartsAligned};
 ghost use Rattle.wires.specs.Wires.{AreFreshFor};
 ghost use Rattle.cluster.specs.Standing.{StandsFor, Loses, turn_limit};
 ghost use Rattle.cluster.specs.View.{console_in};
-ghost use Rattle.simulation.specs.Drawn.{chosen, generator, possible_after};
+ghost use Rattle.simulation.specs.Drawn.{generator, possible_after};
 ghost use Rattle.simulation.specs.Ends.{Simulates, Shows, CarriesAt};
 ghost use Rattle.simulation.specs.Underway.{Draws, HasRun};
 
@@ -153,24 +153,13 @@ fn draw(cluster: &mut Cluster, word: u32, moves: bool) -> Result<(), NoMemory>
     ensures ok { (lines : List Entry) → StandsFor cluster.old lines → OnOk result (Draws moves word lines cluster.old cluster.new) }
     ensures err { (lines : List Entry) → StandsFor cluster.old lines → OnErr result (Loses cluster.old cluster.new lines) }
 {
-    let acts = cluster.acts(moves)?;
-    match chosen(&acts, word) {
+    match cluster.choose(moves, word) {
         None => unreachable!(),
         Some(choice) => {
             cluster.step(choice.0, choice.1)?;
             Ok(())
         }
     }
-}
-
-// The act at the word's place, counted round and round.
-fn chosen(acts: &[(NodeNo, Act)], word: u32) -> Option<(NodeNo, Act)>
-    ensures { result ≡ chosen word acts.now }
-{
-    if acts.is_empty() {
-        return None;
-    }
-    acts.get(word as usize % acts.len()).copied()
 }
 
 // Writes the lines that came after the first so many bytes.

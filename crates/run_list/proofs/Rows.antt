@@ -1,13 +1,12 @@
 -- The first row of a thread, by its place.
-use Rattle.std.proofs.Common.{◌≡◌, ℕ, zero, suc, ◌+◌, ◌<◌, ◌≤◌, Bool, true, false, List, [], ◌∷◌, length, Option, Some, None, refl, sym, ap, arith}
-use Rattle.std.specs.Prelude.{is_some}
+use Rattle.std.proofs.Common.{◌≡◌, ℕ, zero, suc, ◌+◌, ◌<◌, ◌≤◌, Bool, true, false, List, [], ◌∷◌, length, Some, None, refl, ap, arith}
 use Rattle.std.specs.List.{position, position_or_len, remove}
 use Rattle.std.proofs.lemmas.Bool.Decides.{nat_tests}
 use Rattle.std.proofs.lemmas.List.Quantifiers.{position-Some}
 use Rattle.slot_space.specs.declared.names.Tid.{Tid}
 use Rattle.run_trace.specs.declared.node.Row.{Row}
 use Rattle.run_trace.specs.Names.{is_tid}
-use Rattle.run_trace.specs.Places.{without_row, is_listed}
+use Rattle.run_trace.specs.Places.{without_row}
 
 is_of : Tid → Row → Bool
 is_of t r = is_tid t r.tid
@@ -49,36 +48,5 @@ pub no_row : (t : Tid) (rows : List Row) → position (λ r. is_tid t r.tid) row
 no_row t rows e =
     let past : length rows ≤ position_or_len (λ (r : Row). is_tid t r.tid) rows = grind (arith, nat_tests) in
     not_found t rows past
-
-found_there : (t : Tid) (rows : List Row) → position_or_len (λ r. is_tid t r.tid) rows < length rows → is_listed t rows ≡ true
-found_there t [] lt = absurd (omega arith)
-found_there t (r ∷ rs) lt = by (is_tid t r.tid) refl (found_there t rs)
-  where
-    by : (b : Bool) → is_tid t r.tid ≡ b → (position_or_len (λ r. is_tid t r.tid) rs < length rs → is_listed t rs ≡ true) → is_listed t (r ∷ rs) ≡ true
-    by true h more = rw h refl
-    by false h more =
-        let f : 1 + position_or_len (λ r. is_tid t r.tid) rs < suc (length rs) = rw h at lt in
-        rw h (more (omega arith))
-
-found_nowhere : (t : Tid) (rows : List Row) → length rows ≤ position_or_len (λ r. is_tid t r.tid) rows → is_listed t rows ≡ false
-found_nowhere t [] h = refl
-found_nowhere t (r ∷ rs) h = by (is_tid t r.tid) refl (found_nowhere t rs)
-  where
-    by : (b : Bool) → is_tid t r.tid ≡ b → (length rs ≤ position_or_len (λ r. is_tid t r.tid) rs → is_listed t rs ≡ false) → is_listed t (r ∷ rs) ≡ false
-    by true e more = absurd (let f = rw e at h in omega arith)
-    by false e more =
-        let f : suc (length rs) ≤ 1 + position_or_len (λ r. is_tid t r.tid) rs = rw e at h in
-        rw e (more (omega arith))
-
--- a thread is on the list exactly where it has a place there
-pub listed : (t : Tid) (rows : List Row) (o : Option ℕ) → o ≡ position (λ r. is_tid t r.tid) rows → is_some o ≡ is_listed t rows
-listed t rows (Some i) e =
-    let d : Row = record { tid = t; list = 0; priority = 0; arrival = 0 } in
-    let inside = (position-Some (λ (r : Row). is_tid t r.tid) rows i d (sym e)).0 in
-    let at : position_or_len (λ (r : Row). is_tid t r.tid) rows ≡ i = grind (arith, nat_tests) in
-    sym (found_there t rows (omega (arith, inside, at)))
-listed t rows None e =
-    let past : length rows ≤ position_or_len (λ (r : Row). is_tid t r.tid) rows = grind (arith, nat_tests) in
-    sym (found_nowhere t rows past)
 
 pub ruleset places = (row_out, no_row)

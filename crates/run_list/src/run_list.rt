@@ -1,49 +1,49 @@
-//! The run list of a node.
+//! The run list.
 
-ghost use Rattle.std.specs.Prelude.{◌≡◌, IfOk, Some, [], length};
+ghost use Rattle.std.specs.Prelude.{◌≡◌, IfOk, Some, [], length, slice_get};
 ghost use Rattle.std.specs.List.{position};
 ghost use Rattle.run_trace.specs.Names.{is_tid};
 ghost use Rattle.run_trace.specs.Places.{arrived, without_row, taken_off, is_listed, better, best_of, best};
-ghost use Rattle.node_state.specs.Views.{places_of};
+ghost use Rattle.run_list.specs.Names.{names_of};
+ghost use Rattle.run_list.specs.Views.{places_of};
 
+use crate::searching;
 use basics::NoMemory;
 use run_trace::Row;
 use slot_space::Tid;
 use std::alloc::Global;
 use std::marker::Model;
 
-/// The threads that can run, in the order of their arrival, and how many have arrived.
+/// The threads that can run, in the order of their arrival, and how many have arrived. Contracts see the rows and the number.
 #[derive(Drop)]
-pub(crate) struct Places {
+pub struct RunList {
     rows: Vec<Row>,
+    // Their names, in order.
+    names: Vec<Tid>,
     next: u64,
 }
 
-impl Model for Places {
-    ghost use Rattle.run_trace.specs.Places.{Places as ThePlaces};
-    ghost use Rattle.node_state.specs.Views.{places_of};
+impl Model for RunList {
+    ghost use Rattle.std.specs.Prelude.{◌≡◌};
+    ghost use Rattle.run_trace.specs.Places.{Places};
+    ghost use Rattle.run_list.specs.Names.{names_of};
+    ghost use Rattle.run_list.specs.Views.{places_of};
 
-    ghost Value = { ThePlaces };
+    ghost Value = { Places };
 
     ghost view = { λ p. places_of p.rows.items p.next };
+
+    ghost invariant = { λ p. p.names.items ≡ names_of p.rows.items };
 }
 
-/// Where the first row of the thread stands.
+// Where the first row of the thread stands.
 fn place_of(rows: &[Row], t: Tid) -> Option<usize>
     ensures { result ≡ position (λ r. is_tid t r.tid) rows.now }
 {
     rows.iter().position(|r| t.cmp(&r.tid).is_eq())
 }
 
-/// The thread has a row.
-#[tactic(auto, using(crate::proofs::Rows::listed))]
-fn is_among(rows: &[Row], t: Tid) -> bool
-    ensures { result ≡ is_listed t rows.now }
-{
-    place_of(rows, t).is_some()
-}
-
-/// The first row of the thread goes.
+// The first row of the thread goes.
 #[tactic(auto, using(crate::proofs::Rows::places))]
 fn row_out(rows: &mut Vec<Row>, t: Tid)
     ensures { rows.new.items ≡ without_row t rows.old.items }
@@ -56,7 +56,7 @@ fn row_out(rows: &mut Vec<Row>, t: Tid)
     }
 }
 
-/// Of two rows the one of the greater priority, among equals the one that arrived first.
+// Of two rows the one of the greater priority, among equals the one that arrived first.
 fn better(a: Row, b: Row) -> Row
     ensures { result ≡ better a b }
 {
@@ -70,7 +70,7 @@ fn better(a: Row, b: Row) -> Row
     }
 }
 
-/// A row beside the best of those after it.
+// A row beside the best of those after it.
 fn best_of(row: Row, best: Option<Row>) -> Row
     ensures { best_of row best ≡ Some result }
 {
@@ -80,57 +80,68 @@ fn best_of(row: Row, best: Option<Row>) -> Row
     }
 }
 
-impl Places {
+impl RunList {
     /// Nobody can run.
-    pub(crate) fn new(alloc: Global) -> Places
+    pub fn new(alloc: Global) -> RunList
         ensures { result ≡ places_of [] 0 }
     {
-        Places {
+        RunList {
             rows: Vec::new(alloc),
+            names: Vec::new(alloc),
             next: 0,
         }
     }
 
     /// The thread arrives. Want of memory is also where no more arrivals can be counted.
-    pub(crate) fn arrive(&mut self, t: Tid, priority: u8) -> Result<(), NoMemory>
+    pub fn arrive(&mut self, t: Tid, priority: u8) -> Result<(), NoMemory>
         ensures { IfOk result (λ _. self.new ≡ arrived t priority self.old) }
     {
         let Some(next) = self.next.checked_add(1) else {
             return Err(NoMemory);
         };
-        self.rows.push(Row {
+        self.rows.reserve(1)?;
+        searching::put(&mut self.names, &t)?;
+        self.rows.push_reserved(Row {
             tid: t,
             list: 0,
             priority,
             arrival: self.next,
-        })?;
+        });
         self.next = next;
         Ok(())
     }
 
     /// The thread's first row goes, if it has one.
-    pub(crate) fn take_off(&mut self, t: Tid)
+    pub fn take_off(&mut self, t: Tid)
         ensures { self.new ≡ taken_off t self.old }
     {
+        searching::take_out(&mut self.names, &t);
         row_out(&mut self.rows, t);
     }
 
     /// The thread is on the list.
-    pub(crate) fn is_listed(&self, t: &Tid) -> bool
+    pub fn is_listed(&self, t: &Tid) -> bool
         ensures { result ≡ is_listed t.now self.now.rows }
     {
-        is_among(&self.rows, *t)
+        searching::holds(&self.names, t)
     }
 
     /// How many threads are on the list.
-    pub(crate) fn count(&self) -> usize
+    pub fn count(&self) -> usize
         ensures { result ≡ length self.now.rows }
     {
         self.rows.len()
     }
 
+    /// The name at this place, in the order of names.
+    pub fn name_at(&self, place: usize) -> Option<Tid>
+        ensures { result ≡ slice_get (names_of self.now.rows) place }
+    {
+        self.names.get(place).copied()
+    }
+
     /// The row that is picked.
-    pub(crate) fn best(&self) -> Option<Row>
+    pub fn best(&self) -> Option<Row>
         ensures { result ≡ best self.now.rows }
     {
         let mut best = None;
