@@ -15,7 +15,6 @@ pub mod Lifetimes
 pub mod HeapSteps
 pub mod Takes
 pub mod Joins
-pub mod Firsts
 pub mod Picking
 pub mod Events
 pub mod Simulate
