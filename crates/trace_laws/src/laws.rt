@@ -31,7 +31,7 @@ ghost use Rattle.run_trace.specs.Places.{best, is_listed};
 ghost use Rattle.run_trace.specs.Rules.{spots_of};
 ghost use Rattle.run_trace.specs.Same.{HasEnded, HasLivedLike, HasWritten, lived};
 ghost use Rattle.run_trace.specs.Spots.{On, Ready, Spots, Stage, at_first};
-ghost use Rattle.run_trace.specs.Obeying.{KeepsRules, is_on_list, may_act, Starts};
+ghost use Rattle.run_trace.specs.Obeying.{IsEntry, KeepsRules, is_on_list, may_act, Starts};
 ghost use Rattle.run_trace.specs.Stands.{Stands};
 ghost use Rattle.run_trace.specs.Trace.{IsRun, entry_of, events_of, Fits, net_after_trace};
 ghost use Rattle.run_trace.specs.World.{World};
@@ -83,9 +83,11 @@ pub fn one_trace()
     ensures { (p : Program) (old : World) (xs ys : List Entry) → map heading xs ≡ map heading ys → KeepsRules p old xs → KeepsRules p old ys → xs ≡ ys }
 {}
 
-/// The rules and the machine are two definitions of one thing; and a trace that keeps the rules goes on with each act that may be.
+/// The rules and the machine are two definitions of one thing: of a trace, and of one entry after a trace, so the first entry that
+/// the machine can't make is the first that the rules refuse. And a trace that keeps the rules goes on with each act that may be.
 pub fn rules_and_machine()
     ensures same { (p : Program) (old : Spots) (base : Net) → Stands p old base → (lines : List Entry) → KeepsRules p (world_at old base) lines ↔ IsRun p base lines }
+    ensures entry { (p : Program) (old : Spots) (base : Net) → Stands p old base → (x : Entry) (xs : List Entry) → IsRun p base xs → IsEntry p (world_of p (world_at old base) xs) x ↔ Fits p (net_after_trace p base xs) x }
     ensures goes_on { (p : Program) (old : Spots) (base : Net) → Stands p old base → (lines : List Entry) → KeepsRules p (world_at old base) lines → (stamp n round : ℕ) (a : Act) (to_do : List Item) → may_act p n ((world_of p (world_at old base) lines).begun n) a ≡ true → Starts p stamp n a (world_of p (world_at old base) lines) to_do → (ls : List Label) × KeepsRules p (world_at old base) ((record { stamp = stamp; node = n; round = round; act = a; labels = ls }) ∷ lines) }
 {}
 
