@@ -170,7 +170,7 @@ module _ (p : Program) (net : Net) (q : Occasion) (n : ℕ) (opening ahead : Lis
       let had : (y : ℕ) → has y (slots_held (held s.life g)) ≡ has y (guest_slots g) = λ y. ap (λ z. has y (slots_held (held z g))) x in
       let holder : (y : ℕ) → has y back ≡ true → v.slots y ≡ Of_thread t = λ y h. thread_holds t (v.slots y) (sym (m.agrees.slots t y) ∙ had y ∙ empty_held g address y h) in
       slots_step p net q n opening ahead w L d _ (busy t (On n a) ∷ hs) (Gave t back) t r _ (given n back v.slots) a a m
-      (ap (λ z. spots_with (update v.threads t (record s { life = z; guest = gives_slots back g })) (given n back v.slots) v.births v.halts) (ap gave_life x ∙ sym x))
+      (ap (λ z. spots_with (update v.threads t (record s { life = z; guest = gives_slots back g })) (given n back v.slots) v.births v.halts v.remote) (ap gave_life x ∙ sym x))
       (record { solo = tt; holders = holder; life = subst (λ z. MayGive n z g back) (sym x) (refl, refl, some); replies = tt; grants = tt }) refl refl x x refl refl
       (served_ties d t (Isofree address) (gives_slots back g) hs _ m x refl refl) refl refl
       (gives_change p n v t r d.node.slots.own back m.agrees m.here.own holder

@@ -101,7 +101,7 @@ joins_agree : (p : Program) (n seq from : ℕ) (w : Spots) (by : Tid) (r : Spot)
     → ((u : Tid) (at : ℕ) → r.life ≡ On at (Awaits u) → slice_get (at_node w.births n births u.home) u.seq ≡ Some (Awaited by at))
     → ((b : Tid) (at : ℕ) → slice_get (w.births n) seq ≡ Some (Awaited b at) → new ≡ Some (Awaited b at))
     → ((m : ℕ) → r.life ≡ On m Stays → ⊥)
-    → Agrees p (spots_with (update w.threads by r) w.slots (at_node w.births n births) w.halts)
+    → Agrees p (spots_with (update w.threads by r) w.slots (at_node w.births n births) w.halts w.remote)
 joins_agree p n seq from w by r births new gets a x during slots phase awaited waits keeps stays = record {
   waits = λ u b at e. elim (is_tid by b) as (λ v. is_tid by b ≡ v → (cond v r (w.threads b)).life ≡ On at (Awaits u) → slice_get (at_node w.births n births u.home) u.seq ≡ Some (Awaited b at)) [
     | true ↦ λ h f. subst (λ z. slice_get (at_node w.births n births u.home) u.seq ≡ Some (Awaited z at)) (is-true by b h) (waits u at f)
@@ -141,7 +141,7 @@ module _ (p : Program) (net : Net) (q : Occasion) (n : ℕ) (opening ahead : Lis
       → ways_of by life (m.now.spots.threads by).verdict (m.now.spots.threads by).guest ≡ []
       → ((k : ℕ) → eqb n k ≡ false → is_busy k life ≡ false)
       → StandsFor is_tid busy_name (busy_part n) more (update m.now.spots.threads by (record (m.now.spots.threads by) { life = life }))
-      → Agrees p (spots_with (update m.now.spots.threads by (record (m.now.spots.threads by) { life = life })) m.now.spots.slots (at_node m.now.spots.births n (with_birth (m.now.spots.births n) seq (joined by from))) m.now.spots.halts)
+      → Agrees p (spots_with (update m.now.spots.threads by (record (m.now.spots.threads by) { life = life })) m.now.spots.slots (at_node m.now.spots.births n (with_birth (m.now.spots.births n) seq (joined by from))) m.now.spots.halts m.now.spots.remote)
       → Own n (Heard by) by m.now.spots (Says (Heard by) ∷ ahead) ahead [] more life
       → Midst p net q n opening ahead w (Left p net q n opening ahead w L from by) (hears by seq from (nothing s)) more
   unfolding hears change_name say
@@ -149,9 +149,9 @@ module _ (p : Program) (net : Net) (q : Occasion) (n : ℕ) (opening ahead : Lis
       let o : Spot = m.now.spots.threads by in
       let r : Spot = record o { life = life } in
       let births : List Birth = with_birth (m.now.spots.births n) seq (joined by from) in
-      let same = ap (λ z. spots_with (update m.now.spots.threads by (record o { life = heard_at m.now.spots.births z })) m.now.spots.slots (joined_at by z m.now.spots.births) m.now.spots.halts) x
-      ∙ ap (λ z. spots_with (update m.now.spots.threads by (record o { life = z })) m.now.spots.slots (at_node m.now.spots.births n births) m.now.spots.halts) heard in
-      (labelled p net q n opening ahead w (Says (Heard by) ∷ ahead) L (Left p net q n opening ahead w L from by) (nothing s) [] more (Heard by) (spots_with (update m.now.spots.threads by r) m.now.spots.slots (at_node m.now.spots.births n births) m.now.spots.halts) _ [] [] m
+      let same = ap (λ z. spots_with (update m.now.spots.threads by (record o { life = heard_at m.now.spots.births z })) m.now.spots.slots (joined_at by z m.now.spots.births) m.now.spots.halts m.now.spots.remote) x
+      ∙ ap (λ z. spots_with (update m.now.spots.threads by (record o { life = z })) m.now.spots.slots (at_node m.now.spots.births n births) m.now.spots.halts m.now.spots.remote) heard in
+      (labelled p net q n opening ahead w (Says (Heard by) ∷ ahead) L (Left p net q n opening ahead w L from by) (nothing s) [] more (Heard by) (spots_with (update m.now.spots.threads by r) m.now.spots.slots (at_node m.now.spots.births n births) m.now.spots.halts m.now.spots.remote) _ [] [] m
       same
       (record { solo = tt; holders = tt; life = rw x refl; replies = tt; grants = tt }) refl refl
       (record {
@@ -256,7 +256,7 @@ ends_agree : (p : Program) (n seq from : ℕ) (end : End) (w : Spots) (f : Tid �
     → phase_at new ≡ After → ((b : Tid) (at : ℕ) → new ≡ Some (Awaited b at) → ⊥)
     → ((u b : Tid) (at : ℕ) → (f b).life ≡ On at (Awaits u) → ((w.threads b).life ≡ On at (Awaits u)) × (is_tid (tid n seq) u ≡ false))
     → ((u : Tid) (m : ℕ) → (f u).life ≡ On m Stays → (w.threads u).life ≡ On m Stays)
-    → Agrees p (spots_with (update f (tid n seq) r) w.slots (at_node w.births n births) w.halts)
+    → Agrees p (spots_with (update f (tid n seq) r) w.slots (at_node w.births n births) w.halts w.remote)
 ends_agree p n seq from end w f r births new gets a x gone phases slots unborn awaits known nobody waits stays = record {
   waits = λ u b at e. elim (is_tid t b) as (λ v. (cond v r (f b)).life ≡ On at (Awaits u) → slice_get (at_node w.births n births u.home) u.seq ≡ Some (Awaited b at)) [
     | true ↦ λ h. absurd (cc (gone, h))
@@ -305,9 +305,9 @@ module _ (p : Program) (net : Net) (q : Occasion) (n : ℕ) (opening ahead : Lis
       let o : Spot = m.now.spots.threads t in
       let r : Spot = record o { life = Gone end } in
       let births : List Birth = with_birth (m.now.spots.births n) seq (ended end) in
-      (labelled p net q n opening ahead w (Says (Known t) ∷ ahead) L (Left p net q n opening ahead w L from t) (nothing s) [] [] (Known t) (spots_with (update m.now.spots.threads t r) m.now.spots.slots (at_node m.now.spots.births n births) m.now.spots.halts) _ [] [] m
-      (ap (λ z. spots_with (update (joiner_served t (end_in z) (joiner (slice_get (m.now.spots.births n) seq)) m.now.spots.threads) t (record o { life = Gone (end_in z) })) m.now.spots.slots (at_node m.now.spots.births n (with_birth (m.now.spots.births n) seq (ended (end_in z)))) m.now.spots.halts) x
-      ∙ ap (λ z. spots_with (update (joiner_served t end z m.now.spots.threads) t r) m.now.spots.slots (at_node m.now.spots.births n births) m.now.spots.halts) (ap joiner e ∙ none))
+      (labelled p net q n opening ahead w (Says (Known t) ∷ ahead) L (Left p net q n opening ahead w L from t) (nothing s) [] [] (Known t) (spots_with (update m.now.spots.threads t r) m.now.spots.slots (at_node m.now.spots.births n births) m.now.spots.halts m.now.spots.remote) _ [] [] m
+      (ap (λ z. spots_with (update (joiner_served t (end_in z) (joiner (slice_get (m.now.spots.births n) seq)) m.now.spots.threads) t (record o { life = Gone (end_in z) })) m.now.spots.slots (at_node m.now.spots.births n (with_birth (m.now.spots.births n) seq (ended (end_in z)))) m.now.spots.halts m.now.spots.remote) x
+      ∙ ap (λ z. spots_with (update (joiner_served t end z m.now.spots.threads) t r) m.now.spots.slots (at_node m.now.spots.births n births) m.now.spots.halts m.now.spots.remote) (ap joiner e ∙ none))
       (record { solo = tt; holders = tt; life = (rw x tt, refl, subst (λ z. JoinerAwaits t z m.now.spots) (sym (ap joiner e ∙ none)) tt); replies = tt; grants = tt }) refl refl
       (record {
         threads = map_kept is_tid is-true is-refl (thread_part n) m.now.spots.threads t r s.threads m.here.threads (sym (ap (λ z. thread_in_life n z o.guest) x));
@@ -353,12 +353,12 @@ module _ (p : Program) (net : Net) (q : Occasion) (n : ℕ) (opening ahead : Lis
       let here : f t ≡ o = rw apart refl in
       let r : Spot = record o { life = Gone end } in
       let births : List Birth = with_birth (m.now.spots.births n) seq (ended end) in
-      let w1 : Spots = spots_with f m.now.spots.slots m.now.spots.births m.now.spots.halts in
+      let w1 : Spots = spots_with f m.now.spots.slots m.now.spots.births m.now.spots.halts m.now.spots.remote in
       let x1 : (f t).life ≡ Noting from end = ap (λ (z : Spot). z.life) here ∙ x in
-      let same = ap (λ z. spots_with (update (joiner_served t (end_in z) (joiner (slice_get (m.now.spots.births n) seq)) m.now.spots.threads) t (record o { life = Gone (end_in z) })) m.now.spots.slots (at_node m.now.spots.births n (with_birth (m.now.spots.births n) seq (ended (end_in z)))) m.now.spots.halts) x
-      ∙ ap (λ z. spots_with (update (joiner_served t end z m.now.spots.threads) t r) m.now.spots.slots (at_node m.now.spots.births n births) m.now.spots.halts) (ap joiner e) in
+      let same = ap (λ z. spots_with (update (joiner_served t (end_in z) (joiner (slice_get (m.now.spots.births n) seq)) m.now.spots.threads) t (record o { life = Gone (end_in z) })) m.now.spots.slots (at_node m.now.spots.births n (with_birth (m.now.spots.births n) seq (ended (end_in z)))) m.now.spots.halts m.now.spots.remote) x
+      ∙ ap (λ z. spots_with (update (joiner_served t end z m.now.spots.threads) t r) m.now.spots.slots (at_node m.now.spots.births n births) m.now.spots.halts m.now.spots.remote) (ap joiner e) in
       let at_by : (update f t r by).life ≡ life = rw (is-flip by t apart) (rw (is-refl by) refl) in
-      (labelled p net q n opening ahead w (Says (Known t) ∷ ahead) L (Left p net q n opening ahead w L from t) (nothing s) [] (busy by life ∷ []) (Known t) (spots_with (update f t r) m.now.spots.slots (at_node m.now.spots.births n births) m.now.spots.halts) _ [] [] m
+      (labelled p net q n opening ahead w (Says (Known t) ∷ ahead) L (Left p net q n opening ahead w L from t) (nothing s) [] (busy by life ∷ []) (Known t) (spots_with (update f t r) m.now.spots.slots (at_node m.now.spots.births n births) m.now.spots.halts m.now.spots.remote) _ [] [] m
       same
       (record { solo = tt; holders = tt; life = (rw x tt, refl, subst (λ z. JoinerAwaits t z m.now.spots) (sym (ap joiner e)) y); replies = tt; grants = tt }) refl refl
       (record {

@@ -26,13 +26,13 @@ use Rattle.run_trace.specs.Steps.{say, put, arrive, thread_in, thread_out, slots
 use Rattle.run_trace.specs.Machine.{free_run, free_slot, end_thread}
 use Rattle.run_trace.specs.Cluster.{Net}
 use Rattle.run_trace.specs.Keyed.{StandsFor}
-use Rattle.run_trace.specs.Spots.{Stage, Stays, Ready, Due, Served, Ends, Leaves, Awaits, Life, Unborn, On, Moving, Noting, Gone, Response, Spot, Spots, Holder, Of_node, Of_thread, update, at_node, after_label, gave_life, born_spot, asked_priority, no_response}
+use Rattle.run_trace.specs.Spots.{Stage, Stays, Ready, Due, Served, Ends, Leaves, Awaits, Life, Unborn, On, Moving, Noting, Gone, Response, Spot, Spots, Holder, Of_node, Of_thread, update, at_node, after_label, gave_life, born_spot, asked_priority, no_response, Remote}
 use Rattle.run_trace.specs.Rules.{Occasion, is_free, lowest_free, MayGive}
 use Rattle.run_trace.specs.Console.{shown_by}
 use Rattle.run_trace.specs.Stands.{Here, Agrees, Busy, busy, busy_name, busy_part, thread_part, thread_in_life, row_part, row_in_life, listed, listed_name, ways_of, phase_of, phase_at, Before, During, held, slots_held, IsWellHeld, is_thread}
 use Rattle.trace_laws.proofs.Tids.{is-other, is-true, is-refl, is-false, is-flip, same_name}
 use Rattle.trace_laws.proofs.KeyedLemmas.{kept, added, unfronted, refronted, map_kept, map_removed, map_added}
-use Rattle.trace_laws.proofs.Births.{get-push, get-past}
+use Rattle.trace_laws.proofs.Births.{get-push, get-past, no_bytes, plain_start}
 use Rattle.run_trace.specs.World.{World}
 use Rattle.run_trace.specs.Obeying.{Allows, IsBy}
 use Rattle.trace_laws.proofs.Midst.{having_said, Then, doing, Own, beside, Links, Midst, Plain, plain, keeps, under, LinkStands, spots_with, labelled, here_kept, agrees_kept, links_kept}
@@ -60,14 +60,14 @@ unborn_of (Noting n end) e = absurd (cc e)
 unborn_of (Gone end) e = absurd (cc e)
 
 -- a thread whose slots change hands; all else as agrees_kept
-agrees_slots : (p : Program) (w : Spots) (t : Tid) (s : Spot) (f : ℕ → Holder) → Agrees p w
+agrees_slots : {remote : Remote} (p : Program) (w : Spots) (t : Tid) (s : Spot) (f : ℕ → Holder) → Agrees p w
     → phase_of s.life ≡ phase_of (w.threads t).life
     → ((u : Tid) (m : ℕ) → (w.threads t).life ≡ On m (Awaits u) → ⊥)
     → ((w.threads t).life ≡ Unborn → ⊥)
     → Plain s.life
     → ((u : Tid) (y : ℕ) → has y (slots_held (held (update w.threads t s u).life (update w.threads t s u).guest)) ≡ is_thread u (f y))
     → IsWellHeld (held s.life s.guest)
-    → Agrees p (spots_with (update w.threads t s) f w.births w.halts)
+    → Agrees p (spots_with (update w.threads t s) f w.births w.halts remote)
 agrees_slots p w t s f a phase quiet born idle slots well = record {
   waits = λ u by at e. elim (is_tid t by) as (λ v. (cond v s (w.threads by)).life ≡ On at (Awaits u) → slice_get (w.births u.home) u.seq ≡ Some (Awaited by at)) [ true ↦ λ g. absurd (idle.waits u at g) | false ↦ λ g. a.waits u by at g ] e;
   stays = λ u m e. elim (is_tid t u) as (λ v. (cond v s (w.threads u)).life ≡ On m Stays → w.halts m ≡ true) [ true ↦ λ g. absurd (idle.stays m g) | false ↦ λ g. a.stays u m g ] e;
@@ -158,7 +158,7 @@ module _ (p : Program) (net : Net) (q : Occasion) (n : ℕ) (opening ahead : Lis
   -- a label by which slots go between node n and its thread t
   pub slots_step : (d : Doing) (hand more : List Busy) (l : Label) (t : Tid) (r : Spot) (now : Local) (f : ℕ → Holder) (a b : Stage)
       → (m : Is d hand)
-      → after_label p n l m.now.spots ≡ spots_with (update m.now.spots.threads t r) f m.now.spots.births m.now.spots.halts
+      → after_label p n l m.now.spots ≡ spots_with (update m.now.spots.threads t r) f m.now.spots.births m.now.spots.halts m.now.spots.remote
       → Allows p (having_said d.labels q) n l m.now
       → causes p n l m.now.spots ≡ [] → shown_by l m.now.spots ≡ []
       → (spot m.now.spots t).life ≡ On n a → r.life ≡ On n b → is_home a ≡ true → is_home b ≡ true
@@ -173,7 +173,7 @@ module _ (p : Program) (net : Net) (q : Occasion) (n : ℕ) (opening ahead : Lis
       let s : Spot = spot m.now.spots t in
       let before : ways_of t s.life s.verdict s.guest ≡ [] = ap (λ z. ways_of t z s.verdict s.guest) x ∙ home_way t n a s.verdict s.guest home_a in
       let after : ways_of t r.life r.verdict r.guest ≡ [] = ap (λ z. ways_of t z r.verdict r.guest) y ∙ home_way t n b r.verdict r.guest home_b in
-      labelled p net q n opening ahead w ahead L L d hand more l (spots_with (update v.threads t r) f v.births v.halts) now d.sends d.prints m same ok
+      labelled p net q n opening ahead w ahead L L d hand more l (spots_with (update v.threads t r) f v.births v.halts v.remote) now d.sends d.prints m same ok
       (sym (append-nil d.sends) ∙ ap (λ z. d.sends ++ z) (sym sent)) (sym (append-nil d.prints) ∙ ap (λ z. d.prints ++ z) (sym shown))
       (record { threads = ties.threads; rows = ties.rows; busy = ties.busy; names = names ∙ m.here.names; own = change.own; halted = halted ∙ m.here.halted })
       (λ k e. here_kept k v t r f v.births v.halts (net.nodes k) [] (m.there k e) (frame_home n k t s r a b x y home_a home_b e) refl (change.there k e) refl)
@@ -192,7 +192,7 @@ module _ (p : Program) (net : Net) (q : Occasion) (n : ℕ) (opening ahead : Lis
       let had : (y : ℕ) → has y (slots_held (held s.life s.guest)) ≡ has y mine = λ y. ap (λ z. has y (slots_held (held z s.guest))) x in
       let holder : (y : ℕ) → has y mine ≡ true → v.slots y ≡ Of_thread t = λ y h. thread_holds t (v.slots y) (sym (sym (had y) ∙ m.agrees.slots t y) ∙ h) in
       (slots_step d _ (busy t (On n (Leaves end)) ∷ hs) (Gave t mine) t r _ (given n mine v.slots) (Ends end) (Leaves end) m
-      (ap (λ z. spots_with (update v.threads t (record s { life = gave_life z; guest = gives_slots mine s.guest })) (given n mine v.slots) v.births v.halts) x)
+      (ap (λ z. spots_with (update v.threads t (record s { life = gave_life z; guest = gives_slots mine s.guest })) (given n mine v.slots) v.births v.halts v.remote) x)
       (record { solo = tt; holders = holder; life = subst (λ z. MayGive n z s.guest mine) (sym x) (refl, refl); replies = tt; grants = tt }) refl refl x refl refl refl
       (record {
         threads = map_removed is_tid is-true is-refl (thread_part n) v.threads t r d.node.threads m.here.threads (thread_was p net q n opening ahead w L r t (Leaves end) refl);
@@ -260,7 +260,7 @@ module _ (p : Program) (net : Net) (n : ℕ) (v : Spots) (M : Links) (s : Local)
   new_spot = record { life = On n Ready; guest = g; verdict = verdict }
 
   abbrev born_spots : Spots
-  born_spots = spots_with (update v.threads new_name new_spot) (at_node v.slots slot (Of_thread new_name)) (at_node v.births n (v.births n ++ Lives ∷ [])) v.halts
+  born_spots = spots_with (update v.threads new_name new_spot) (at_node v.slots slot (Of_thread new_name)) (at_node v.births n (v.births n ++ Lives ∷ [])) v.halts v.remote
 
   unborn : Holds_there p net n v M s hand → (v.threads new_name).life ≡ Unborn
   unborn o = unborn_of (v.threads new_name).life (sym (ap phase_at (get-past (v.births n))) ∙ o.agrees.named new_name)
@@ -389,8 +389,8 @@ module _ (p : Program) (net : Net) (q : Occasion) (n : ℕ) (opening ahead : Lis
       newcomer p net n v (under n L d.sends) d.node [] below g no_response slot holder refl (new_well p.image.main 0 0 (stack_end slot) slot main_priority) o in
       subst (λ (k : ℕ). Midst p net q n opening ahead w L (record { node = with_newborn n (tid n k) (waits wait.No g) g.priority slot d.node; labels = d.labels ++ Born (tid n k) why.Main p.image.main 0 0 (stack_end slot) slot ∷ []; sends = d.sends; prints = d.prints }) [])
       (ap length (sym m.here.names))
-      (labelled p net q n opening ahead w (i ∷ ahead) L L d [] [] (Born t why.Main p.image.main 0 0 (stack_end slot) slot) _ _ d.sends d.prints m refl
-      (record { solo = ((refl, refl, zero), refl, refl); holders = holder; life = (unborn p net n v (under n L d.sends) d.node [] below g no_response slot holder refl (new_well p.image.main 0 0 (stack_end slot) slot main_priority) o, refl); replies = tt; grants = least })
+      (labelled p net q n opening ahead w (i ∷ ahead) L L d [] [] (Born t why.Main p.image.main 0 0 (stack_end slot) slot) _ _ d.sends d.prints m (ap (λ z. spots_with (update v.threads t (record { life = On n Ready; guest = z; verdict = no_response })) (at_node v.slots slot (Of_thread t)) (at_node v.births n (v.births n ++ Lives ∷ [])) v.halts v.remote) (no_bytes (stack_end slot) g))
+      (record { solo = ((refl, refl, zero), refl, plain_start slot); holders = holder; life = (unborn p net n v (under n L d.sends) d.node [] below g no_response slot holder refl (new_well p.image.main 0 0 (stack_end slot) slot main_priority) o, refl); replies = tt; grants = least })
       (sym (append-nil d.sends)) (sym (append-nil d.prints)) new.here new.there new.links new.agrees
       (record { places = refl; booted = refl; next = subst (λ j. IsBy n (Born t why.Main p.image.main 0 0 (stack_end slot) slot) v j) (sym says) refl; still = refl })).midst
 
@@ -407,7 +407,7 @@ module _ (p : Program) (net : Net) (q : Occasion) (n : ℕ) (opening ahead : Lis
       let r : Spot = record s { life = On n (Due (tid_value t)) } in
       let least : lowest_free n 1 v ≡ Some slot = lowest_is n 1 v d.node _ m.here ∙ free in
       let holder : v.slots slot ≡ Of_node n = least_held n v slot least in
-      let v1 : Spots = spots_with (update v.threads by r) v.slots v.births v.halts in
+      let v1 : Spots = spots_with (update v.threads by r) v.slots v.births v.halts v.remote in
       let hand : List Busy = busy by (On n (Due (tid_value t))) ∷ hs in
       let M : Links = under n L d.sends in
       let none : Response = no_response in
@@ -427,11 +427,12 @@ module _ (p : Program) (net : Net) (q : Occasion) (n : ℕ) (opening ahead : Lis
       let new : Holds_there p net n (born_spots p net n v1 M d.node hand below g none slot holder refl (new_well e a 0 (stack_end slot) slot k)) M (with_newborn n t (waits wait.No g) g.priority slot d.node) hand = newcomer p net n v1 M d.node hand below g none slot holder refl (new_well e a 0 (stack_end slot) slot k) served in
       let fresh : (v.threads t).life ≡ Unborn = unborn_of (v.threads t).life (sym (ap phase_at (get-past (v.births n))) ∙ m.agrees.named t) in
       let same : after_label p n (Born t (why.Create by) e a 0 (stack_end slot) slot) v ≡ born_spots p net n v1 M d.node hand below g none slot holder refl (new_well e a 0 (stack_end slot) slot k) =
-      ap (λ z. spots_with (update (update v.threads by r) t (born_spot n e a 0 (stack_end slot) slot (asked_priority z))) (at_node v.slots slot (Of_thread t)) (at_node v.births n (v.births n ++ Lives ∷ [])) v.halts) x in
+      ap (λ z. spots_with (update (update v.threads by r) t (born_spot n [] e a 0 (stack_end slot) slot (asked_priority z))) (at_node v.slots slot (Of_thread t)) (at_node v.births n (v.births n ++ Lives ∷ [])) v.halts v.remote) x
+      ∙ ap (λ z. spots_with (update (update v.threads by r) t (record { life = On n Ready; guest = z; verdict = no_response })) (at_node v.slots slot (Of_thread t)) (at_node v.births n (v.births n ++ Lives ∷ [])) v.halts v.remote) (no_bytes (stack_end slot) g) in
       subst (λ (j : ℕ). Midst p net q n opening ahead w L (record { node = with_newborn n (tid n j) (waits wait.No g) g.priority slot d.node; labels = d.labels ++ Born (tid n j) (why.Create by) e a 0 (stack_end slot) slot ∷ []; sends = d.sends; prints = d.prints }) (busy by (On n (Due (tid_value (tid n j)))) ∷ hs))
       (ap length (sym m.here.names))
       (labelled p net q n opening ahead w ahead L L d _ hand (Born t (why.Create by) e a 0 (stack_end slot) slot) _ _ d.sends d.prints m same
-      (record { solo = ((k, x), refl, refl); holders = holder; life = (fresh, refl); replies = tt; grants = least })
+      (record { solo = ((k, x), refl, plain_start slot); holders = holder; life = (fresh, refl); replies = tt; grants = least })
       (sym (append-nil d.sends)) (sym (append-nil d.prints)) new.here new.there new.links new.agrees
       (record {
         places = ap (λ z. arrived t (asked_priority z) d.node.places) (sym x);

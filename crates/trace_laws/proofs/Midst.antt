@@ -14,7 +14,7 @@ use Rattle.run_trace.specs.Names.{is_tid}
 use Rattle.run_trace.specs.Program.{Program}
 use Rattle.run_trace.specs.Local.{Local, Doing}
 use Rattle.run_trace.specs.Cluster.{Net}
-use Rattle.run_trace.specs.Spots.{Stays, Life, Awaits, Unborn, On, Spot, Spots, Holder, update, after_label, after_labels}
+use Rattle.run_trace.specs.Spots.{Stays, Life, Awaits, Unborn, On, Spot, Remote, Spots, Holder, update, after_label, after_labels}
 use Rattle.run_trace.specs.Rules.{Occasion, saying, Rule, SoloRule, HoldersRule, LifeRule, RepliesRule, GrantsRule, is_free}
 use Rattle.run_trace.specs.World.{World, world_after}
 use Rattle.trace_laws.specs.Obeys.{ObeyEach, all_causes}
@@ -169,11 +169,11 @@ pub record Frame (k : ℕ) (t : Tid) (r s : Spot) : Type 0 where
   pub row : row_part k t s ≡ row_part k t r
   pub busy : busy_part k t s ≡ busy_part k t r
 
-abbrev pub spots_with : (Tid → Spot) → (ℕ → Holder) → (ℕ → List Birth) → (ℕ → Bool) → Spots
-spots_with threads slots births halts = record { threads = threads; slots = slots; births = births; halts = halts }
+abbrev pub spots_with : (Tid → Spot) → (ℕ → Holder) → (ℕ → List Birth) → (ℕ → Bool) → Remote → Spots
+spots_with threads slots births halts remote = record { threads = threads; slots = slots; births = births; halts = halts; remote = remote }
 
-pub here_kept : (k : ℕ) (w : Spots) (t : Tid) (s : Spot) (f : ℕ → Holder) (b : ℕ → List Birth) (h : ℕ → Bool) (st : Local) (hand : List Busy) → Here k w st hand → Frame k t (w.threads t) s
-    → b k ≡ w.births k → ((x : ℕ) → is_free k (f x) ≡ is_free k (w.slots x)) → h k ≡ w.halts k → Here k (spots_with (update w.threads t s) f b h) st hand
+pub here_kept : {remote : Remote} (k : ℕ) (w : Spots) (t : Tid) (s : Spot) (f : ℕ → Holder) (b : ℕ → List Birth) (h : ℕ → Bool) (st : Local) (hand : List Busy) → Here k w st hand → Frame k t (w.threads t) s
+    → b k ≡ w.births k → ((x : ℕ) → is_free k (f x) ≡ is_free k (w.slots x)) → h k ≡ w.halts k → Here k (spots_with (update w.threads t s) f b h remote) st hand
 here_kept k w t s f b h st hand m frame births slots halts = record {
   threads = map_kept is_tid is-true is-refl (thread_part k) w.threads t s st.threads m.threads frame.thread;
   rows = kept is_tid is-true is-refl listed_name (row_part k) w.threads t s (map listed st.places.rows) m.rows frame.row;
@@ -312,7 +312,7 @@ pub keeps : (old new : Option Holding) → new ≡ old → Keeps old new
 keeps old new e = record { slots = ap slots_held e; well = λ h. subst (λ x. IsWellHeld x) (sym e) h }
 
 -- a thread that keeps its phase and its slots, and that no record names as a joiner
-pub agrees_kept : (p : Program) (w : Spots) (t : Tid) (s : Spot) (h : ℕ → Bool) → Agrees p w
+pub agrees_kept : {remote : Remote} (p : Program) (w : Spots) (t : Tid) (s : Spot) (h : ℕ → Bool) → Agrees p w
     → phase_of s.life ≡ phase_of (w.threads t).life
     → ((u : Tid) (m : ℕ) → (w.threads t).life ≡ On m (Awaits u) → ⊥)
     → Keeps (held (w.threads t).life (w.threads t).guest) (held s.life s.guest)
@@ -320,7 +320,7 @@ pub agrees_kept : (p : Program) (w : Spots) (t : Tid) (s : Spot) (h : ℕ → Bo
     → ((u : Tid) (m : ℕ) → s.life ≡ On m (Awaits u) → ⊥)
     → ((m : ℕ) → s.life ≡ On m Stays → h m ≡ true)
     → ((m : ℕ) → w.halts m ≡ true → h m ≡ true)
-    → Agrees p (spots_with (update w.threads t s) w.slots w.births h)
+    → Agrees p (spots_with (update w.threads t s) w.slots w.births h remote)
 agrees_kept p w t s h a phase quiet kept born idle stay more = record {
   waits = λ u by at e. elim (is_tid t by) as (λ v. (cond v s (w.threads by)).life ≡ On at (Awaits u) → slice_get (w.births u.home) u.seq ≡ Some (Awaited by at)) [ true ↦ λ f. absurd (idle u at f) | false ↦ λ f. a.waits u by at f ] e;
   stays = λ u m e. elim (is_tid t u) as (λ v. (cond v s (w.threads u)).life ≡ On m Stays → h m ≡ true) [ true ↦ λ f. stay m f | false ↦ λ f. more m (a.stays u m f) ] e;

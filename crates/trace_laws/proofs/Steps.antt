@@ -30,7 +30,7 @@ use Rattle.run_trace.specs.Steps.{say, put, arrive, take_off, thread_at, at_foun
 use Rattle.run_trace.specs.Machine.{answer, settles, goes}
 use Rattle.run_trace.specs.Cluster.{Net}
 use Rattle.run_trace.specs.Keyed.{StandsFor, MapStandsFor}
-use Rattle.run_trace.specs.Spots.{Stage, Ready, Running, Due, Served, Told_next, Told_then, Departs, Halts, Stays, Shows, Asks, Awaits, Life, Unborn, On, Moving, Response, Spot, Spots, update, after_label, ran_stage, stage_of_call, second_of, judged_stage, judged_life, judged_guest, told_stage, at_node}
+use Rattle.run_trace.specs.Spots.{Stage, Ready, Running, Due, Served, Told_next, Told_then, Departs, Halts, Stays, Shows, Asks, Awaits, Life, Unborn, On, Moving, Response, Spot, Spots, update, remote_after, after_label, ran_stage, stage_of_call, second_of, judged_stage, judged_life, judged_guest, told_stage, at_node}
 use Rattle.run_trace.specs.Rules.{Occasion, quantum_in, MayTell, MayLeave, lowest_free}
 use Rattle.run_trace.specs.Console.{shown_by}
 use Rattle.run_trace.specs.Stands.{Busy, busy, busy_name, busy_part, thread_part, thread_in_life, thread_in_stage, row_part, row_in_life, row_in_stage, listed, listed_name, word_subject, word_of, way, ways_of, phase_of, held, held_in_stage, holding_of}
@@ -75,7 +75,7 @@ module _ (p : Program) (net : Net) (q : Occasion) (n : ℕ) (opening ahead : Lis
   -- a label of one thread, that leaves slots, births and halts; before it, this was ahead
   pub moved : (due : List Item) (M : Links) (d : Doing) (hand more : List Busy) (l : Label) (t : Tid) (r : Spot) (now : Local) (sends : List Send) (prints : List ℕ)
       → (m : Midst p net q n opening due w L d hand)
-      → after_label p n l m.now.spots ≡ spots_with (update m.now.spots.threads t r) m.now.spots.slots m.now.spots.births m.now.spots.halts
+      → after_label p n l m.now.spots ≡ spots_with (update m.now.spots.threads t r) m.now.spots.slots m.now.spots.births m.now.spots.halts (remote_after l m.now.spots.remote)
       → Allows p (having_said d.labels q) n l m.now
       → sends ≡ d.sends ++ causes p n l m.now.spots → prints ≡ d.prints ++ shown_by l m.now.spots
       → Ties m.now.spots t r now more
@@ -91,7 +91,7 @@ module _ (p : Program) (net : Net) (q : Occasion) (n : ℕ) (opening ahead : Lis
       → Then p net q n opening ahead w M m.now l (record { node = now; labels = d.labels ++ l ∷ []; sends = sends; prints = prints }) more
   moved due M d hand more l t r now sends prints m same ok sent shown ties names own halted frame links phase quiet slots born idle next places booted =
       let v : Spots = m.now.spots in
-      labelled p net q n opening ahead w due L M d hand more l (spots_with (update v.threads t r) v.slots v.births v.halts) now sends prints m same ok sent shown
+      labelled p net q n opening ahead w due L M d hand more l (spots_with (update v.threads t r) v.slots v.births v.halts (remote_after l v.remote)) now sends prints m same ok sent shown
       (record { threads = ties.threads; rows = ties.rows; busy = ties.busy; names = names ∙ m.here.names; own = λ x. ap (λ (xs : List ℕ). has x xs) own ∙ m.here.own x; halted = halted ∙ m.here.halted })
       (λ k e. here_kept k v t r v.slots v.births v.halts (net.nodes k) [] (m.there k e) (frame k e) refl (λ x. refl) refl)
       links
@@ -101,7 +101,7 @@ module _ (p : Program) (net : Net) (q : Occasion) (n : ℕ) (opening ahead : Lis
   -- a label that leaves its thread on node n, and no packet
   pub home_step : (due : List Item) (d : Doing) (hand more : List Busy) (l : Label) (t : Tid) (r : Spot) (now : Local) (a b : Stage)
       → (m : Midst p net q n opening due w L d hand)
-      → after_label p n l m.now.spots ≡ spots_with (update m.now.spots.threads t r) m.now.spots.slots m.now.spots.births m.now.spots.halts
+      → after_label p n l m.now.spots ≡ spots_with (update m.now.spots.threads t r) m.now.spots.slots m.now.spots.births m.now.spots.halts (remote_after l m.now.spots.remote)
       → Allows p (having_said d.labels q) n l m.now
       → causes p n l m.now.spots ≡ [] → shown_by l m.now.spots ≡ []
       → (spot m.now.spots t).life ≡ On n a → r.life ≡ On n b → is_home a ≡ true → is_home b ≡ true
@@ -128,7 +128,7 @@ module _ (p : Program) (net : Net) (q : Occasion) (n : ℕ) (opening ahead : Lis
   -- a label by which its thread, on node n, comes to wait for what a packet brings
   pub send_step : (due : List Item) (d : Doing) (hand more : List Busy) (l : Label) (t : Tid) (r : Spot) (now : Local) (to : ℕ) (body : Body)
       → (m : Midst p net q n opening due w L d hand)
-      → after_label p n l m.now.spots ≡ spots_with (update m.now.spots.threads t r) m.now.spots.slots m.now.spots.births m.now.spots.halts
+      → after_label p n l m.now.spots ≡ spots_with (update m.now.spots.threads t r) m.now.spots.slots m.now.spots.births m.now.spots.halts (remote_after l m.now.spots.remote)
       → Allows p (having_said d.labels q) n l m.now
       → causes p n l m.now.spots ≡ send_to to body → shown_by l m.now.spots ≡ []
       → ways_of t (spot m.now.spots t).life (spot m.now.spots t).verdict (spot m.now.spots t).guest ≡ []
@@ -213,7 +213,7 @@ module _ (p : Program) (net : Net) (q : Occasion) (n : ℕ) (opening ahead : Lis
 
   pub judge_ok : (d : Doing) (t : Tid) (code : ℕ) (second : Option ℕ) (a b : Stage) (hs : List Busy) → (m : Is d (busy t (On n a) ∷ hs))
       → Allows p (having_said d.labels q) n (Judged t code (extra_of second)) m.now
-      → after_label p n (Judged t code (extra_of second)) m.now.spots ≡ spots_with (update m.now.spots.threads t (record (spot m.now.spots t) { life = On n b; verdict = record { code = code; extra = extra_of second } })) m.now.spots.slots m.now.spots.births m.now.spots.halts
+      → after_label p n (Judged t code (extra_of second)) m.now.spots ≡ spots_with (update m.now.spots.threads t (record (spot m.now.spots t) { life = On n b; verdict = record { code = code; extra = extra_of second } })) m.now.spots.slots m.now.spots.births m.now.spots.halts m.now.spots.remote
       → causes p n (Judged t code (extra_of second)) m.now.spots ≡ []
       → is_home a ≡ true → thread_in_stage a (spot m.now.spots t).guest ≡ Some (waits wait.No (spot m.now.spots t).guest) → row_in_stage t a (spot m.now.spots t).guest.priority ≡ None → held_in_stage a (spot m.now.spots t).guest ≡ Some (holding_of (spot m.now.spots t).guest)
       → is_home b ≡ true → is_busy n (On n b) ≡ true → thread_in_stage b (spot m.now.spots t).guest ≡ Some (waits wait.No (spot m.now.spots t).guest) → row_in_stage t b (spot m.now.spots t).guest.priority ≡ None → held_in_stage b (spot m.now.spots t).guest ≡ Some (holding_of (spot m.now.spots t).guest)
@@ -253,7 +253,7 @@ module _ (p : Program) (net : Net) (q : Occasion) (n : ℕ) (opening ahead : Lis
       let r : Spot = told_with m.now.spots t b in
       let stage : told_stage s.life ≡ b = ap told_stage x ∙ next in
       subst (λ o. Is (tell_found t s.verdict.code (second_of s.verdict.extra) o d) more) (sym (on_node d _ t a m x ∙ there_a s.guest))
-      (home_step ahead d _ more (Told t) t r _ a b m (ap (λ z. spots_with (update v.threads t (record s { life = On n z; guest = y })) v.slots v.births v.halts) stage)
+      (home_step ahead d _ more (Told t) t r _ a b m (ap (λ z. spots_with (update v.threads t (record s { life = On n z; guest = y })) v.slots v.births v.halts v.remote) stage)
       (record { solo = tt; holders = tt; life = subst (λ z. MayTell n z) (sym x) may; replies = tt; grants = tt }) refl refl x refl home_a home_b (keeps _ _ (held_b y ∙ sym (held_a s.guest)))
       (record {
         threads = map_set is_tid is-true is-refl (thread_part n) v.threads t r d.node.threads (waits wait.No s.guest) (waits wait.No y) m.here.threads (thread_was s t a x ∙ there_a s.guest) (thread_was r t b refl ∙ there_b y);
@@ -282,14 +282,14 @@ module _ (p : Program) (net : Net) (q : Occasion) (n : ℕ) (opening ahead : Lis
 
   -- the judged reply is what is told next
   judged_verdict : (v u : World) (t : Tid) (code : ℕ) (second : Option ℕ) (s : Spot) → u ≡ world_after p n (Judged t code (extra_of second)) v
-      → after_label p n (Judged t code (extra_of second)) v.spots ≡ spots_with (update v.spots.threads t s) v.spots.slots v.spots.births v.spots.halts
+      → after_label p n (Judged t code (extra_of second)) v.spots ≡ spots_with (update v.spots.threads t s) v.spots.slots v.spots.births v.spots.halts v.spots.remote
       → (u.spots.threads t).verdict ≡ s.verdict
   judged_verdict v u t code second s e same = ap (λ (z : World). (z.spots.threads t).verdict) e ∙ ap (λ (z : Spots). (z.threads t).verdict) same ∙ ap (λ (z : Spot). z.verdict) (updated v.spots.threads t s)
 
   judged_same : (v : Spots) (t : Tid) (code : ℕ) (second : Option ℕ) (life : Life) → (spot v t).life ≡ life
-      → after_label p n (Judged t code (extra_of second)) v ≡ spots_with (update v.threads t (record { life = judged_life life; guest = judged_guest life (spot v t).guest; verdict = record { code = code; extra = extra_of second } })) v.slots v.births v.halts
+      → after_label p n (Judged t code (extra_of second)) v ≡ spots_with (update v.threads t (record { life = judged_life life; guest = judged_guest life (spot v t).guest; verdict = record { code = code; extra = extra_of second } })) v.slots v.births v.halts v.remote
   judged_same v t code second life x =
-      ap (λ z. spots_with (update v.threads t (record { life = judged_life z; guest = judged_guest z (spot v t).guest; verdict = record { code = code; extra = extra_of second } })) v.slots v.births v.halts) x
+      ap (λ z. spots_with (update v.threads t (record { life = judged_life z; guest = judged_guest z (spot v t).guest; verdict = record { code = code; extra = extra_of second } })) v.slots v.births v.halts v.remote) x
 
   -- a thread that is due a reply has it at once
   pub answer_ok : (d : Doing) (t : Tid) (code : ℕ) (hs : List Busy) → (m : Is d (busy t (On n (Due code)) ∷ hs)) → Is (answer t code d) hs
@@ -318,7 +318,7 @@ module _ (p : Program) (net : Net) (q : Occasion) (n : ℕ) (opening ahead : Lis
       let stage : Stage = Served (MigrateSelf to) in
       let x : (spot m.now.spots t).life ≡ On n stage = in_hand d t (On n stage) hs m in
       let same = judged_same m.now.spots t 0 None (On n stage) x
-      ∙ ap (λ z. spots_with (update v.threads t (record { life = On n (cond z Told_next (Told_then to)); guest = (spot m.now.spots t).guest; verdict = record { code = 0; extra = Nothing } })) v.slots v.births v.halts) away in
+      ∙ ap (λ z. spots_with (update v.threads t (record { life = On n (cond z Told_next (Told_then to)); guest = (spot m.now.spots t).guest; verdict = record { code = 0; extra = Nothing } })) v.slots v.births v.halts v.remote) away in
       let k = judge_ok d t 0 None stage (Told_then to) hs m (record { solo = tt; holders = tt; life = rw x refl; replies = rw x (refl, refl); grants = rw x tt }) same (ap (judged_causes t) x) refl refl refl refl refl (eq-eqb n n refl) refl refl refl in
       subst (λ (z : Response). Is (tell t z.code (second_of z.extra) (judge t 0 None d)) (busy t (On n (Departs to)) ∷ hs)) (judged_verdict m.now k.midst.now t 0 None _ k.now same)
       (tell_then_ok (judge t 0 None d) t to hs k.midst)
@@ -330,7 +330,7 @@ module _ (p : Program) (net : Net) (q : Occasion) (n : ℕ) (opening ahead : Lis
       let stage : Stage = Served (MigrateSelf to) in
       let x : (spot m.now.spots t).life ≡ On n stage = in_hand d t (On n stage) hs m in
       let same = judged_same m.now.spots t 0 None (On n stage) x
-      ∙ ap (λ z. spots_with (update v.threads t (record { life = On n (cond z Told_next (Told_then to)); guest = (spot m.now.spots t).guest; verdict = record { code = 0; extra = Nothing } })) v.slots v.births v.halts) stays in
+      ∙ ap (λ z. spots_with (update v.threads t (record { life = On n (cond z Told_next (Told_then to)); guest = (spot m.now.spots t).guest; verdict = record { code = 0; extra = Nothing } })) v.slots v.births v.halts v.remote) stays in
       let k = judge_ok d t 0 None stage Told_next hs m (record { solo = tt; holders = tt; life = rw x refl; replies = rw x (refl, refl); grants = rw x tt }) same (ap (judged_causes t) x) refl refl refl refl refl (eq-eqb n n refl) refl refl refl in
       subst (λ (z : Response). Is (tell t z.code (second_of z.extra) (judge t 0 None d)) hs) (judged_verdict m.now k.midst.now t 0 None _ k.now same)
       (tell_ok (judge t 0 None d) t hs k.midst)
@@ -348,8 +348,8 @@ module _ (p : Program) (net : Net) (q : Occasion) (n : ℕ) (opening ahead : Lis
       let x : s.life ≡ On n (Served c) = in_hand d t (On n (Served c)) hs m in
       let r : Spot = record { life = On n Told_next; guest = g; verdict = record { code = code; extra = Nothing } } in
       let same = judged_same m.now.spots t code None (On n (Served c)) x
-      ∙ ap (λ z. spots_with (update v.threads t (record { life = On n z; guest = judged_guest (On n (Served c)) s.guest; verdict = record { code = code; extra = Nothing } })) v.slots v.births v.halts) next
-      ∙ ap (λ (z : Guest). spots_with (update v.threads t (record { life = On n Told_next; guest = z; verdict = record { code = code; extra = Nothing } })) v.slots v.births v.halts) becomes in
+      ∙ ap (λ z. spots_with (update v.threads t (record { life = On n z; guest = judged_guest (On n (Served c)) s.guest; verdict = record { code = code; extra = Nothing } })) v.slots v.births v.halts v.remote) next
+      ∙ ap (λ (z : Guest). spots_with (update v.threads t (record { life = On n Told_next; guest = z; verdict = record { code = code; extra = Nothing } })) v.slots v.births v.halts v.remote) becomes in
       home_step ahead d _ (busy t (On n Told_next) ∷ hs) (Judged t code Nothing) t r _ (Served c) Told_next m same ok (ap (judged_causes t) x) refl x refl refl refl holds
       (record {
         threads = map_set is_tid is-true is-refl (thread_part n) v.threads t r d.node.threads (waits wait.No s.guest) (waits wait.No g) m.here.threads (thread_was s t (Served c) x) (thread_was r t Told_next refl);
@@ -381,9 +381,9 @@ module _ (p : Program) (net : Net) (q : Occasion) (n : ℕ) (opening ahead : Lis
   ran_with v t z = record (spot v t) { life = On n (ran_stage (run_now v t).stop z); guest = with_state z (spot v t).guest }
 
   ran_same : (v : Spots) (t : Tid) (vp : ℕ) → after_label p n (ran_label v t vp) v
-      ≡ spots_with (update v.threads t (ran_with v t (run_now v t).state)) v.slots v.births v.halts
+      ≡ spots_with (update v.threads t (ran_with v t (run_now v t).state)) v.slots v.births v.halts v.remote
   ran_same v t vp =
-      ap (λ (z : State). spots_with (update v.threads t (ran_with v t z)) v.slots v.births v.halts) (run_stepped (code_of p) (quantum_in q.act) (spot v t).guest.solo.state)
+      ap (λ (z : State). spots_with (update v.threads t (ran_with v t z)) v.slots v.births v.halts v.remote) (run_stepped (code_of p) (quantum_in q.act) (spot v t).guest.solo.state)
 
   ran_allowed : (said : List Label) (v : World) (t : Tid) (vp : ℕ) → (spot v.spots t).life ≡ On n Ready → Allows p (having_said said q) n (ran_label v.spots t vp) v
   ran_allowed said v t vp x =
@@ -460,9 +460,9 @@ module _ (p : Program) (net : Net) (q : Occasion) (n : ℕ) (opening ahead : Lis
 
   asked_same : (v : Spots) (t : Tid) (bytes : List ℕ) (b : Stage) → stage_of_call p n t (solo_at v t) ≡ b
       → after_label p n (Asked t (number_of (call_at v t)) (args_of (call_at v t)) bytes) v
-      ≡ spots_with (update v.threads t (record (spot v t) { life = On n b })) v.slots v.births v.halts
+      ≡ spots_with (update v.threads t (record (spot v t) { life = On n b })) v.slots v.births v.halts (remote_after (Asked t (number_of (call_at v t)) (args_of (call_at v t)) bytes) v.remote)
   asked_same v t bytes b st =
-      ap (λ z. spots_with (update v.threads t (record (spot v t) { life = On n z })) v.slots v.births v.halts) st
+      ap (λ z. spots_with (update v.threads t (record (spot v t) { life = On n z })) v.slots v.births v.halts (remote_after (Asked t (number_of (call_at v t)) (args_of (call_at v t)) bytes) v.remote)) st
 
   -- a call that goes on here
   pub asks_ok : (d : Doing) (t : Tid) (b : Stage) (hs : List Busy) → (m : Is d (busy t (On n Running) ∷ hs))
@@ -536,7 +536,7 @@ module _ (p : Program) (net : Net) (q : Occasion) (n : ℕ) (opening ahead : Lis
       let s : Spot = spot m.now.spots t in
       let x : s.life ≡ On n Halts = in_hand d t (On n Halts) hs m in
       let r : Spot = record s { life = On n Stays } in
-      (labelled p net q n opening ahead w ahead L L d _ hs (Halted t) (spots_with (update v.threads t r) v.slots v.births (at_node v.halts n true)) _ d.sends d.prints m refl
+      (labelled p net q n opening ahead w ahead L L d _ hs (Halted t) (spots_with (update v.threads t r) v.slots v.births (at_node v.halts n true) v.remote) _ d.sends d.prints m refl
       (record { solo = tt; holders = tt; life = x; replies = tt; grants = tt }) (sym (append-nil d.sends)) (sym (append-nil d.prints))
       (record {
         threads = map_set is_tid is-true is-refl (thread_part n) v.threads t r d.node.threads (waits wait.No s.guest) (waits wait.Halted s.guest) m.here.threads (thread_was s t Halts x) (thread_was r t Stays refl);

@@ -88,7 +88,7 @@ module _ (p : Program) (net : Net) (q : Occasion) (n : ℕ) (opening ahead : Lis
       let r : Spot = record o { life = On from Showing } in
       let here_busy : is_busy n (On from Showing) ≡ true = eq-eqb 0 n (sym zero) in
       (moved p net q n opening ahead w L (Says (Shown t) ∷ ahead) (Left from t) (nothing s) [] (busy t (On from Showing) ∷ []) (Shown t) t r s [] _ m
-      (ap (λ z. spots_with (update m.now.spots.threads t (record o { life = shown_life z })) m.now.spots.slots m.now.spots.births m.now.spots.halts) x)
+      (ap (λ z. spots_with (update m.now.spots.threads t (record o { life = shown_life z })) m.now.spots.slots m.now.spots.births m.now.spots.halts m.now.spots.remote) x)
       (record { solo = tt; holders = tt; life = rw x zero; replies = tt; grants = tt }) refl (ap (λ z. line_of t (asked_bytes z)) (sym x))
       (record {
         threads = map_kept is_tid is-true is-refl (thread_part n) m.now.spots.threads t r s.threads m.here.threads (sym (ap (λ z. thread_in_life n z o.guest) x));
@@ -119,7 +119,7 @@ module _ (p : Program) (net : Net) (q : Occasion) (n : ℕ) (opening ahead : Lis
       let g : Guest = told o.verdict.code (second_of o.verdict.extra) o.guest in
       let r : Spot = record o { life = On n Ready; guest = g } in
       subst (λ f. Midst p net q n opening ahead w (Left from t) (tell_found t o.verdict.code (second_of o.verdict.extra) f (nothing s)) []) (sym (on_node p net q n opening (Says (Told t) ∷ ahead) w L (nothing s) [] t a m x ∙ there))
-      (moved p net q n opening ahead w L (Says (Told t) ∷ ahead) (Left from t) (nothing s) [] [] (Told t) t r _ [] [] m (ap (λ z. spots_with (update m.now.spots.threads t (record o { life = On n z; guest = g })) m.now.spots.slots m.now.spots.births m.now.spots.halts) (ap told_stage x ∙ next))
+      (moved p net q n opening ahead w L (Says (Told t) ∷ ahead) (Left from t) (nothing s) [] [] (Told t) t r _ [] [] m (ap (λ z. spots_with (update m.now.spots.threads t (record o { life = On n z; guest = g })) m.now.spots.slots m.now.spots.births m.now.spots.halts m.now.spots.remote) (ap told_stage x ∙ next))
       (record { solo = tt; holders = tt; life = subst (λ z. MayTell n z) (sym x) may; replies = tt; grants = tt }) refl refl
       (record {
         threads = map_set is_tid is-true is-refl (thread_part n) m.now.spots.threads t r s.threads (waits waiting o.guest) (waits wait.No g) m.here.threads (thread_was p net q n opening ahead w L o t a x ∙ there) (thread_was p net q n opening ahead w L r t Ready refl);
@@ -149,7 +149,7 @@ module _ (p : Program) (net : Net) (q : Occasion) (n : ℕ) (opening ahead : Lis
       let zero : 0 ≡ n = eqb-true 0 n (is_in_hand p net q n opening ahead w L d t (On at Showing) hs m) in
       let r : Spot = record o { life = On at Shown_there; verdict = record { code = 0; extra = Nothing } } in
       (send_step p net q n opening ahead w L ahead d _ hs (Judged t 0 Nothing) t r d.node at (ShowDone t) m
-      (ap (λ z. spots_with (update v.threads t (record { life = judged_life z; guest = judged_guest z o.guest; verdict = record { code = 0; extra = Nothing } })) v.slots v.births v.halts) x)
+      (ap (λ z. spots_with (update v.threads t (record { life = judged_life z; guest = judged_guest z o.guest; verdict = record { code = 0; extra = Nothing } })) v.slots v.births v.halts v.remote) x)
       (record { solo = tt; holders = tt; life = rw x (sym zero); replies = rw x (refl, refl); grants = rw x tt }) (ap (judged_causes t) x) refl
       (ap (λ z. ways_of t z o.verdict o.guest) x) (ap (λ z. way z at (Line_shown t 0 Nothing)) zero) refl
       (record {
@@ -176,7 +176,7 @@ module _ (p : Program) (net : Net) (q : Occasion) (n : ℕ) (opening ahead : Lis
       let x : o.life ≡ On at (Answers n reply second) = in_hand p net q n opening ahead w L d t (On at (Answers n reply second)) hs m in
       let r : Spot = record o { life = On at (Answered n); verdict = record { code = reply_code reply; extra = extra_of second } } in
       (send_step p net q n opening ahead w L ahead d _ hs (Judged t (reply_code reply) (extra_of second)) t r d.node at (Answer t reply second) m
-      (ap (λ z. spots_with (update v.threads t (record { life = judged_life z; guest = judged_guest z o.guest; verdict = record { code = reply_code reply; extra = extra_of second } })) v.slots v.births v.halts) x)
+      (ap (λ z. spots_with (update v.threads t (record { life = judged_life z; guest = judged_guest z o.guest; verdict = record { code = reply_code reply; extra = extra_of second } })) v.slots v.births v.halts v.remote) x)
       (record { solo = tt; holders = tt; life = rw x refl; replies = rw x (refl, refl); grants = rw x tt }) (ap (judged_causes t) x) refl
       (ap (λ z. ways_of t z o.verdict o.guest) x) refl refl
       (record {
