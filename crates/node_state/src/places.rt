@@ -1,9 +1,10 @@
 //! The run list of a node.
 
-ghost use Rattle.std.specs.Prelude.{◌≡◌, IfOk, Some, [], length};
+ghost use Rattle.std.specs.Prelude.{◌≡◌, ℕ, IfOk, Some, [], length};
 ghost use Rattle.std.specs.List.{position};
 ghost use Rattle.run_trace.specs.Names.{is_tid};
-ghost use Rattle.run_trace.specs.Places.{arrived, without_row, taken_off, is_listed, better, best_of, best};
+ghost use Rattle.run_trace.specs.Trees.{Tree};
+ghost use Rattle.run_trace.specs.Places.{arrived, without_row, taken_off, is_listed, better, best_of, best_on, AreOnRoot};
 ghost use Rattle.node_state.specs.Views.{places_of};
 
 use basics::NoMemory;
@@ -12,7 +13,7 @@ use slot_space::Tid;
 use std::alloc::Global;
 use std::marker::Model;
 
-/// The threads that can run, in the order of their arrival, and how many have arrived.
+/// The threads that can run, in the order of their arrival, and how many have arrived. As yet all stand on the root list.
 #[derive(Drop)]
 pub(crate) struct Places {
     rows: Vec<Row>,
@@ -20,12 +21,14 @@ pub(crate) struct Places {
 }
 
 impl Model for Places {
-    ghost use Rattle.run_trace.specs.Places.{Places as ThePlaces};
+    ghost use Rattle.run_trace.specs.Places.{Places as ThePlaces, AreOnRoot};
     ghost use Rattle.node_state.specs.Views.{places_of};
 
     ghost Value = { ThePlaces };
 
     ghost view = { λ p. places_of p.rows.items p.next };
+
+    ghost invariant = { λ p. AreOnRoot p.rows.items };
 }
 
 /// Where the first row of the thread stands.
@@ -92,6 +95,7 @@ impl Places {
     }
 
     /// The thread arrives. Want of memory is also where no more arrivals can be counted.
+    #[tactic(auto, using(run_trace::proofs::OnRoot::root_pushed))]
     pub(crate) fn arrive(&mut self, t: Tid, priority: u8) -> Result<(), NoMemory>
         ensures { IfOk result (λ _. self.new ≡ arrived t priority self.old) }
     {
@@ -109,6 +113,7 @@ impl Places {
     }
 
     /// The thread's first row goes, if it has one.
+    #[tactic(auto, using(run_trace::proofs::OnRoot::root_without))]
     pub(crate) fn take_off(&mut self, t: Tid)
         ensures { self.new ≡ taken_off t self.old }
     {
@@ -129,9 +134,10 @@ impl Places {
         self.rows.len()
     }
 
-    /// The row that is picked.
+    /// The row that is picked, on whatever processor of whatever tree.
+    #[tactic(auto, using(run_trace::proofs::OnRoot::on_root))]
     pub(crate) fn best(&self) -> Option<Row>
-        ensures { result ≡ best self.now.rows }
+        ensures { (tree : Tree) (vp : ℕ) → result ≡ best_on tree vp self.now.rows }
     {
         let mut best = None;
         let mut place = self.rows.len();

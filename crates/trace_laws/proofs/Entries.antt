@@ -12,7 +12,7 @@ use Rattle.run_trace.specs.declared.packet.Body.{Body}
 use Rattle.run_trace.specs.declared.packet.Body.TheVariants.{Mover, Show, ShowDone, JoinAsk, Answer, EndNote}
 use Rattle.run_trace.specs.declared.packet.Packet.{Packet}
 use Rattle.run_trace.specs.Names.{is_tid}
-use Rattle.run_trace.specs.Program.{Program, nodes_of}
+use Rattle.run_trace.specs.Program.{Program, nodes_of, tree_of}
 use Rattle.run_trace.specs.Places.{Places, is_listed}
 use Rattle.run_trace.specs.Local.{Local, Doing, nothing, with_booted}
 use Rattle.run_trace.specs.Steps.{say, arrive, thread_in, name_in, slots_out, birth}
@@ -251,8 +251,8 @@ module _ (p : Program) (w : Spots) (net : Net) (st : Stands p w net) where
   acts_by : (stamp n : ℕ) (a : Act) (hand : List Item) → Starts p stamp n a (world_at w net) hand → (d : Doing) × (acts p n (net.nodes n) a (next_packet net n a) ≡ Some d)
   acts_by stamp n Boot hand o = (_, refl)
   acts_by stamp n (RunThread vp q) hand o =
-      let r = picks_it (net.nodes n).places.rows o.0 (st.rising n).0 o.1 in
-      let k = picked_there p w net st n r.0 r.1 in
+      let r = picks_it (tree_of p) vp (net.nodes n).places.rows o.0 (st.rising n).0 o.1 in
+      let k = picked_there p w net st n vp r.0 r.1 in
       (_, ap (λ z. run_picked p n vp q z (net.nodes n)) r.1 ∙ ap (λ z. run_found p n vp q r.0.tid z (net.nodes n)) k.1)
   acts_by stamp n (Take from) hand o = (_, ap (λ z. acts p n (net.nodes n) (Take from) z) o.1)
   acts_by stamp n (Move t to) hand o =

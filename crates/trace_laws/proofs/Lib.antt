@@ -34,3 +34,4 @@ pub mod OwnLives
 pub mod OwnLabels
 pub mod SameLives
 pub mod Unexpected
+pub mod ListTrees

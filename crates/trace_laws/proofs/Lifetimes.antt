@@ -352,7 +352,7 @@ module _ (p : Program) (net : Net) (n : ℕ) (v : Spots) (M : Links) (s : Local)
         };
       }
     where
-      listed_arrived_at : (t : Tid) → map listed (arrived t g.priority s.places).rows ≡ map listed s.places.rows ++ (record { tid = t; priority = g.priority }) ∷ []
+      listed_arrived_at : (t : Tid) → map listed (arrived t g.priority s.places).rows ≡ map listed s.places.rows ++ (record { tid = t; list = 0; priority = g.priority }) ∷ []
       listed_arrived_at t = listed_arrived t g.priority s.places
 
 -- ## The steps of a birth

@@ -18,9 +18,9 @@ use Rattle.run_trace.specs.declared.packet.Send.{Send}
 use Rattle.run_trace.specs.declared.node.Row.{Row}
 use Rattle.run_trace.specs.declared.node.Wait.TheVariants as wait
 use Rattle.run_trace.specs.Names.{is_tid, tid}
-use Rattle.run_trace.specs.Program.{Program, nodes_of}
+use Rattle.run_trace.specs.Program.{Program, nodes_of, tree_of}
 use Rattle.run_trace.specs.Guests.{Guest, Thread, waits, stack_end}
-use Rattle.run_trace.specs.Places.{best, is_listed, IsRising}
+use Rattle.run_trace.specs.Places.{best_on, is_listed, IsRising}
 use Rattle.run_trace.specs.Local.{Local, Doing, nothing, with_booted}
 use Rattle.run_trace.specs.Steps.{tell, leaves, put, say, thread_out, take_off}
 use Rattle.run_trace.specs.Machine.{local_event, acts, is_range, boots, boots_in, free_slot, run_picked, run_found, run_thread, goes, moves_found, takes, accepts, is_stray}
@@ -121,7 +121,7 @@ pub record Simulates (p : Program) (w : Spots) (net : Net) (e : Event) : Type 0 
   pub allowed : Obeyed p (asked_of e.act e.took) e.node e.labels (world_at w net)
   pub sends : e.sends ≡ all_causes p e.node e.labels w
   pub prints : e.prints ≡ shown_by_all p e.node e.labels w
-  pub picks : PicksBest e.act (net.nodes e.node).places.rows e.labels
+  pub picks : PicksBest p e.act (net.nodes e.node).places.rows e.labels
   pub opening : List Item
   pub starts : IsTaken e.stamp e.act e.took → Starts p e.stamp e.node e.act (world_at w net) opening
   pub beyond : (d : Doing) → local_event p e.node (net.nodes e.node) e.act e.took ≡ Some d → Beyond p w (net.nodes e.node) d.node e.node opening e.labels
@@ -129,7 +129,7 @@ pub record Simulates (p : Program) (w : Spots) (net : Net) (e : Event) : Type 0 
 
 simulated : (p : Program) (w : Spots) (net : Net) (stamp n round : ℕ) (a : Act) (o : Option Packet) (d : Doing) (M : Links) (opening : List Item) → local_event p n (net.nodes n) a o ≡ Some d → Midst p net (asked_of a o) n opening [] (world_at w net) M d [] → ((i j : ℕ) → M i j ≡ left net n a i j)
     → (IsTaken stamp a o → Starts p stamp n a (world_at w net) opening)
-    → PicksBest a (net.nodes n).places.rows d.labels → ((k : ℕ) → IsRising (net.nodes k).places) → Simulates p w net (event stamp n round a o d)
+    → PicksBest p a (net.nodes n).places.rows d.labels → ((k : ℕ) → IsRising (net.nodes k).places) → Simulates p w net (event stamp n round a o d)
 simulated p w net stamp n round a o d M opening is m same starts picks rises = record {
   opening = opening;
   starts = starts;
@@ -265,8 +265,8 @@ module _ (p : Program) (w : Spots) (net : Net) (s : Stands p w net) (q : Occasio
       (at_row n t (w.threads t).life (w.threads t).guest.priority y (not_busy n t (w.threads t) ((s.nodes n).busy.shows t)) (sym ((s.nodes n).rows.shows t) ∙ found)).0
 
   -- the thread that is picked is ready
-  pub picked_ready : (r : Row) → best (net.nodes n).places.rows ≡ Some r → (w.threads r.tid).life ≡ On n Ready
-  picked_ready r picked = row_ready r.tid (listed r) (row_found (net.nodes n).places.rows r (s.nodes n).rows.apart (best_is (net.nodes n).places.rows r picked).0)
+  pub picked_ready : (vp : ℕ) (r : Row) → best_on (tree_of p) vp (net.nodes n).places.rows ≡ Some r → (w.threads r.tid).life ≡ On n Ready
+  picked_ready vp r picked = row_ready r.tid (listed r) (row_found (net.nodes n).places.rows r (s.nodes n).rows.apart (best_is (tree_of p) vp (net.nodes n).places.rows r picked).0)
 
   -- and so is each that is on it
   pub listed_ready : (t : Tid) → is_listed t (net.nodes n).places.rows ≡ true → (w.threads t).life ≡ On n Ready
@@ -294,11 +294,11 @@ module _ (p : Program) (w : Spots) (net : Net) (s : Stands p w net) (q : Occasio
 
   -- ## A run of the thread that is picked
 
-  ran_midst : nat_lt n (nodes_of p) ≡ true → (vp : ℕ) (r : Row) (x : Thread) → best (net.nodes n).places.rows ≡ Some r → lookup (is_tid r.tid) (net.nodes n).threads ≡ Some x
+  ran_midst : nat_lt n (nodes_of p) ≡ true → (vp : ℕ) (r : Row) (x : Thread) → best_on (tree_of p) vp (net.nodes n).places.rows ≡ Some r → lookup (is_tid r.tid) (net.nodes n).threads ≡ Some x
       → Midst p net q n (Runs r.tid vp ∷ []) [] (world_at w net) (under_way net) (run_thread p n vp (quantum_in q.act) r.tid x (nothing (net.nodes n))) []
   ran_midst below vp r x picked f =
       let t : Tid = r.tid in
-      let ready : (w.threads t).life ≡ On n Ready = picked_ready r picked in
+      let ready : (w.threads t).life ≡ On n Ready = picked_ready vp r picked in
       let same : Some (waits wait.No (w.threads t).guest) ≡ Some x = sym (on_node p net q n [] [] (world_at w net) (under_way net) (nothing (net.nodes n)) [] t Ready (here []) ready) ∙ f in
       let one : waits wait.No (w.threads t).guest ≡ x = cc same in
       subst (λ z. Midst p net q n (Runs t vp ∷ []) [] (world_at w net) (under_way net) (run_thread p n vp (quantum_in q.act) t z (nothing (net.nodes n))) []) one (run_ok p net q n (Runs t vp ∷ []) [] (world_at w net) (under_way net) below (nothing (net.nodes n)) t vp (here (Runs t vp ∷ [])) ready)
@@ -366,18 +366,18 @@ acts_simulate p w net stamp n round Boot None d s range is i h =
     let same : boots p n (nothing (net.nodes n)) ≡ d = cc i in
     let opening : List Item = cond (eqb n 0) (first_birth p n (lowest_free n 1 w) w) [] in
     simulated p w net stamp n round Boot None d _ opening is (subst (λ z. Midst p net (asked_of Boot None) n opening [] (world_at w net) (under_way net) z []) same (boots_midst p w net s (asked_of Boot None) n (range_below p n (net.nodes n) Boot range))) (none_left net n Boot (λ i ps. refl)) (λ k. refl) tt s.rising
-acts_simulate p w net stamp n round (RunThread vp q) None d s range is i h = by_row (best (net.nodes n).places.rows) refl i
+acts_simulate p w net stamp n round (RunThread vp q) None d s range is i h = by_row (best_on (tree_of p) vp (net.nodes n).places.rows) refl i
   where
-    by_thread : (r : Row) → best (net.nodes n).places.rows ≡ Some r → (x : Option Thread) → lookup (is_tid r.tid) (net.nodes n).threads ≡ x → run_found p n vp q r.tid x (net.nodes n) ≡ Some d → Simulates p w net (event stamp n round (RunThread vp q) None d)
+    by_thread : (r : Row) → best_on (tree_of p) vp (net.nodes n).places.rows ≡ Some r → (x : Option Thread) → lookup (is_tid r.tid) (net.nodes n).threads ≡ x → run_found p n vp q r.tid x (net.nodes n) ≡ Some d → Simulates p w net (event stamp n round (RunThread vp q) None d)
     by_thread r e None f g = absurd (cc g)
     by_thread r e (Some x) f g =
         let same : run_thread p n vp q r.tid x (nothing (net.nodes n)) ≡ d = cc g in
         let m : Midst p net (asked_of (RunThread vp q) None) n (Runs r.tid vp ∷ []) [] (world_at w net) (under_way net) d [] = subst (λ z. Midst p net (asked_of (RunThread vp q) None) n (Runs r.tid vp ∷ []) [] (world_at w net) (under_way net) z []) same (ran_midst p w net s (asked_of (RunThread vp q) None) n (range_below p n (net.nodes n) (RunThread vp q) range) vp r x e f) in
         simulated p w net stamp n round (RunThread vp q) None d _ (Runs r.tid vp ∷ []) is m (none_left net n (RunThread vp q) (λ i ps. refl))
-        (λ k. (listed r, picked_is (net.nodes n).places.rows r (s.rising n).0 e, refl))
-        (r, best_is (net.nodes n).places.rows r e, runs_next p n vp r.tid w d.labels m.aside.next m.aside.still) s.rising
+        (λ k. (listed r, picked_is (tree_of p) vp (net.nodes n).places.rows r (s.rising n).0 e, refl))
+        (r, best_is (tree_of p) vp (net.nodes n).places.rows r e, runs_next p n vp r.tid w d.labels m.aside.next m.aside.still) s.rising
 
-    by_row : (r : Option Row) → best (net.nodes n).places.rows ≡ r → run_picked p n vp q r (net.nodes n) ≡ Some d → Simulates p w net (event stamp n round (RunThread vp q) None d)
+    by_row : (r : Option Row) → best_on (tree_of p) vp (net.nodes n).places.rows ≡ r → run_picked p n vp q r (net.nodes n) ≡ Some d → Simulates p w net (event stamp n round (RunThread vp q) None d)
     by_row None e g = absurd (cc g)
     by_row (Some r) e g = by_thread r e (lookup (is_tid r.tid) (net.nodes n).threads) refl g
 acts_simulate p w net stamp n round (Take from) (Some x) d s range is i h =

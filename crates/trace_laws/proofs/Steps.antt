@@ -239,7 +239,7 @@ module _ (p : Program) (net : Net) (q : Occasion) (n : ℕ) (opening ahead : Lis
   tells_ok : (d : Doing) (t : Tid) (a b : Stage) (hs more : List Busy) → (m : Is d (busy t (On n a) ∷ hs))
       → MayTell n (On n a) → told_stage (On n a) ≡ b → is_home a ≡ true → is_home b ≡ true
       → ((g : Guest) → thread_in_stage a g ≡ Some (waits wait.No g)) → ((g : Guest) → thread_in_stage b g ≡ Some (waits wait.No g))
-      → ((k : ℕ) → row_in_stage t a k ≡ None) → ((k : ℕ) → row_in_stage t b k ≡ Some (record { tid = t; priority = k }))
+      → ((k : ℕ) → row_in_stage t a k ≡ None) → ((k : ℕ) → row_in_stage t b k ≡ Some (record { tid = t; list = 0; priority = k }))
       → ((g : Guest) → held_in_stage a g ≡ Some (holding_of g)) → ((g : Guest) → held_in_stage b g ≡ Some (holding_of g))
       → StandsFor is_tid busy_name (busy_part n) more (update m.now.spots.threads t (told_with m.now.spots t b))
       → Own n (Told t) t m.now.spots ahead ahead (busy t (On n a) ∷ hs) more (On n b)
@@ -442,7 +442,7 @@ module _ (p : Program) (net : Net) (q : Occasion) (n : ℕ) (opening ahead : Lis
       (home_step (Runs t vp ∷ ahead) d [] [] (ran_label m.now.spots t vp) t r _ Ready Ready m (ran_same m.now.spots t vp) (ran_allowed d.labels m.now t vp x) refl refl x y refl refl (keeps _ _ (ran_holding m.now.spots t))
       (record {
         threads = map_set is_tid is-true is-refl (thread_part n) v.threads t r d.node.threads (waits wait.No s.guest) _ m.here.threads (thread_was s t Ready x) (thread_was r t Ready y);
-        rows = subst (λ rows. StandsFor is_tid listed_name (row_part n) rows (update v.threads t r)) (sym (listed_arrived t s.guest.priority rest ∙ ap (λ rows. rows ++ (record { tid = t; priority = s.guest.priority }) ∷ []) (listed_without t d.node.places.rows)))
+        rows = subst (λ rows. StandsFor is_tid listed_name (row_part n) rows (update v.threads t r)) (sym (listed_arrived t s.guest.priority rest ∙ ap (λ rows. rows ++ (record { tid = t; list = 0; priority = s.guest.priority }) ∷ []) (listed_without t d.node.places.rows)))
             (replaced is_tid is-true is-refl listed_name (row_part n) v.threads t r (map listed d.node.places.rows) _ m.here.rows refl (row_was r t Ready y));
         busy = kept is_tid is-true is-refl busy_name (busy_part n) v.threads t r [] m.here.busy (idle_was r t (On n Ready) y refl ∙ sym (idle_was s t (On n Ready) x refl));
       }) refl refl refl (own_alone (Runs t vp) m.now.spots t (ran_label m.now.spots t vp) r.life (_, _, refl) refl (ap (is_busy n) y)) (sym (off s.guest.priority d.node.places)) refl).midst

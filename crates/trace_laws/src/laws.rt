@@ -1,6 +1,7 @@
 //! The laws, each as a contract.
 
-ghost use Rattle.std.specs.Prelude.{◌≡◌, ◌<◌, ◌≤◌, ◌⊎◌, ℕ, List, map, ◌++◌, ◌∷◌, ◌↔◌, Some, [], false, true};
+ghost use Rattle.run_trace.specs.Trees.{Tree, processors, covers, depth_of, is_leaf, next_towards};
+ghost use Rattle.std.specs.Prelude.{suc, ◌≡◌, ◌<◌, ◌≤◌, ◌⊎◌, ℕ, List, map, ◌++◌, ◌∷◌, ◌↔◌, Some, [], false, true};
 ghost use Rattle.rv_step.specs.Run.{after, StopsBy};
 ghost use Rattle.rv_step.specs.Step.{State};
 ghost use Rattle.rv_step.specs.declared.hart.Stop.{Stop};
@@ -10,7 +11,7 @@ ghost use Rattle.run_trace.specs.declared.entry.Act.{Act};
 ghost use Rattle.run_trace.specs.declared.entry.Entry.{Entry};
 ghost use Rattle.run_trace.specs.declared.label.Label.{Label};
 ghost use Rattle.run_trace.specs.declared.node.Row.{Row};
-ghost use Rattle.run_trace.specs.Program.{Program, code_of, nodes_of};
+ghost use Rattle.run_trace.specs.Program.{Program, code_of, nodes_of, tree_of};
 ghost use Rattle.trace_laws.specs.Beginnings.{BeginsSo};
 ghost use Rattle.trace_laws.specs.Gathers.{events_in, Gathers};
 ghost use Rattle.trace_laws.specs.Strays.{AllExpected};
@@ -27,7 +28,7 @@ ghost use Rattle.run_trace.specs.Machine.{is_range, is_stray, local_event, stamp
 ghost use Rattle.run_trace.specs.declared.packet.Packet.{Packet};
 ghost use Rattle.run_trace.specs.declared.entry.Act.TheVariants.{Take};
 ghost use Rattle.run_trace.specs.Outcome.{AllLinksEmpty, IsStuck, Lives};
-ghost use Rattle.run_trace.specs.Places.{best, is_listed};
+ghost use Rattle.run_trace.specs.Places.{best_on, is_listed};
 ghost use Rattle.run_trace.specs.Rules.{spots_of};
 ghost use Rattle.run_trace.specs.Same.{HasEnded, HasLivedLike, HasWritten, lived};
 ghost use Rattle.run_trace.specs.Spots.{On, Ready, Spots, Stage, at_first};
@@ -164,9 +165,17 @@ pub fn inside()
     ensures lives { (p : Program) (lines : List Entry) → IsRun p (fresh_net p) lines → (t : Tid) (n : ℕ) (stage : Stage) → ((spots_of p (at_first p) lines).threads t).life ≡ On n stage → n < nodes_of p }
 {}
 
-/// The thread that a node picks from its run list is on that node.
+/// Of the lists that cover a processor each but a leaf has the next one below it, and a leaf covers no other processor.
+pub fn levels()
+    ensures next { (tree : Tree) (vp list : ℕ) → vp < processors tree → covers tree vp list ≡ true → is_leaf tree list ≡ false → (covers tree vp (next_towards tree vp list) ≡ true) × (depth_of tree (next_towards tree vp list) ≡ suc (depth_of tree list)) }
+    ensures leaf { (tree : Tree) (vp other list : ℕ) → vp < processors tree → other < processors tree → covers tree vp list ≡ true → covers tree other list ≡ true → is_leaf tree list ≡ true → vp ≡ other }
+{}
+
+/// The thread that a processor picks from its node's run lists is on that node; and there is one wherever somebody can run, since
+/// as yet all stand on the root list.
 pub fn picked()
-    ensures { (p : Program) (w : Spots) (net : Net) → Stands p w net → (n : ℕ) (r : Row) → best (net.nodes n).places.rows ≡ Some r → (x : Thread) × IsOn net n r.tid x }
+    ensures some { (p : Program) (w : Spots) (net : Net) → Stands p w net → (n vp : ℕ) → ((net.nodes n).places.rows ≡ [] → ⊥) → (r : Row) × (best_on (tree_of p) vp (net.nodes n).places.rows ≡ Some r) }
+    ensures there { (p : Program) (w : Spots) (net : Net) → Stands p w net → (n vp : ℕ) (r : Row) → best_on (tree_of p) vp (net.nodes n).places.rows ≡ Some r → (x : Thread) × IsOn net n r.tid x }
 {}
 
 /// A thread that is on a node is on its run list exactly where it waits for nothing, and each on the run list is on the node.
