@@ -28,9 +28,7 @@ use Rattle.run_trace.specs.Spots.{Ready, Running, Due, Served, Told_next, Told_t
 
 abbrev pub quantum_in : Act → ℕ
 quantum_in (Run vp quantum) = quantum
-quantum_in Boot = 0
-quantum_in (Take from) = 0
-quantum_in (Move t to) = 0
+quantum_in _ = 0
 
 -- in which act a label is said, on which packet, and after which labels of the same entry
 pub record Occasion : Type 0 where

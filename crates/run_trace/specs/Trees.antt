@@ -29,6 +29,8 @@ path tree vp = 0 ∷ path_below tree.first tree.second vp
 abbrev pub covers : Tree → (vp list : ℕ) → Bool
 covers tree vp list = has list (path tree vp)
 
+-- ## How a bubble is to go down; no rule reads this yet
+
 -- nothing is below it
 abbrev pub is_leaf : Tree → ℕ → Bool
 is_leaf tree list = depth_of tree list == length (path_below tree.first tree.second 0)
