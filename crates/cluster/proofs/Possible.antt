@@ -11,7 +11,7 @@ use Rattle.run_trace.specs.declared.node.Row.{Row}
 use Rattle.run_trace.specs.declared.packet.Packet.{Packet}
 use Rattle.run_trace.specs.Names.{is_tid}
 use Rattle.run_trace.specs.Program.{Program, nodes_of, processors_of, quantum_limit}
-use Rattle.run_trace.specs.Places.{best, best_of, is_listed}
+use Rattle.run_trace.specs.Places.{is_listed}
 use Rattle.run_trace.specs.Local.{Local}
 use Rattle.run_trace.specs.Machine.{local_event, turn_event, is_range, acts, run_picked, run_found, moves_found}
 use Rattle.run_trace.specs.Cluster.{Net, fresh_net}
@@ -19,6 +19,7 @@ use Rattle.run_trace.specs.Rules.{spots_of}
 use Rattle.run_trace.specs.Spots.{Spots, at_first}
 use Rattle.run_trace.specs.Stands.{Stands}
 use Rattle.trace_laws.proofs.Stillness.{picked_there}
+use Rattle.trace_laws.proofs.RunLists.{some_pick}
 use Rattle.trace_laws.proofs.RunLists.{listed_there}
 use Rattle.trace_laws.proofs.Wholes.{starts, run_whole}
 use Rattle.wires.specs.Ends.{known_from}
@@ -28,14 +29,8 @@ use Rattle.node_loop.specs.declared.node.Turned.TheVariants.{Idle}
 use Rattle.cluster.specs.Standing.{StandsFor, IsNodeOf, net_after}
 use Rattle.cluster.specs.View.{ClusterView}
 
--- where there are rows one is picked
-some_best : (rows : List Row) → nat_lt 0 (length rows) ≡ true → (b : Row) × (best rows ≡ Some b)
-some_best [] l = absurd (cc l)
-some_best (r ∷ rs) l = by (best rs)
-  where
-    by : (o : Option Row) → (b : Row) × (best_of r o ≡ Some b)
-    by None = (r, refl)
-    by (Some c) = (_, refl)
+some_rows : (rows : List Row) → nat_lt 0 (length rows) ≡ true → rows ≡ [] → ⊥
+some_rows rows l e = let none : nat_lt 0 (length rows) ≡ false = ap (λ (xs : List Row). nat_lt 0 (length xs)) e in cc (l, none)
 
 none_known : (ps : List Packet) → nat_lt 0 (length ps) ≡ true → ps ≡ [] → ⊥
 none_known ps l e = let none : nat_lt 0 (length ps) ≡ false = ap (λ (qs : List Packet). nat_lt 0 (length qs)) e in cc (l, none)
@@ -68,8 +63,8 @@ module _ (c : ClusterView) (lines : List Entry) (s : StandsFor c lines) (n : ℕ
   runs_some : (vp quantum : ℕ) → IsActInRange p n (Run vp quantum) → nat_lt 0 (length (net.nodes n).places.rows) ≡ true → local_event p n (net.nodes n) (Run vp quantum) None ≡ None → ⊥
   unfolding local_event is_range
   runs_some vp quantum r l e =
-      let b = some_best (net.nodes n).places.rows l in
-      let t = picked_there p w net stands n b.0 b.1 in
+      let b = some_pick p w net stands n vp (some_rows (net.nodes n).places.rows l) in
+      let t = picked_there p w net stands n vp b.0 b.1 in
       let range : (nat_lt n (nodes_of p) && ((net.nodes n).booted && (nat_lt vp (processors_of p) && (nat_lt 0 quantum && nat_le quantum quantum_limit)))) ≡ true =
       rw (lt-ltb n (nodes_of p) inside, booted, lt-ltb vp (processors_of p) r.0, lt-ltb 0 quantum r.1, le-leb quantum quantum_limit r.2) refl in
       let picked : local_event p n (net.nodes n) (Run vp quantum) None ≡ run_found p n vp quantum b.0.tid (lookup (is_tid b.0.tid) (net.nodes n).threads) (net.nodes n) =

@@ -25,10 +25,10 @@ use Rattle.run_trace.specs.declared.packet.Body.TheVariants.{Mover, Show, ShowDo
 use Rattle.run_trace.specs.declared.packet.Packet.{Packet}
 use Rattle.run_trace.specs.declared.node.Row.{Row}
 use Rattle.run_trace.specs.Names.{is_tid, tid_of}
-use Rattle.run_trace.specs.Program.{Program, nodes_of, code_of, main_priority}
+use Rattle.run_trace.specs.Program.{Program, nodes_of, code_of, main_priority, tree_of}
 use Rattle.run_trace.specs.Guests.{Guest, Thread, Run, run_of, heap_of, with_placed, without_block, slots_for}
 use Rattle.run_trace.specs.Calls.{call_of, refusal, bytes_of, place_code}
-use Rattle.run_trace.specs.Places.{best, is_listed}
+use Rattle.run_trace.specs.Places.{best_on, is_listed}
 use Rattle.pack_thread.specs.Threads.{Thread as Packed}
 use Rattle.run_trace.specs.Local.{Local, Doing, nothing, with_booted}
 use Rattle.run_trace.specs.Steps.{say, put, print, arrive, take_off, thread_at, at_thread, at_found, keep, thread_in, thread_out, slots_out, slots_in, name_in, change_name, halt, next_name, birth, ran, asks, asks_show, asks_join, halts, judge, tell_found, tell, settle, reply_by_link, takes_run, returns, gives, ends, leaves, comes, shows, acknowledges, hears, knows}
@@ -264,7 +264,7 @@ IsBootedAfter o = StaysBooted true o
 
 acts_booted : (p : Program) (me : ℕ) (s : Local) (act : Act) (took : Option Packet) → s.booted ≡ true → IsBootedAfter (acts p me s act took)
 acts_booted p me s Boot None b = boots_true p me s
-acts_booted p me s (RunThread vp quantum) None b = subst (λ z. StaysBooted z (run_picked p me vp quantum (best s.places.rows) s)) b (picked_keeps p me vp quantum (best s.places.rows) s)
+acts_booted p me s (RunThread vp quantum) None b = subst (λ z. StaysBooted z (run_picked p me vp quantum (best_on (tree_of p) vp s.places.rows) s)) b (picked_keeps p me vp quantum (best_on (tree_of p) vp s.places.rows) s)
 acts_booted p me s (Take from) (Some packet) b = (takes_keeps p me from packet.body s).is ∙ b
 acts_booted p me s (Move t to) None b = listed (is_listed t s.places.rows)
   where

@@ -1,11 +1,12 @@
 //! The acts of a node: to begin, to run the thread that is picked, to take a packet, and to send a thread away.
 
-ghost use Rattle.std.specs.Prelude.{◌≡◌, IfOk};
+ghost use Rattle.std.specs.Prelude.{◌≡◌, ℕ, IfOk};
 ghost use Rattle.run_trace.specs.Machine.{boots, run_found, run_picked, is_range, acts, local_event};
 ghost use Rattle.run_trace.specs.Local.{nothing};
 ghost use Rattle.run_trace.specs.Steps.{thread_at};
 ghost use Rattle.node_state.specs.Events.{program, StartsAligned, Becomes};
-ghost use Rattle.run_trace.specs.Places.{best};
+ghost use Rattle.run_trace.specs.Trees.{Tree};
+ghost use Rattle.run_trace.specs.Places.{best_on};
 
 use crate::doing::Doing;
 use basics::NoMemory;
@@ -128,9 +129,9 @@ impl Doing {
         }
     }
 
-    /// The row of the run list that is picked.
+    /// The row of the run list that is picked, on whatever processor of whatever tree.
     fn best(&self) -> Option<Row>
-        ensures { result ≡ best self.now.node.places.rows }
+        ensures { (tree : Tree) (vp : ℕ) → result ≡ best_on tree vp self.now.node.places.rows }
     {
         let node = &self.node;
         node.places.best()

@@ -1,9 +1,10 @@
 //! The run list.
 
-ghost use Rattle.std.specs.Prelude.{◌≡◌, IfOk, Some, [], length, slice_get};
+ghost use Rattle.std.specs.Prelude.{◌≡◌, ℕ, IfOk, Some, [], length, slice_get};
 ghost use Rattle.std.specs.List.{position};
 ghost use Rattle.run_trace.specs.Names.{is_tid};
-ghost use Rattle.run_trace.specs.Places.{arrived, without_row, taken_off, is_listed, better, best_of, best};
+ghost use Rattle.run_trace.specs.Trees.{Tree};
+ghost use Rattle.run_trace.specs.Places.{arrived, without_row, taken_off, is_listed, better, best_of, best_on};
 ghost use Rattle.run_list.specs.Names.{names_of};
 ghost use Rattle.run_list.specs.Views.{places_of};
 
@@ -14,7 +15,8 @@ use slot_space::Tid;
 use std::alloc::Global;
 use std::marker::Model;
 
-/// The threads that can run, in the order of their arrival, and how many have arrived. Contracts see the rows and the number.
+/// The threads that can run, in the order of their arrival, and how many have arrived. Contracts see the rows and the number. As
+/// yet all stand on the root list.
 #[derive(Drop)]
 pub struct RunList {
     rows: Vec<Row>,
@@ -25,7 +27,7 @@ pub struct RunList {
 
 impl Model for RunList {
     ghost use Rattle.std.specs.Prelude.{◌≡◌};
-    ghost use Rattle.run_trace.specs.Places.{Places};
+    ghost use Rattle.run_trace.specs.Places.{Places, AreOnRoot};
     ghost use Rattle.run_list.specs.Names.{names_of};
     ghost use Rattle.run_list.specs.Views.{places_of};
 
@@ -33,7 +35,7 @@ impl Model for RunList {
 
     ghost view = { λ p. places_of p.rows.items p.next };
 
-    ghost invariant = { λ p. p.names.items ≡ names_of p.rows.items };
+    ghost invariant = { λ p. (p.names.items ≡ names_of p.rows.items) × AreOnRoot p.rows.items };
 }
 
 // Where the first row of the thread stands.
@@ -93,6 +95,7 @@ impl RunList {
     }
 
     /// The thread arrives. Want of memory is also where no more arrivals can be counted.
+    #[tactic(auto, using(run_trace::proofs::OnRoot::root_pushed))]
     pub fn arrive(&mut self, t: Tid, priority: u8) -> Result<(), NoMemory>
         ensures { IfOk result (λ _. self.new ≡ arrived t priority self.old) }
     {
@@ -112,6 +115,7 @@ impl RunList {
     }
 
     /// The thread's first row goes, if it has one.
+    #[tactic(auto, using(run_trace::proofs::OnRoot::root_without))]
     pub fn take_off(&mut self, t: Tid)
         ensures { self.new ≡ taken_off t self.old }
     {
@@ -140,9 +144,10 @@ impl RunList {
         self.names.get(place).copied()
     }
 
-    /// The row that is picked.
+    /// The row that is picked, on whatever processor of whatever tree.
+    #[tactic(auto, using(run_trace::proofs::OnRoot::on_root))]
     pub fn best(&self) -> Option<Row>
-        ensures { result ≡ best self.now.rows }
+        ensures { (tree : Tree) (vp : ℕ) → result ≡ best_on tree vp self.now.rows }
     {
         let mut best = None;
         let mut place = self.rows.len();

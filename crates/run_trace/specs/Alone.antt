@@ -1,4 +1,4 @@
--- A thread by its own labels: its code run alone in its own memory, with the replies that it was told.
+-- A thread by its own labels, and a service by its caller's call too: its code run alone in its own memory, with the replies that it was told.
 use Rattle.std.specs.Prelude.{◌≡◌, List, [], ◌∷◌, Option, Some, None, Bool, false, if◌then◌else◌}
 use Rattle.slot_space.specs.declared.names.Tid.{Tid}
 use Rattle.run_trace.specs.declared.entry.Entry.{Entry}
@@ -12,15 +12,24 @@ use Rattle.iso_blocks.specs.Heap.{rounded, place, placed, without}
 use Rattle.run_trace.specs.declared.call.Call.{Call}
 use Rattle.run_trace.specs.declared.call.Call.TheVariants.{Isomalloc, Isofree}
 use Rattle.run_trace.specs.Calls.{call_of, refusal}
-use Rattle.run_trace.specs.Guests.{Solo, Guest, newborn, with_zero_slots, without_slots, heap_of}
+use Rattle.run_trace.specs.Guests.{Solo, Guest, newborn, with_bytes, with_zero_slots, without_slots, heap_of}
 use Rattle.run_trace.specs.Cluster.{Net}
 use Rattle.run_trace.specs.Holding.{Place, IsAt}
-use Rattle.run_trace.specs.Spots.{Response, no_response, stepped, told_state, Life, On, Served, Spot, unborn}
+use Rattle.run_trace.specs.Spots.{Remote, remote_after, stack_bytes, Response, no_response, stepped, told_state, Life, On, Served, Spot, unborn}
 use Rattle.run_trace.specs.Items.{Subject, Thread, subject}
 
 abbrev pub is_about : Tid → Option Subject → Bool
 is_about t None = false
 is_about t (Some (Thread u)) = is_tid u t
+
+-- the bytes that the remote calls of each thread named in a trace, newest entry first
+abbrev pub remote_in : List Label → Remote → Remote
+remote_in [] remote = remote
+remote_in (l ∷ ls) remote = remote_in ls (remote_after l remote)
+
+abbrev pub remote_of : List Entry → Remote
+remote_of [] = λ t. []
+remote_of (x ∷ xs) = remote_in x.labels (remote_of xs)
 
 -- registers, pc, memory and blocks; the call of its heap that it waits for; and the reply that was judged last
 pub record Alone : Type 0 where
@@ -45,27 +54,27 @@ answered (Some (Isomalloc len)) x = record x { live = (placed (heap_of x) (round
 answered (Some (Isofree address)) x = record x { live = without x.live address }
 answered _ x = x
 
--- what a label of the thread makes of it
-abbrev pub alone_then : Program → Tid → Label → Alone → Alone
-alone_then p t (Born u why entry a0 a1 sp slot) a =
-    record { solo = (newborn entry a0 a1 sp slot 0).solo; asked = None; reply = no_response }
-alone_then p t (Ran u vp count stop) a =
+-- what a label of the thread makes of it; a service has the bytes of its caller's asked call at the end of its stack
+abbrev pub alone_then : Program → Remote → Tid → Label → Alone → Alone
+alone_then p remote t (Born u why entry a0 a1 sp slot) a =
+    record { solo = (with_bytes sp (stack_bytes why remote) (newborn entry a0 a1 sp slot 0)).solo; asked = None; reply = no_response }
+alone_then p remote t (Ran u vp count stop) a =
     record a { solo = record a.solo { state = stepped (code_of p) count a.solo.state } }
-alone_then p t (Asked u call args bytes) a =
+alone_then p remote t (Asked u call args bytes) a =
     record a { asked = unless_refused (refusal p t a.solo (call_of a.solo.state)) (heap_call (call_of a.solo.state)) }
-alone_then p t (Judged u reply extra) a =
+alone_then p remote t (Judged u reply extra) a =
     record { solo = answered a.asked a.solo; asked = None; reply = record { code = reply; extra = extra } }
-alone_then p t (Told u) a = record a { solo = record a.solo { state = told_state a.reply a.solo.state } }
-alone_then p t (Took u first count) a =
+alone_then p remote t (Told u) a = record a { solo = record a.solo { state = told_state a.reply a.solo.state } }
+alone_then p remote t (Took u first count) a =
     record a { solo = record a.solo { state = record a.solo.state { memory = with_zero_slots (run first count) a.solo.state.memory } } }
-alone_then p t (Gave u slots) a =
+alone_then p remote t (Gave u slots) a =
     record a { solo = record a.solo { state = record a.solo.state { memory = without_slots slots a.solo.state.memory } } }
-alone_then p t _ a = a
+alone_then p remote t _ a = a
 
 -- only labels of thread t count
-abbrev pub alone_after : Program → Tid → List Label → Alone → Alone
-alone_after p t [] a = a
-alone_after p t (l ∷ ls) a = alone_after p t ls (if is_about t (subject l) then alone_then p t l a else a)
+abbrev pub alone_after : Program → Remote → Tid → List Label → Alone → Alone
+alone_after p remote t [] a = a
+alone_after p remote t (l ∷ ls) a = alone_after p (remote_after l remote) t ls (if is_about t (subject l) then alone_then p remote t l a else a)
 
 abbrev pub asked_in : Life → Option Call
 asked_in (On n (Served c)) = heap_call c
@@ -77,7 +86,7 @@ alone_in s = record { solo = s.guest.solo; asked = asked_in s.life; reply = s.ve
 -- thread t by its labels in a trace, newest entry first
 abbrev pub alone_of : Program → Tid → List Entry → Alone
 alone_of p t [] = alone_in unborn
-alone_of p t (x ∷ xs) = alone_after p t x.labels (alone_of p t xs)
+alone_of p t (x ∷ xs) = alone_after p (remote_of xs) t x.labels (alone_of p t xs)
 
 -- each thread, on whatever node it is, and on its way too, has the registers, the bytes and the blocks of its code run alone
 abbrev pub EachRunsAlone : Program → Net → List Entry → Type 0

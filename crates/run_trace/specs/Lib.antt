@@ -1,4 +1,5 @@
 pub mod Names
+pub mod Trees
 pub mod Program
 pub mod Guests
 pub mod Calls

@@ -1,5 +1,5 @@
 -- A legal trace by its labels alone: what each entry must be, after what the trace before it tells. No machine is named.
-use Rattle.std.specs.Prelude.{◌≡◌, ◌<◌, ◌≤◌, length, ℕ, List, [], ◌∷◌, ◌++◌, if◌then◌else◌, Option, Some, None, Bool, true, false, ◌==◌, ◌&&◌, not, nat_lt, nat_le, ⊤}
+use Rattle.std.specs.Prelude.{◌≡◌, ◌<◌, ◌⊎◌, length, ℕ, List, [], ◌∷◌, ◌++◌, if◌then◌else◌, Option, Some, None, Bool, true, false, ◌==◌, ◌&&◌, not, nat_lt, nat_le, ⊤}
 use Rattle.slot_space.specs.declared.names.Tid.{Tid}
 use Rattle.run_trace.specs.declared.entry.Act.{Act}
 use Rattle.run_trace.specs.declared.entry.Act.TheVariants.{Boot, Run, Take, Move}
@@ -9,7 +9,8 @@ use Rattle.run_trace.specs.declared.label.Label.TheVariants.{Born, Ran, Left}
 use Rattle.run_trace.specs.declared.label.Why.TheVariants as why
 use Rattle.run_trace.specs.declared.packet.Packet.{Packet}
 use Rattle.run_trace.specs.Names.{tid, is_tid}
-use Rattle.run_trace.specs.Program.{Program, nodes_of, processors_of, quantum_limit}
+use Rattle.run_trace.specs.Program.{Program, nodes_of, tree_of, processors_of, quantum_limit}
+use Rattle.run_trace.specs.Trees.{Tree, depth_of, covers}
 use Rattle.rv_step.specs.declared.hart.Stop.{Stop}
 use Rattle.run_trace.specs.Guests.{stack_end}
 use Rattle.run_trace.specs.Spots.{Spots}
@@ -28,22 +29,27 @@ may_act p n begun (Run vp quantum) =
 may_act p n begun (Take from) = nat_lt n (nodes_of p) && (begun && nat_lt from (nodes_of p))
 may_act p n begun (Move t to) = nat_lt n (nodes_of p) && (begun && (nat_lt to (nodes_of p) && not (to == n)))
 
--- ## Who runs: the first of those with the greatest priority
+-- ## Who runs: of those on the lists that cover the processor the first of the greatest priority on the deepest list
 
-abbrev pub AllBelow : ℕ → List Listed → Type 0
-AllBelow k [] = ⊤
-AllBelow k (x ∷ xs) = (x.priority < k) × AllBelow k xs
+-- a has the lesser priority, or the same on a list that isn't as deep
+abbrev pub IsBelow : Tree → Listed → Listed → Type 0
+IsBelow tree a b = (a.priority < b.priority) ⊎ ((a.priority ≡ b.priority) × (depth_of tree a.list < depth_of tree b.list))
 
-abbrev pub AllUpTo : ℕ → List Listed → Type 0
-AllUpTo k [] = ⊤
-AllUpTo k (x ∷ xs) = (x.priority ≤ k) × AllUpTo k xs
+abbrev pub AllBelow : Tree → ℕ → Listed → List Listed → Type 0
+AllBelow tree vp x [] = ⊤
+AllBelow tree vp x (y ∷ ys) = (covers tree vp y.list ≡ true → IsBelow tree y x) × AllBelow tree vp x ys
 
-pub record IsPicked (x : Listed) (xs : List Listed) : Type 0 where
+abbrev pub NoneOver : Tree → ℕ → Listed → List Listed → Type 0
+NoneOver tree vp x [] = ⊤
+NoneOver tree vp x (y ∷ ys) = (covers tree vp y.list ≡ true → IsBelow tree x y → ⊥) × NoneOver tree vp x ys
+
+pub record IsPicked (tree : Tree) (vp : ℕ) (x : Listed) (xs : List Listed) : Type 0 where
   pub before : List Listed
   pub after : List Listed
   pub is : xs ≡ before ++ x ∷ after
-  pub first : AllBelow x.priority before
-  pub greatest : AllUpTo x.priority after
+  pub here : covers tree vp x.list ≡ true
+  pub first : AllBelow tree vp x before
+  pub greatest : NoneOver tree vp x after
 
 abbrev pub is_on_list : Tid → List Listed → Bool
 is_on_list t [] = false
@@ -56,11 +62,11 @@ abbrev pub first_birth : Program → ℕ → Option ℕ → Spots → List Item
 first_birth p n None w = []
 first_birth p n (Some slot) w = Says (Born (tid n (length (w.births n))) why.Main p.image.main 0 0 (stack_end slot) slot) ∷ []
 
--- node 0 begins with the main thread; the first of the run list runs; the first packet of the link is taken, which was sent before;
+-- node 0 begins with the main thread; the one that is picked runs; the first packet of the link is taken, which was sent before;
 -- a thread that is sent away is on the run list
 abbrev pub Starts : Program → (stamp n : ℕ) → Act → World → List Item → Type 0
 Starts p stamp n Boot w to_do = to_do ≡ (if n == 0 then first_birth p n (lowest_free n 1 w.spots) w.spots else [])
-Starts p stamp n (Run vp quantum) w to_do = (x : Listed) × IsPicked x (w.lists n) × (to_do ≡ Runs x.tid vp ∷ [])
+Starts p stamp n (Run vp quantum) w to_do = (x : Listed) × IsPicked (tree_of p) vp x (w.lists n) × (to_do ≡ Runs x.tid vp ∷ [])
 Starts p stamp n (Take from) w to_do = (x : Packet) × (first_of (w.links from n) ≡ Some x) × (x.stamp < stamp) × (to_do ≡ for_packet n x.body)
 Starts p stamp n (Move t to) w to_do = (is_on_list t (w.lists n) ≡ true) × (to_do ≡ Says (Left t to) ∷ [])
 

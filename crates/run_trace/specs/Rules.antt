@@ -19,18 +19,16 @@ use Rattle.run_trace.specs.declared.label.Extra.{Extra}
 use Rattle.run_trace.specs.declared.packet.Packet.{Packet}
 use Rattle.run_trace.specs.Names.{tid}
 use Rattle.run_trace.specs.Program.{Program, nodes_of, code_of}
-use Rattle.run_trace.specs.Guests.{Solo, Guest, stack_end, guest_slots, heap_of, slots_for}
+use Rattle.run_trace.specs.Guests.{Solo, Guest, stack_start, guest_slots, heap_of, slots_for}
 use Rattle.run_trace.specs.declared.call.Call.{Call}
 use Rattle.run_trace.specs.declared.call.Call.TheVariants.{Create, Isomalloc, Isofree, MigrateSelf}
 use Rattle.run_trace.specs.Calls.{extra_of, place_code, call_of, number_of, args_of, refusal, said_bytes}
 use Rattle.run_trace.specs.World.{World}
-use Rattle.run_trace.specs.Spots.{Ready, Running, Due, Served, Told_next, Told_then, Departs, Ends, Leaves, Halts, Shows, Showing, Shown_there, Asks, Awaits, Answers, Answered, Life, Unborn, On, Moving, Noting, Spots, Holder, Of_node, Of_thread, stepped, after_labels}
+use Rattle.run_trace.specs.Spots.{Ready, Running, Due, Served, Told_next, Told_then, Departs, Ends, Leaves, Halts, Shows, Showing, Shown_there, Asks, Awaits, Answers, Answered, Life, Unborn, On, Moving, Noting, Spots, Holder, Of_node, Of_thread, stack_bytes, stepped, after_labels}
 
 abbrev pub quantum_in : Act → ℕ
 quantum_in (Run vp quantum) = quantum
-quantum_in Boot = 0
-quantum_in (Take from) = 0
-quantum_in (Move t to) = 0
+quantum_in _ = 0
 
 -- in which act a label is said, on which packet, and after which labels of the same entry
 pub record Occasion : Type 0 where
@@ -54,7 +52,9 @@ IsBorn p n (why.Create by) entry a0 w = (priority : ℕ) × ((w.threads by).life
 IsBorn p n _ entry a0 w = ⊥
 
 abbrev pub SoloRule : Rule
-SoloRule p o n (Born t why entry a0 a1 sp slot) w = IsBorn p n why entry a0 w.spots × (a1 ≡ 0) × (sp ≡ stack_end slot)
+SoloRule p o n (Born t why entry a0 a1 sp slot) w =
+    let bytes : List ℕ = stack_bytes why w.spots.remote in
+    IsBorn p n why entry a0 w.spots × (a1 ≡ length bytes) × (sp ≡ stack_start slot (length bytes))
 SoloRule p o n (Ran t vp count stop) w =
     let s : State = (w.spots.threads t).guest.solo.state in
     (after (code_of p) s count ≡ Some (stepped (code_of p) count s)) × StopsBy (code_of p) (stepped (code_of p) count s) (quantum_in o.act) count stop

@@ -12,16 +12,17 @@ use Rattle.run_trace.specs.declared.label.Extra.TheVariants.{Nothing}
 use Rattle.run_trace.specs.Names.{is_tid}
 use Rattle.run_trace.specs.Program.{Program}
 use Rattle.run_trace.specs.Items.{subject}
-use Rattle.run_trace.specs.Alone.{is_about}
+use Rattle.run_trace.specs.Alone.{is_about, remote_of}
 use Rattle.run_trace.specs.Console.{asked_bytes}
 use Rattle.run_trace.specs.Rules.{spots_of}
-use Rattle.run_trace.specs.Spots.{Life, On, Noting, Gone, Shown_there, Spots, after_label, at_first}
+use Rattle.run_trace.specs.Spots.{Life, On, Noting, Gone, Shown_there, Spots, Remote, remote_after, stack_bytes, after_label, at_first}
 
 -- how a thread is born
 pub record Start : Type 0 where
   pub entry : ℕ
   pub argument : ℕ
   pub stack : ℕ  -- the slot of its stack
+  pub bytes : List ℕ  -- at the end of its stack, where it is a service
 
 -- what a thread is given when a call returns: slots of zeros for its heap, a0, and what comes beside it
 pub record Gift : Type 0 where
@@ -44,29 +45,30 @@ abbrev pub no_gift : Gift
 no_gift = record { slots = []; code = 0; extra = Nothing }
 
 abbrev pub unlived : Lived
-unlived = record { start = record { entry = 0; argument = 0; stack = 0 }; stretches = []; since = 0; coming = no_gift }
+unlived = record { start = record { entry = 0; argument = 0; stack = 0; bytes = [] }; stretches = []; since = 0; coming = no_gift }
 
 -- one more of its labels: the instructions of a run are counted, wherever it was cut
-abbrev pub lived_then : Label → Lived → Lived
-lived_then (Born u why entry a0 a1 sp slot) a = record unlived { start = record { entry = entry; argument = a0; stack = slot } }
-lived_then (Ran u vp count stop) a = record a { since = a.since + count }
-lived_then (Took u first count) a = record a { coming = record a.coming { slots = a.coming.slots ++ run first count } }
-lived_then (Judged u reply extra) a = record a { coming = record a.coming { code = reply; extra = extra } }
-lived_then (Told u) a = record a {
+abbrev pub lived_then : Remote → Label → Lived → Lived
+lived_then remote (Born u why entry a0 a1 sp slot) a =
+    record unlived { start = record { entry = entry; argument = a0; stack = slot; bytes = stack_bytes why remote } }
+lived_then remote (Ran u vp count stop) a = record a { since = a.since + count }
+lived_then remote (Took u first count) a = record a { coming = record a.coming { slots = a.coming.slots ++ run first count } }
+lived_then remote (Judged u reply extra) a = record a { coming = record a.coming { code = reply; extra = extra } }
+lived_then remote (Told u) a = record a {
   stretches = (record { instructions = a.since; gift = a.coming }) ∷ a.stretches;
   since = 0;
   coming = record a.coming { slots = [] };
 }
-lived_then _ a = a
+lived_then remote _ a = a
 
-abbrev pub lived_in : Tid → List Label → Lived → Lived
-lived_in t [] a = a
-lived_in t (l ∷ ls) a = lived_in t ls (if is_about t (subject l) then lived_then l a else a)
+abbrev pub lived_in : Remote → Tid → List Label → Lived → Lived
+lived_in remote t [] a = a
+lived_in remote t (l ∷ ls) a = lived_in (remote_after l remote) t ls (if is_about t (subject l) then lived_then remote l a else a)
 
 -- what thread t has lived through in a trace, newest entry first
 abbrev pub lived : Tid → List Entry → Lived
 lived t [] = unlived
-lived t (x ∷ xs) = lived_in t x.labels (lived t xs)
+lived t (x ∷ xs) = lived_in (remote_of xs) t x.labels (lived t xs)
 
 -- ## The same
 

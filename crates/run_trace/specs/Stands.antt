@@ -56,17 +56,17 @@ thread_in_life n _ g = None
 abbrev pub thread_part : ℕ → Tid → Spot → Option Thread
 thread_part n t s = thread_in_life n s.life s.guest
 
--- ## The run list: the ready threads, with their priorities
+-- ## The run lists: the ready threads, on the root, with their priorities
 
 abbrev pub listed_name : Listed → Tid
 listed_name x = x.tid
 
 abbrev pub listed : Row → Listed
-listed r = record { tid = r.tid; priority = r.priority }
+listed r = record { tid = r.tid; list = r.list; priority = r.priority }
 
 abbrev pub row_in_stage : Tid → Stage → ℕ → Option Listed
-row_in_stage t Ready priority = Some (record { tid = t; priority = priority })
-row_in_stage t (Departs to) priority = Some (record { tid = t; priority = priority })
+row_in_stage t Ready priority = Some (record { tid = t; list = 0; priority = priority })
+row_in_stage t (Departs to) priority = Some (record { tid = t; list = 0; priority = priority })
 row_in_stage t _ priority = None
 
 abbrev pub row_in_life : ℕ → Tid → Life → ℕ → Option Listed

@@ -11,14 +11,15 @@ use Rattle.run_trace.specs.Names.{is_tid}
 use Rattle.run_trace.specs.Program.{Program}
 use Rattle.run_trace.specs.Spots.{Spots, priority_by, after_label}
 
--- a thread on a run list
+-- a thread on a run list of the tree
 pub record Listed : Type 0 where
   pub tid : Tid
+  pub list : ℕ
   pub priority : ℕ
 
 pub record World : Type 0 where
   pub spots : Spots
-  pub lists : ℕ → List Listed  -- each node's run list, in the order of arrival
+  pub lists : ℕ → List Listed  -- who is on each node's run lists, in the order of arrival
   pub links : ℕ → ℕ → List Packet  -- from one node to another, oldest first
   pub begun : ℕ → Bool
 
@@ -26,10 +27,10 @@ pub record World : Type 0 where
 abbrev pub world_after : Program → ℕ → Label → World → World
 world_after p n l w = record w { spots = after_label p n l w.spots }
 
--- ## Run lists: who is born, told, comes or has used up its quantum arrives as the last; who runs or leaves is taken off
+-- ## Run lists: who is born, told, comes or has used up its quantum arrives on the root as the last; who runs or leaves is taken off
 
 abbrev pub arrives : Tid → ℕ → List Listed → List Listed
-arrives t priority xs = xs ++ (record { tid = t; priority = priority }) ∷ []
+arrives t priority xs = xs ++ (record { tid = t; list = 0; priority = priority }) ∷ []
 
 abbrev pub off : Tid → List Listed → List Listed
 off t [] = []

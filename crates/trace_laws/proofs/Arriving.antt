@@ -1,6 +1,6 @@
 -- The run list as the machine keeps it, with numbers of arrival, and as the labels tell it, in the order of arrival.
-use Rattle.std.proofs.Common.{◌≡◌, ◌<◌, ◌≤◌, ℕ, suc, List, [], ◌∷◌, ◌++◌, map, Option, Some, None, Bool, true, false, eqb, ltb, cond, refl, sym, ap, ◌∙◌, subst, arith, inl, inr}
-use Rattle.std.proofs.lemmas.Bool.{eqb-true, ltb-true, ltb-false}
+use Rattle.std.proofs.Common.{◌≡◌, ◌<◌, ◌≤◌, ℕ, suc, List, [], ◌∷◌, ◌++◌, map, Option, Some, None, Bool, true, false, eqb, ltb, cond, refl, sym, ap, ◌∙◌, subst, arith, ◌⊎◌, inl, inr}
+use Rattle.std.proofs.lemmas.Bool.{eqb-true, eqb-false, ltb-true, ltb-false}
 use Rattle.std.proofs.lemmas.List.{map-append}
 use Rattle.slot_space.specs.declared.names.Tid.{Tid}
 use Rattle.rv_step.specs.declared.hart.Stop.{Stop}
@@ -10,12 +10,13 @@ use Rattle.run_trace.specs.declared.label.Label.TheVariants.{Born, Ran, Told, Le
 use Rattle.run_trace.specs.declared.node.Row.{Row}
 use Rattle.run_trace.specs.Names.{is_tid}
 use Rattle.run_trace.specs.Program.{Program}
-use Rattle.run_trace.specs.Places.{Places, arrived, taken_off, without_row, is_listed, best, best_of, better, IsIn, AreAfter, AreAscending, AreArrived, IsRising}
+use Rattle.run_trace.specs.Places.{Places, arrived, taken_off, without_row, is_listed, best_on, best_with, better_on, IsBefore, IsIn, AreAfter, AreAscending, AreArrived, IsRising}
 use Rattle.run_trace.specs.Spots.{Spots, priority_by, after_label}
 use Rattle.run_trace.specs.Stands.{listed}
 use Rattle.run_trace.specs.World.{Listed, arrives, off, ran_list, list_after, list_after_all}
-use Rattle.run_trace.specs.Obeying.{AllBelow, AllUpTo, IsPicked, is_on_list}
-use Rattle.trace_laws.proofs.Picking.{best_is}
+use Rattle.run_trace.specs.Obeying.{IsBelow, AllBelow, NoneOver, IsPicked, is_on_list}
+use Rattle.run_trace.specs.Trees.{Tree, depth_of, covers}
+use Rattle.trace_laws.proofs.Picking.{better_is, best_is, NoneHere, none_here}
 
 abbrev pub ran_places : Stop → Tid → ℕ → Places → Places
 ran_places stops.Quantum t priority s = arrived t priority (taken_off t s)
@@ -115,90 +116,130 @@ on_list_is t (r ∷ rs) = ap (λ z. cond (is_tid t r.tid) true z) (on_list_is t 
 
 -- ## Who is picked
 
-one_picked_in : (x y : Listed) (b c d e : List Listed) → b ++ x ∷ c ≡ d ++ y ∷ e → AllBelow x.priority b → AllUpTo x.priority c → AllBelow y.priority d → AllUpTo y.priority e → x ≡ y
-one_picked_in x y [] c [] e h f g i j = cc h
-one_picked_in x y [] c (z ∷ d) e h f g i j =
-    let head : x ≡ z = cc h in
-    let tail : c ≡ d ++ y ∷ e = cc h in
-    let more : y.priority ≤ x.priority = up_to d (subst (λ zs. AllUpTo x.priority zs) tail g) in
-    absurd (omega (arith, more, i.0, ap (λ (k : Listed). k.priority) head))
-  where
-    up_to : (zs : List Listed) → AllUpTo x.priority (zs ++ y ∷ e) → y.priority ≤ x.priority
-    up_to [] k = k.0
-    up_to (u ∷ us) k = up_to us k.1
-one_picked_in x y (z ∷ b) c [] e h f g i j =
-    let head : z ≡ y = cc h in
-    let tail : b ++ x ∷ c ≡ e = cc h in
-    let more : x.priority ≤ y.priority = up_to b (subst (λ zs. AllUpTo y.priority zs) (sym tail) j) in
-    absurd (omega (arith, more, f.0, ap (λ (k : Listed). k.priority) head))
-  where
-    up_to : (zs : List Listed) → AllUpTo y.priority (zs ++ x ∷ c) → x.priority ≤ y.priority
-    up_to [] k = k.0
-    up_to (u ∷ us) k = up_to us k.1
-one_picked_in x y (z ∷ b) c (u ∷ d) e h f g i j = let tail : b ++ x ∷ c ≡ d ++ y ∷ e = cc h in one_picked_in x y b c d e tail f.1 g i.1 j
+module _ (tree : Tree) (vp : ℕ) where
+  below_trans : (a b c : Listed) → IsBelow tree a b → IsBelow tree b c → IsBelow tree a c
+  below_trans a b c (inl x) (inl y) = inl (omega (arith, x, y))
+  below_trans a b c (inl x) (inr y) = inl (omega (arith, x, y.0))
+  below_trans a b c (inr x) (inl y) = inl (omega (arith, x.0, y))
+  below_trans a b c (inr x) (inr y) = inr (x.0 ∙ y.0, omega (arith, x.1, y.1))
 
--- one thread is picked
-pub one_picked : (x y : Listed) (xs : List Listed) → IsPicked x xs → IsPicked y xs → x ≡ y
-one_picked x y xs a b = one_picked_in x y a.before a.after b.before b.after (sym a.is ∙ b.is) a.first a.greatest b.first b.greatest
+  one_picked_in : (x y : Listed) (b c d e : List Listed) → b ++ x ∷ c ≡ d ++ y ∷ e → covers tree vp x.list ≡ true → covers tree vp y.list ≡ true
+      → AllBelow tree vp x b → NoneOver tree vp x c → AllBelow tree vp y d → NoneOver tree vp y e → x ≡ y
+  one_picked_in x y [] c [] e h p q f g i j = cc h
+  one_picked_in x y [] c (z ∷ d) e h p q f g i j =
+      let head : x ≡ z = cc h in
+      let tail : c ≡ d ++ y ∷ e = cc h in
+      absurd (over d (subst (λ zs. NoneOver tree vp x zs) tail g) (subst (λ k. covers tree vp k.list ≡ true → IsBelow tree k y) (sym head) i.0 p))
+    where
+      over : (zs : List Listed) → NoneOver tree vp x (zs ++ y ∷ e) → IsBelow tree x y → ⊥
+      over [] k = k.0 q
+      over (u ∷ us) k = over us k.1
+  one_picked_in x y (z ∷ b) c [] e h p q f g i j =
+      let head : z ≡ y = cc h in
+      let tail : b ++ x ∷ c ≡ e = cc h in
+      absurd (over b (subst (λ zs. NoneOver tree vp y zs) (sym tail) j) (subst (λ k. covers tree vp k.list ≡ true → IsBelow tree k x) head f.0 q))
+    where
+      over : (zs : List Listed) → NoneOver tree vp y (zs ++ x ∷ c) → IsBelow tree y x → ⊥
+      over [] k = k.0 p
+      over (u ∷ us) k = over us k.1
+  one_picked_in x y (z ∷ b) c (u ∷ d) e h p q f g i j = let tail : b ++ x ∷ c ≡ d ++ y ∷ e = cc h in one_picked_in x y b c d e tail p q f.1 g i.1 j
 
-up_to_more : (k m : ℕ) (xs : List Listed) → k ≤ m → AllUpTo k xs → AllUpTo m xs
-up_to_more k m [] h a = tt
-up_to_more k m (x ∷ xs) h a = (omega (arith, a.0, h), up_to_more k m xs h a.1)
+  -- one thread is picked
+  pub one_picked : (x y : Listed) (xs : List Listed) → IsPicked tree vp x xs → IsPicked tree vp y xs → x ≡ y
+  one_picked x y xs a b = one_picked_in x y a.before a.after b.before b.after (sym a.is ∙ b.is) a.here b.here a.first a.greatest b.first b.greatest
 
-all_up_to : (x : Listed) (b c : List Listed) → AllBelow x.priority b → AllUpTo x.priority c → AllUpTo x.priority (b ++ x ∷ c)
-all_up_to x [] c f g = (omega arith, g)
-all_up_to x (y ∷ b) c f g = (omega (arith, f.0), all_up_to x b c f.1 g)
+  none_over : (x : Listed) (rows : List Row) → NoneHere tree vp rows → NoneOver tree vp x (map listed rows)
+  none_over x [] k = tt
+  none_over x (r ∷ rs) k = (λ c. absurd (cc (c, k.0)), none_over x rs k.1)
 
-after_in : (k : ℕ) (r : Row) (rows : List Row) → AreAfter k rows → IsIn r rows → k < r.arrival
-after_in k r [] a i = absurd i
-after_in k r (x ∷ xs) a i = elim i as (λ v. k < r.arrival) [ inl e ↦ subst (λ (z : Row). k < z.arrival) (sym e) a.0 | inr j ↦ after_in k r xs a.1 j ]
+  -- where b is picked and x isn't below it, nobody is over x
+  over_none : (x b : Listed) (c d : List Listed) → (IsBelow tree x b → ⊥) → AllBelow tree vp b c → NoneOver tree vp b d → NoneOver tree vp x (c ++ b ∷ d)
+  over_none x b [] d h f g = (λ k. h, rest d g)
+    where
+      rest : (d : List Listed) → NoneOver tree vp b d → NoneOver tree vp x d
+      rest [] k = tt
+      rest (y ∷ ys) k = (λ c l. k.0 c (splits y l), rest ys k.1)
+        where
+          splits : (y : Listed) → IsBelow tree x y → IsBelow tree b y
+          splits y l = elim (order x b) as (λ v. IsBelow tree b y) [ inl m ↦ absurd (h m) | inr m ↦ m y l ]
+            where
+              order : (x b : Listed) → IsBelow tree x b ⊎ ((y : Listed) → IsBelow tree x y → IsBelow tree b y)
+              order x b = by (ltb x.priority b.priority) refl (eqb x.priority b.priority) refl (ltb (depth_of tree x.list) (depth_of tree b.list)) refl
+                where
+                  by : (u : Bool) → ltb x.priority b.priority ≡ u → (v : Bool) → eqb x.priority b.priority ≡ v → (d : Bool) → ltb (depth_of tree x.list) (depth_of tree b.list) ≡ d
+                      → IsBelow tree x b ⊎ ((y : Listed) → IsBelow tree x y → IsBelow tree b y)
+                  by true i v j d k = inl (inl (ltb-true x.priority b.priority i))
+                  by false i true j true k = inl (inr (eqb-true x.priority b.priority j, ltb-true (depth_of tree x.list) (depth_of tree b.list) k))
+                  by false i true j false k = inr (λ y l. same y l (eqb-true x.priority b.priority j) (ltb-false (depth_of tree x.list) (depth_of tree b.list) k))
+                    where
+                      same : (y : Listed) → IsBelow tree x y → x.priority ≡ b.priority → depth_of tree b.list ≤ depth_of tree x.list → IsBelow tree b y
+                      same y (inl m) e n = inl (omega (arith, m, e))
+                      same y (inr m) e n = inr (sym e ∙ m.0, omega (arith, m.1, n))
+                  by false i false j d k = inr (λ y l. less y l (ltb-false x.priority b.priority i) (eqb-false x.priority b.priority j))
+                    where
+                      less : (y : Listed) → IsBelow tree x y → b.priority ≤ x.priority → (x.priority ≡ b.priority → ⊥) → IsBelow tree b y
+                      less y (inl m) e n = inl (omega (arith, m, e))
+                      less y (inr m) e n = inl (omega (arith, m.0, e, n))
+  over_none x b (y ∷ c) d h f g = (λ k l. h (below_trans x y b l (f.0 k)), over_none x b c d h f.1 g)
 
-none_best : (rows : List Row) → best rows ≡ None → rows ≡ []
-none_best [] e = refl
-none_best (y ∷ ys) e = absurd (by_rest (best ys) e)
-  where
-    by_rest : (o : Option Row) → best_of y o ≡ None → ⊥
-    by_rest None f = absurd (cc f)
-    by_rest (Some z) f = absurd (cc f)
+  after_in : (k : ℕ) (r : Row) (rows : List Row) → AreAfter k rows → IsIn r rows → k < r.arrival
+  after_in k r [] a i = absurd i
+  after_in k r (x ∷ xs) a i = elim i as (λ v. k < r.arrival) [ inl e ↦ subst (λ (z : Row). k < z.arrival) (sym e) a.0 | inr j ↦ after_in k r xs a.1 j ]
 
-pub picked_is : (rows : List Row) (r : Row) → AreAscending rows → best rows ≡ Some r → IsPicked (listed r) (map listed rows)
-picked_is [] r a h = absurd (cc h)
-picked_is (x ∷ xs) r a h = by (λ b k. picked_is xs b a.1 k) (best xs) refl h
-  where
-    -- the first of the list stays where no later one has a greater priority
-    stays : (b : Row) → IsPicked (listed b) (map listed xs) → b.priority ≤ x.priority → IsPicked (listed x) (listed x ∷ map listed xs)
-    stays b k le = record {
-      before = [];
-      after = map listed xs;
-      is = refl;
-      first = tt;
-      greatest = up_to_more b.priority x.priority (map listed xs) le (subst (λ zs. AllUpTo b.priority zs) (sym k.is) (all_up_to (listed b) k.before k.after k.first k.greatest));
-    }
+  -- of two rows, of which a came first, the better one is b where a is below it, and else a
+  chosen : (a b : Row) → a.arrival < b.arrival → ((better_on tree a b ≡ b) × IsBelow tree (listed a) (listed b)) ⊎ ((better_on tree a b ≡ a) × (IsBelow tree (listed a) (listed b) → ⊥))
+  chosen a b before = elim (better_is tree vp a b) as (λ v. ((better_on tree a b ≡ b) × IsBelow tree (listed a) (listed b)) ⊎ ((better_on tree a b ≡ a) × (IsBelow tree (listed a) (listed b) → ⊥))) [
+    | inl k ↦ inr (k.0, above a b k.1)
+    | inr k ↦ inl (k.0, below k.1)
+  ]
+    where
+      above : (a b : Row) → IsBefore tree a b → IsBelow tree (listed a) (listed b) → ⊥
+      above a b (inl x) (inl y) = omega (arith, x, y)
+      above a b (inl x) (inr y) = omega (arith, x, y.0)
+      above a b (inr x) (inl y) = omega (arith, x.0, y)
+      above a b (inr (p, inl x)) (inr y) = omega (arith, x, y.1)
+      above a b (inr (p, inr x)) (inr y) = omega (arith, x.0, y.1)
 
-    by_better : (b : Row) → IsPicked (listed b) (map listed xs) → x.arrival < b.arrival → (u : Bool) → ltb x.priority b.priority ≡ u → (v : Bool) → eqb x.priority b.priority ≡ v → (y : Bool) → ltb b.arrival x.arrival ≡ y
-        → IsPicked (listed (cond u b (cond v (cond y b x) x))) (listed x ∷ map listed xs)
-    by_better b k before true e v f y g = record { before = listed x ∷ k.before; after = k.after; is = ap (λ zs. listed x ∷ zs) k.is; first = (ltb-true x.priority b.priority e, k.first); greatest = k.greatest }
-    by_better b k before false e true f true g = absurd (omega (arith, before, ltb-true b.arrival x.arrival g))
-    by_better b k before false e true f false g = stays b k (omega (arith, eqb-true x.priority b.priority f))
-    by_better b k before false e false f y g = stays b k (omega (arith, ltb-false x.priority b.priority e))
+      below : IsBefore tree b a → IsBelow tree (listed a) (listed b)
+      below (inl x) = inl x
+      below (inr (p, inl x)) = inr (p, x)
+      below (inr (p, inr x)) = absurd (omega (arith, before, x.1))
 
-    by : ((b : Row) → best xs ≡ Some b → IsPicked (listed b) (map listed xs)) → (o : Option Row) → best xs ≡ o → best_of x o ≡ Some r → IsPicked (listed r) (map listed (x ∷ xs))
-    by ih None e f =
-        let same : x ≡ r = cc f in
-        subst (λ y. IsPicked (listed y) (map listed (x ∷ xs))) same (record { before = []; after = map listed xs; is = refl; first = tt; greatest = subst (λ ys. AllUpTo x.priority (map listed ys)) (sym (none_best xs e)) tt })
-    by ih (Some b) e f =
-        let same : better x b ≡ r = cc f in
-        subst (λ y. IsPicked (listed y) (map listed (x ∷ xs))) same
-        (by_better b (ih b e) (after_in x.arrival b xs a.0 (best_is xs b e).0) (ltb x.priority b.priority) refl (eqb x.priority b.priority) refl (ltb b.arrival x.arrival) refl)
+  pub picked_is : (rows : List Row) (r : Row) → AreAscending rows → best_on tree vp rows ≡ Some r → IsPicked tree vp (listed r) (map listed rows)
+  picked_is [] r a h = absurd (cc h)
+  picked_is (x ∷ xs) r a h = by_cover (λ b k. picked_is xs b a.1 k) (covers tree vp x.list) refl h
+    where
+      by : ((b : Row) → best_on tree vp xs ≡ Some b → IsPicked tree vp (listed b) (map listed xs)) → covers tree vp x.list ≡ true → (o : Option Row) → best_on tree vp xs ≡ o → best_with tree x o ≡ Some r → IsPicked tree vp (listed r) (map listed (x ∷ xs))
+      by ih c None e f =
+          let same : x ≡ r = cc f in
+          subst (λ y. IsPicked tree vp (listed y) (map listed (x ∷ xs))) same (record { before = []; after = map listed xs; is = refl; here = c; first = tt; greatest = none_over (listed x) xs (none_here tree vp xs e) })
+      by ih c (Some b) e f =
+          let same : better_on tree x b ≡ r = cc f in
+          let k : IsPicked tree vp (listed b) (map listed xs) = ih b e in
+          subst (λ y. IsPicked tree vp (listed y) (map listed (x ∷ xs))) same
+          (elim (chosen x b (after_in x.arrival b xs a.0 (best_is tree vp xs b e).0)) as (λ v. IsPicked tree vp (listed (better_on tree x b)) (map listed (x ∷ xs))) [
+            | inl m ↦ subst (λ y. IsPicked tree vp (listed y) (map listed (x ∷ xs))) (sym m.0)
+                (record { before = listed x ∷ k.before; after = k.after; is = ap (λ zs. listed x ∷ zs) k.is; here = k.here; first = (λ d. m.1, k.first); greatest = k.greatest })
+            | inr m ↦ subst (λ y. IsPicked tree vp (listed y) (map listed (x ∷ xs))) (sym m.0)
+                (record { before = []; after = map listed xs; is = refl; here = c; first = tt; greatest = subst (λ zs. NoneOver tree vp (listed x) zs) (sym k.is) (over_none (listed x) (listed b) k.before k.after m.1 k.first k.greatest) })
+          ])
 
--- and the machine picks it
-pub picks_it : (rows : List Row) (x : Listed) → AreAscending rows → IsPicked x (map listed rows) → (r : Row) × (best rows ≡ Some r) × (listed r ≡ x)
-picks_it rows x a k = by (best rows) refl
-  where
-    nothing_there : (b c : List Listed) → [] ≡ b ++ x ∷ c → ⊥
-    nothing_there [] c h = absurd (cc h)
-    nothing_there (y ∷ b) c h = absurd (cc h)
+      by_cover : ((b : Row) → best_on tree vp xs ≡ Some b → IsPicked tree vp (listed b) (map listed xs)) → (v : Bool) → covers tree vp x.list ≡ v → cond v (best_with tree x (best_on tree vp xs)) (best_on tree vp xs) ≡ Some r → IsPicked tree vp (listed r) (map listed (x ∷ xs))
+      by_cover ih true c f = by ih c (best_on tree vp xs) refl f
+      by_cover ih false c f =
+          let k : IsPicked tree vp (listed r) (map listed xs) = ih r f in
+          record { before = listed x ∷ k.before; after = k.after; is = ap (λ zs. listed x ∷ zs) k.is; here = k.here; first = (λ d. absurd (cc (c, d)), k.first); greatest = k.greatest }
 
-    by : (o : Option Row) → best rows ≡ o → (r : Row) × (best rows ≡ Some r) × (listed r ≡ x)
-    by None e = absurd (nothing_there k.before k.after (sym (ap (map listed) (none_best rows e)) ∙ k.is))
-    by (Some r) e = (r, e, one_picked (listed r) x (map listed rows) (picked_is rows r a e) k)
+  -- and the machine picks it
+  pub picks_it : (rows : List Row) (x : Listed) → AreAscending rows → IsPicked tree vp x (map listed rows) → (r : Row) × (best_on tree vp rows ≡ Some r) × (listed r ≡ x)
+  picks_it rows x a k = by (best_on tree vp rows) refl
+    where
+      nothing_there : (rows : List Row) → NoneHere tree vp rows → (b c : List Listed) → map listed rows ≡ b ++ x ∷ c → ⊥
+      nothing_there [] n [] c h = absurd (cc h)
+      nothing_there [] n (y ∷ b) c h = absurd (cc h)
+      nothing_there (r ∷ rs) n [] c h = let same : listed r ≡ x = cc h in absurd (cc (n.0, k.here, ap (λ (z : Listed). covers tree vp z.list) same))
+      nothing_there (r ∷ rs) n (y ∷ b) c h = nothing_there rs n.1 b c (cc h)
+
+      by : (o : Option Row) → best_on tree vp rows ≡ o → (r : Row) × (best_on tree vp rows ≡ Some r) × (listed r ≡ x)
+      by None e = absurd (nothing_there rows (none_here tree vp rows e) k.before k.after k.is)
+      by (Some r) e = (r, e, one_picked (listed r) x (map listed rows) (picked_is rows r a e) k)

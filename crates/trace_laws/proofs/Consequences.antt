@@ -30,9 +30,9 @@ use Rattle.run_trace.specs.Trace.{net_after_trace}
 use Rattle.trace_laws.specs.Obeys.{Obey, world_at, ObeyEach}
 use Rattle.run_trace.specs.Rules.{Occasion, saying, spots_of, is_free, IsBorn, JoinerAwaits, MayHear, MayJudge, MayTell, MayKnow, MayLeave, MayCome, MayShow, SoloRule, LifeRule}
 use Rattle.run_trace.specs.Obeying.{occasion}
-use Rattle.run_trace.specs.Spots.{Stage, Life, Unborn, On, Moving, Noting, Gone, Response, Spot, Spots, Holder, Of_node, Of_thread, update, creator_served, joiner_served, end_in, at_first, after_label, after_labels, stepped, ran_stage, ran_spot, passed_stage, asked_stage, heard_at, judged_life, judged_guest, told_stage, gave_life, shown_life, second_of}
+use Rattle.run_trace.specs.Spots.{Stage, Life, Unborn, On, Moving, Noting, Gone, Response, Spot, Spots, Holder, Of_node, Of_thread, update, creator_served, joiner_served, end_in, at_first, after_label, after_labels, stepped, ran_stage, ran_spot, passed_stage, asked_stage, heard_at, judged_life, judged_guest, told_stage, gave_life, shown_life, second_of, remote_after}
 use Rattle.run_trace.specs.Stands.{Stands, thread_part, thread_in_life, thread_in_stage, held, slots_held, is_thread, Word, Travels, word_subject, word_of, words_of, words_about, ways_of, on_link}
-use Rattle.run_trace.specs.Alone.{Alone, alone_then, alone_after, alone_in, alone_of, asked_in, heap_call, unless_refused, answered, is_about, EachRunsAlone}
+use Rattle.run_trace.specs.Alone.{Alone, alone_then, alone_after, alone_in, alone_of, asked_in, heap_call, unless_refused, answered, is_about, EachRunsAlone, remote_in, remote_of}
 use Rattle.run_trace.specs.Holding.{Place, On_node, On_link, IsAmong, IsAt, Has, EachHeldOnce}
 use Rattle.trace_laws.proofs.Tids.{is-true, is-refl}
 use Rattle.trace_laws.proofs.Parts.{Tells, at_way}
@@ -209,31 +209,31 @@ come_asks : (n : ℕ) (life : Life) → MayCome n life → asked_in life ≡ Non
 come_asks n life h = grind (arith, h)
 
 label_alone : (p : Program) (q : Occasion) (n : ℕ) (l : Label) (w : World) (t : Tid) → SoloRule p q n l w → LifeRule p q n l w
-    → alone_in ((after_label p n l w.spots).threads t) ≡ cond (is_about t (subject l)) (alone_then p t l (alone_in (w.spots.threads t))) (alone_in (w.spots.threads t))
+    → alone_in ((after_label p n l w.spots).threads t) ≡ cond (is_about t (subject l)) (alone_then p w.spots.remote t l (alone_in (w.spots.threads t))) (alone_in (w.spots.threads t))
 label_alone p q n (Born u why entry a0 a1 sp slot) w t solo life =
-    seen (creator_served n u why w.spots.threads) u t _ (λ z a. alone_then p z (Born u why entry a0 a1 sp slot) a) refl
-    ∙ ap (λ a. cond (is_tid u t) (alone_then p t (Born u why entry a0 a1 sp slot) a) a) (served_creator p n u why entry a0 w.spots t solo.0)
+    seen (creator_served n u why w.spots.threads) u t _ (λ z a. alone_then p w.spots.remote z (Born u why entry a0 a1 sp slot) a) refl
+    ∙ ap (λ a. cond (is_tid u t) (alone_then p w.spots.remote t (Born u why entry a0 a1 sp slot) a) a) (served_creator p n u why entry a0 w.spots t solo.0)
 label_alone p q n (Ran u vp count stop) w t solo life =
     let next : State = stepped (code_of p) count (w.spots.threads u).guest.solo.state in
-    seen w.spots.threads u t _ (λ z a. alone_then p z (Ran u vp count stop) a) (ap (asking (ran_spot p n count stop (w.spots.threads u))) (ran_asks n stop next ∙ sym (ap asked_in life)))
+    seen w.spots.threads u t _ (λ z a. alone_then p w.spots.remote z (Ran u vp count stop) a) (ap (asking (ran_spot p n count stop (w.spots.threads u))) (ran_asks n stop next ∙ sym (ap asked_in life)))
 label_alone p q n (Asked u call args bytes) w t solo life =
     let x : Solo = (w.spots.threads u).guest.solo in
-    seen w.spots.threads u t _ (λ z a. alone_then p z (Asked u call args bytes) a) (ap (asking (w.spots.threads u)) (call_asks p n u x (call_of x.state) (refusal p u x (call_of x.state))))
+    seen w.spots.threads u t _ (λ z a. alone_then p w.spots.remote z (Asked u call args bytes) a) (ap (asking (w.spots.threads u)) (call_asks p n u x (call_of x.state) (refusal p u x (call_of x.state))))
 label_alone p q n (Heard u) w t solo life = seen_so w.spots.threads u t _ (heard_asks n w.spots.births (w.spots.threads u).life life)
 label_alone p q n (Judged u reply extra) w t solo life =
     let o : Spot = w.spots.threads u in
     let v : Response = record { code = reply; extra = extra } in
-    seen w.spots.threads u t _ (λ z a. alone_then p z (Judged u reply extra) a)
+    seen w.spots.threads u t _ (λ z a. alone_then p w.spots.remote z (Judged u reply extra) a)
     (ap (λ z. record { solo = (judged_guest o.life o.guest).solo; asked = z; reply = v }) (judged_asks n o.life life)
     ∙ ap (λ z. record { solo = z; asked = None; reply = v }) (judged_solo o.life o.guest))
 label_alone p q n (Told u) w t solo life =
     let o : Spot = w.spots.threads u in
-    seen w.spots.threads u t _ (λ z a. alone_then p z (Told u) a)
+    seen w.spots.threads u t _ (λ z a. alone_then p w.spots.remote z (Told u) a)
     (ap (λ z. record { solo = (told o.verdict.code (second_of o.verdict.extra) o.guest).solo; asked = z; reply = o.verdict }) (told_asks n o.life ∙ sym (tell_asks n o.life life)))
-label_alone p q n (Took u first count) w t solo life = seen w.spots.threads u t _ (λ z a. alone_then p z (Took u first count) a) refl
+label_alone p q n (Took u first count) w t solo life = seen w.spots.threads u t _ (λ z a. alone_then p w.spots.remote z (Took u first count) a) refl
 label_alone p q n (Gave u slots) w t solo life =
     let o : Spot = w.spots.threads u in
-    seen w.spots.threads u t _ (λ z a. alone_then p z (Gave u slots) a)
+    seen w.spots.threads u t _ (λ z a. alone_then p w.spots.remote z (Gave u slots) a)
     (ap (λ z. record { solo = (gives_slots slots o.guest).solo; asked = z; reply = o.verdict }) (gave_asks o.life))
 label_alone p q n (Ended u end) w t solo life = seen_so w.spots.threads u t _ (sym (ap asked_in life))
 label_alone p q n (Known u) w t solo life =
@@ -257,14 +257,23 @@ label_alone p q n (Burst bubble list) w t solo life = absurd life
 label_alone p q n (Gathered bubble count) w t solo life = absurd life
 
 labels_alone : (p : Program) (q : Occasion) (n : ℕ) (ls : List Label) (w : World) (t : Tid) → ObeyEach SoloRule p q n ls w → ObeyEach LifeRule p q n ls w
-    → alone_in ((after_labels p n ls w.spots).threads t) ≡ alone_after p t ls (alone_in (w.spots.threads t))
+    → alone_in ((after_labels p n ls w.spots).threads t) ≡ alone_after p w.spots.remote t ls (alone_in (w.spots.threads t))
 labels_alone p q n [] w t solo life = refl
-labels_alone p q n (l ∷ ls) w t solo life = labels_alone p (saying l q) n ls (world_after p n l w) t solo.1 life.1 ∙ ap (alone_after p t ls) (label_alone p q n l w t solo.0 life.0)
+labels_alone p q n (l ∷ ls) w t solo life = labels_alone p (saying l q) n ls (world_after p n l w) t solo.1 life.1 ∙ ap (alone_after p (remote_after l w.spots.remote) t ls) (label_alone p q n l w t solo.0 life.0)
+
+remote_in_are : (p : Program) (n : ℕ) (ls : List Label) (w : Spots) → (after_labels p n ls w).remote ≡ remote_in ls w.remote
+remote_in_are p n [] w = refl
+remote_in_are p n (l ∷ ls) w = remote_in_are p n ls (after_label p n l w)
+
+-- what remote calls named, by the labels
+pub remote_are : (p : Program) (lines : List Entry) → (spots_of p (at_first p) lines).remote ≡ remote_of lines
+remote_are p [] = refl
+remote_are p (x ∷ xs) = remote_in_are p x.node x.labels (spots_of p (at_first p) xs) ∙ ap (remote_in x.labels) (remote_are p xs)
 
 spots_alone : (p : Program) (base : Net) (lines : List Entry) (t : Tid) → Obey SoloRule p (at_first p) base lines → Obey LifeRule p (at_first p) base lines
     → alone_in ((spots_of p (at_first p) lines).threads t) ≡ alone_of p t lines
 spots_alone p base [] t solo life = refl
-spots_alone p base (x ∷ xs) t solo life = labels_alone p (occasion x (world_at (spots_of p (at_first p) xs) (net_after_trace p base xs))) x.node x.labels (world_at (spots_of p (at_first p) xs) (net_after_trace p base xs)) t solo.1 life.1 ∙ ap (alone_after p t x.labels) (spots_alone p base xs t solo.0 life.0)
+spots_alone p base (x ∷ xs) t solo life = labels_alone p (occasion x (world_at (spots_of p (at_first p) xs) (net_after_trace p base xs))) x.node x.labels (world_at (spots_of p (at_first p) xs) (net_after_trace p base xs)) t solo.1 life.1 ∙ ap (alone_after p (spots_of p (at_first p) xs).remote t x.labels) (spots_alone p base xs t solo.0 life.0) ∙ ap (λ z. alone_after p z t x.labels (alone_of p t xs)) (remote_are p xs)
 
 pub runs_alone : (p : Program) (base : Net) (lines : List Entry) (net : Net) → Obey SoloRule p (at_first p) base lines → Obey LifeRule p (at_first p) base lines → Stands p (spots_of p (at_first p) lines) net → EachRunsAlone p net lines
 runs_alone p base lines net solo life s t place g h =

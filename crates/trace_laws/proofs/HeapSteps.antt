@@ -32,11 +32,11 @@ use Rattle.trace_laws.proofs.Lifetimes.{slots_step, given, taken, gives_change, 
 use Rattle.run_trace.proofs.HeldSlots.{has_gives, has_takes}
 use Rattle.trace_laws.proofs.Heaps.{empty_held, gave_well, gave_all, placed_well, takes_well, has_place}
 use Rattle.run_trace.specs.Calls.{place_code}
-use Rattle.run_trace.specs.Items.{is_busy}
+use Rattle.run_trace.specs.Items.{is_busy, Item}
 
-module _ (p : Program) (net : Net) (q : Occasion) (n : ℕ) (w : World) (L : Links) where
+module _ (p : Program) (net : Net) (q : Occasion) (n : ℕ) (opening ahead : List Item) (w : World) (L : Links) where
   abbrev Is : Doing → List Busy → Type 0
-  Is d hand = Midst p net q n w L d hand
+  Is d hand = Midst p net q n opening ahead w L d hand
 
   abbrev spot : Spots → Tid → Spot
   spot v t = v.threads t
@@ -44,18 +44,18 @@ module _ (p : Program) (net : Net) (q : Occasion) (n : ℕ) (w : World) (L : Lin
   -- the lists of node n, where only the guest of its thread has changed
   served_ties : (d : Doing) (t : Tid) (c : Call) (g : Guest) (hs : List Busy) (now : Local) → (m : Is d (busy t (On n (Served c)) ∷ hs)) → (spot m.now.spots t).life ≡ On n (Served c)
       → now.threads ≡ set_value (is_tid t) d.node.threads (waits wait.No g) → now.places ≡ d.node.places
-      → Ties p net q n w L m.now.spots t (record (spot m.now.spots t) { guest = g }) now (busy t (On n (Served c)) ∷ hs)
+      → Ties p net q n opening ahead w L m.now.spots t (record (spot m.now.spots t) { guest = g }) now (busy t (On n (Served c)) ∷ hs)
   served_ties d t c g hs now m x threads places =
       let v : Spots = m.now.spots in
       let s : Spot = spot m.now.spots t in
       let r : Spot = record s { guest = g } in
       record {
         threads = subst (λ es. MapStandsFor is_tid (thread_part n) es (update v.threads t r)) (sym threads)
-            (map_set is_tid is-true is-refl (thread_part n) v.threads t r d.node.threads (waits wait.No s.guest) (waits wait.No g) m.here.threads (thread_was p net q n w L s t (Served c) x) (thread_was p net q n w L r t (Served c) x));
+            (map_set is_tid is-true is-refl (thread_part n) v.threads t r d.node.threads (waits wait.No s.guest) (waits wait.No g) m.here.threads (thread_was p net q n opening ahead w L s t (Served c) x) (thread_was p net q n opening ahead w L r t (Served c) x));
         rows = subst (λ (z : Places). StandsFor is_tid listed_name (row_part n) (map listed z.rows) (update v.threads t r)) (sym places)
-            (kept is_tid is-true is-refl listed_name (row_part n) v.threads t r (map listed d.node.places.rows) m.here.rows (row_was p net q n w L r t (Served c) x ∙ sym (row_was p net q n w L s t (Served c) x)));
+            (kept is_tid is-true is-refl listed_name (row_part n) v.threads t r (map listed d.node.places.rows) m.here.rows (row_was p net q n opening ahead w L r t (Served c) x ∙ sym (row_was p net q n opening ahead w L s t (Served c) x)));
         busy = kept is_tid is-true is-refl busy_name (busy_part n) v.threads t r (busy t (On n (Served c)) ∷ hs) m.here.busy
-            (busy_was p net q n w L r t (On n (Served c)) x (eq-eqb n n refl) ∙ sym (busy_was p net q n w L s t (On n (Served c)) x (eq-eqb n n refl)));
+            (busy_was p net q n opening ahead w L r t (On n (Served c)) x (eq-eqb n n refl) ∙ sym (busy_was p net q n opening ahead w L s t (On n (Served c)) x (eq-eqb n n refl)));
       }
 
   -- ## isomalloc
@@ -66,9 +66,9 @@ module _ (p : Program) (net : Net) (q : Occasion) (n : ℕ) (w : World) (L : Lin
       → Is (places t (rounded len) (waits wait.No (spot m.now.spots t).guest) d) hs
   places_ok d t len hs m full =
       let g : Guest = (spot m.now.spots t).guest in
-      let x : (spot m.now.spots t).life ≡ On n (Served (Isomalloc len)) = in_hand p net q n w L d t (On n (Served (Isomalloc len))) hs m in
+      let x : (spot m.now.spots t).life ≡ On n (Served (Isomalloc len)) = in_hand p net q n opening ahead w L d t (On n (Served (Isomalloc len))) hs m in
       let address : Option ℕ = place (heap_of g.solo) (rounded len) in
-      settles_ok p net q n w L d t (place_code address) (with_placed (rounded len) address g) (Isomalloc len) hs m refl refl
+      settles_ok p net q n opening ahead w L d t (place_code address) (with_placed (rounded len) address g) (Isomalloc len) hs m refl refl
       (record { solo = tt; holders = tt; life = rw x refl; replies = rw x (refl, refl); grants = rw x full })
       (record { slots = refl; well = λ h. placed_well g (rounded len) address refl h })
 
@@ -76,7 +76,7 @@ module _ (p : Program) (net : Net) (q : Occasion) (n : ℕ) (w : World) (L : Lin
   takes_run_ok : (d : Doing) (t : Tid) (len first : ℕ) (hs : List Busy) → (m : Is d (busy t (On n (Served (Isomalloc len))) ∷ hs))
       → place (heap_of (spot m.now.spots t).guest.solo) (rounded len) ≡ None
       → lowest_free n (slots_for (rounded len)) m.now.spots ≡ Some first
-      → Then p net q n w L m.now (Took t first (slots_for (rounded len))) (takes_run t first (slots_for (rounded len)) (spot m.now.spots t).guest d) (busy t (On n (Served (Isomalloc len))) ∷ hs)
+      → Then p net q n opening ahead w L m.now (Took t first (slots_for (rounded len))) (takes_run t first (slots_for (rounded len)) (spot m.now.spots t).guest d) (busy t (On n (Served (Isomalloc len))) ∷ hs)
   unfolding takes_run keep slots_out say
   takes_run_ok d t len first hs m none free =
       let v : Spots = m.now.spots in
@@ -85,16 +85,16 @@ module _ (p : Program) (net : Net) (q : Occasion) (n : ℕ) (w : World) (L : Lin
       let count : ℕ = slots_for (rounded len) in
       let got : List ℕ = run first count in
       let a : Stage = Served (Isomalloc len) in
-      let x : s.life ≡ On n a = in_hand p net q n w L d t (On n a) hs m in
+      let x : s.life ≡ On n a = in_hand p net q n opening ahead w L d t (On n a) hs m in
       let r : Spot = record s { guest = takes_slots got g } in
       let holder : (y : ℕ) → has y got ≡ true → v.slots y ≡ Of_node n = λ y h. lowest_held n count v first y free h in
-      slots_step p net q n w L d _ (busy t (On n a) ∷ hs) (Took t first count) t r _ (taken t got v.slots) a a m refl
+      slots_step p net q n opening ahead w L d _ (busy t (On n a) ∷ hs) (Took t first count) t r _ (taken t got v.slots) a a m refl
       (record { solo = tt; holders = holder; life = rw x refl; replies = tt; grants = (rw x (none, refl), free) }) refl refl x x refl refl
       (served_ties d t (Isomalloc len) (takes_slots got g) hs _ m x refl refl) refl refl
       (takes_change p n v t r d.node.slots.own got m.agrees m.here.own holder
       (λ y. ap (λ z. has y (slots_held (held z (takes_slots got g)))) x ∙ has_takes y got g.solo.state.memory ∙ ap (λ z. cond (has y got) true (has y (slots_held (held z g)))) (sym x)))
       (subst (λ z. IsWellHeld (held z (takes_slots got g))) (sym x) (takes_well g got (subst (λ z. IsWellHeld (held z g)) x (m.agrees.blocks t))))
-      (own_stays p net q n w L d t (On n a) hs (Took t first count) s.life (On n a) m refl refl (ap (is_busy n) x ∙ eq-eqb n n refl)) refl refl
+      (own_stays p net q n opening ahead w L d t (On n a) hs (Took t first count) s.life (On n a) m refl refl (ap (is_busy n) x ∙ eq-eqb n n refl)) refl refl
 
   taken_guest : (v u : World) (t : Tid) (first count : ℕ) → u ≡ world_after p n (Took t first count) v → (u.spots.threads t).guest ≡ takes_slots (run first count) (spot v.spots t).guest
   taken_guest v u t first count e = ap (λ (z : World). (z.spots.threads t).guest) e ∙ ap (λ (z : Spot). z.guest) (updated v.spots.threads t _)
@@ -115,7 +115,7 @@ module _ (p : Program) (net : Net) (q : Occasion) (n : ℕ) (w : World) (L : Lin
       a = Served (Isomalloc len)
 
       x : (spot m.now.spots t).life ≡ On n a
-      x = in_hand p net q n w L d t (On n a) hs m
+      x = in_hand p net q n opening ahead w L d t (On n a) hs m
 
       well : IsWellHeld (held (On n a) g)
       well = subst (λ z. IsWellHeld (held z g)) x (m.agrees.blocks t)
@@ -144,7 +144,7 @@ module _ (p : Program) (net : Net) (q : Occasion) (n : ℕ) (w : World) (L : Lin
           let after : Doing = takes_run t first count g d in
           let then = takes_run_ok d t len first hs m none free in
           let k : Is after (busy t (On n a) ∷ hs) = then.midst in
-          at_ok p net q n w L after _ hs t a (places t size) k (in_hand p net q n w L after t (On n a) hs k) refl
+          at_ok p net q n opening ahead w L after _ hs t a (places t size) k (in_hand p net q n opening ahead w L after t (On n a) hs k) refl
           (places_ok after t len hs k
           (λ e. absurd (has_place g size first count well (omega arith) low (apart first free)
           (subst (λ (z : Guest). place (heap_of z.solo) size ≡ None) (taken_guest m.now k.now t first count then.now) e))))
@@ -157,7 +157,7 @@ module _ (p : Program) (net : Net) (q : Occasion) (n : ℕ) (w : World) (L : Lin
 
   returns_ok : (d : Doing) (t : Tid) (address : ℕ) (hs : List Busy) → (m : Is d (busy t (On n (Served (Isofree address))) ∷ hs))
       → (emptied (heap_of (spot m.now.spots t).guest.solo) address ≡ [] → ⊥)
-      → Then p net q n w L m.now (Gave t (emptied (heap_of (spot m.now.spots t).guest.solo) address)) (returns t (emptied (heap_of (spot m.now.spots t).guest.solo) address) (spot m.now.spots t).guest d) (busy t (On n (Served (Isofree address))) ∷ hs)
+      → Then p net q n opening ahead w L m.now (Gave t (emptied (heap_of (spot m.now.spots t).guest.solo) address)) (returns t (emptied (heap_of (spot m.now.spots t).guest.solo) address) (spot m.now.spots t).guest d) (busy t (On n (Served (Isofree address))) ∷ hs)
   unfolding returns keep slots_in say
   returns_ok d t address hs m some =
       let v : Spots = m.now.spots in
@@ -165,18 +165,18 @@ module _ (p : Program) (net : Net) (q : Occasion) (n : ℕ) (w : World) (L : Lin
       let g : Guest = s.guest in
       let back : List ℕ = emptied (heap_of g.solo) address in
       let a : Stage = Served (Isofree address) in
-      let x : s.life ≡ On n a = in_hand p net q n w L d t (On n a) hs m in
+      let x : s.life ≡ On n a = in_hand p net q n opening ahead w L d t (On n a) hs m in
       let r : Spot = record s { guest = gives_slots back g } in
       let had : (y : ℕ) → has y (slots_held (held s.life g)) ≡ has y (guest_slots g) = λ y. ap (λ z. has y (slots_held (held z g))) x in
       let holder : (y : ℕ) → has y back ≡ true → v.slots y ≡ Of_thread t = λ y h. thread_holds t (v.slots y) (sym (m.agrees.slots t y) ∙ had y ∙ empty_held g address y h) in
-      slots_step p net q n w L d _ (busy t (On n a) ∷ hs) (Gave t back) t r _ (given n back v.slots) a a m
-      (ap (λ z. spots_with (update v.threads t (record s { life = z; guest = gives_slots back g })) (given n back v.slots) v.births v.halts) (ap gave_life x ∙ sym x))
+      slots_step p net q n opening ahead w L d _ (busy t (On n a) ∷ hs) (Gave t back) t r _ (given n back v.slots) a a m
+      (ap (λ z. spots_with (update v.threads t (record s { life = z; guest = gives_slots back g })) (given n back v.slots) v.births v.halts v.remote) (ap gave_life x ∙ sym x))
       (record { solo = tt; holders = holder; life = subst (λ z. MayGive n z g back) (sym x) (refl, refl, some); replies = tt; grants = tt }) refl refl x x refl refl
       (served_ties d t (Isofree address) (gives_slots back g) hs _ m x refl refl) refl refl
       (gives_change p n v t r d.node.slots.own back m.agrees m.here.own holder
       (λ y. ap (λ z. has y (slots_held (held z (gives_slots back g)))) x ∙ has_gives y back g.solo.state.memory ∙ ap (λ z. cond (has y back) false (has y (slots_held (held z g)))) (sym x)))
       (subst (λ z. IsWellHeld (held z (gives_slots back g))) (sym x) (gave_well g address (subst (λ z. IsWellHeld (held z g)) x (m.agrees.blocks t))))
-      (own_stays p net q n w L d t (On n a) hs (Gave t back) s.life (On n a) m refl refl (ap (is_busy n) x ∙ eq-eqb n n refl)) refl refl
+      (own_stays p net q n opening ahead w L d t (On n a) hs (Gave t back) s.life (On n a) m refl refl (ap (is_busy n) x ∙ eq-eqb n n refl)) refl refl
 
   returned_guest : (v u : World) (t : Tid) (slots : List ℕ) → u ≡ world_after p n (Gave t slots) v → (u.spots.threads t).guest ≡ gives_slots slots (spot v.spots t).guest
   returned_guest v u t slots e = ap (λ (z : World). (z.spots.threads t).guest) e ∙ ap (λ (z : Spot). z.guest) (updated v.spots.threads t _)
@@ -186,9 +186,9 @@ module _ (p : Program) (net : Net) (q : Occasion) (n : ℕ) (w : World) (L : Lin
       → emptied (heap_of (spot m.now.spots t).guest.solo) address ≡ []
       → Is (at_thread t (frees_block t address) d) hs
   freed_ok d t address hs m none =
-      let x : (spot m.now.spots t).life ≡ On n (Served (Isofree address)) = in_hand p net q n w L d t (On n (Served (Isofree address))) hs m in
-      at_ok p net q n w L d _ hs t (Served (Isofree address)) (frees_block t address) m x refl
-      (settles_ok p net q n w L d t 0 (without_block address (spot m.now.spots t).guest) (Isofree address) hs m refl refl
+      let x : (spot m.now.spots t).life ≡ On n (Served (Isofree address)) = in_hand p net q n opening ahead w L d t (On n (Served (Isofree address))) hs m in
+      at_ok p net q n opening ahead w L d _ hs t (Served (Isofree address)) (frees_block t address) m x refl
+      (settles_ok p net q n opening ahead w L d t 0 (without_block address (spot m.now.spots t).guest) (Isofree address) hs m refl refl
       (record { solo = tt; holders = tt; life = rw x refl; replies = rw x ((refl, none), refl); grants = rw x tt })
       (keeps _ _ refl))
 

@@ -32,7 +32,7 @@ use Rattle.trace_laws.proofs.Midst.{Own, beside, Links, Midst, spots_with, label
 use Rattle.trace_laws.proofs.Parts.{busy_none}
 use Rattle.trace_laws.proofs.Takes.{Left, reply_ok, links_whole}
 use Rattle.trace_laws.proofs.Steps.{idle_was, life_then}
-use Rattle.run_trace.specs.Items.{Thread, Does, is_busy, joiner_in, as_list, busy_among}
+use Rattle.run_trace.specs.Items.{Thread, Does, Says, Item, is_busy, joiner_in, as_list, busy_among}
 
 -- ## What a home has of its births, after one of them has changed
 
@@ -101,7 +101,7 @@ joins_agree : (p : Program) (n seq from : ℕ) (w : Spots) (by : Tid) (r : Spot)
     → ((u : Tid) (at : ℕ) → r.life ≡ On at (Awaits u) → slice_get (at_node w.births n births u.home) u.seq ≡ Some (Awaited by at))
     → ((b : Tid) (at : ℕ) → slice_get (w.births n) seq ≡ Some (Awaited b at) → new ≡ Some (Awaited b at))
     → ((m : ℕ) → r.life ≡ On m Stays → ⊥)
-    → Agrees p (spots_with (update w.threads by r) w.slots (at_node w.births n births) w.halts)
+    → Agrees p (spots_with (update w.threads by r) w.slots (at_node w.births n births) w.halts w.remote)
 joins_agree p n seq from w by r births new gets a x during slots phase awaited waits keeps stays = record {
   waits = λ u b at e. elim (is_tid by b) as (λ v. is_tid by b ≡ v → (cond v r (w.threads b)).life ≡ On at (Awaits u) → slice_get (at_node w.births n births u.home) u.seq ≡ Some (Awaited b at)) [
     | true ↦ λ h f. subst (λ z. slice_get (at_node w.births n births u.home) u.seq ≡ Some (Awaited z at)) (is-true by b h) (waits u at f)
@@ -132,26 +132,26 @@ joins_agree p n seq from w by r births new gets a x during slots phase awaited w
     was : phase_of r.life ≡ phase_of (w.threads by).life
     was = during ∙ sym (ap phase_of x)
 
-module _ (p : Program) (net : Net) (q : Occasion) (n : ℕ) (w : World) (L : Links) where
+module _ (p : Program) (net : Net) (q : Occasion) (n : ℕ) (opening ahead : List Item) (w : World) (L : Links) where
   -- a join is heard, and its thread comes to this life
-  hears_as : (s : Local) (from seq : ℕ) (by : Tid) (life : Life) (more : List Busy) → (m : Midst p net q n w L (nothing s) []) → (m.now.spots.threads by).life ≡ On from (Asks (tid n seq))
+  hears_as : (s : Local) (from seq : ℕ) (by : Tid) (life : Life) (more : List Busy) → (m : Midst p net q n opening (Says (Heard by) ∷ ahead) w L (nothing s) []) → (m.now.spots.threads by).life ≡ On from (Asks (tid n seq))
       → heard_life from (tid n seq) (verdict (slice_get (m.now.spots.births n) seq)) ≡ life
       → ((k : ℕ) → thread_in_life k life (m.now.spots.threads by).guest ≡ thread_in_life k (On from (Asks (tid n seq))) (m.now.spots.threads by).guest)
       → ((k : ℕ) → row_in_life k by life (m.now.spots.threads by).guest.priority ≡ row_in_life k by (On from (Asks (tid n seq))) (m.now.spots.threads by).guest.priority)
       → ways_of by life (m.now.spots.threads by).verdict (m.now.spots.threads by).guest ≡ []
       → ((k : ℕ) → eqb n k ≡ false → is_busy k life ≡ false)
       → StandsFor is_tid busy_name (busy_part n) more (update m.now.spots.threads by (record (m.now.spots.threads by) { life = life }))
-      → Agrees p (spots_with (update m.now.spots.threads by (record (m.now.spots.threads by) { life = life })) m.now.spots.slots (at_node m.now.spots.births n (with_birth (m.now.spots.births n) seq (joined by from))) m.now.spots.halts)
-      → Own n (Heard by) by m.now.spots [] [] more life
-      → Midst p net q n w (Left p net q n w L from by) (hears by seq from (nothing s)) more
+      → Agrees p (spots_with (update m.now.spots.threads by (record (m.now.spots.threads by) { life = life })) m.now.spots.slots (at_node m.now.spots.births n (with_birth (m.now.spots.births n) seq (joined by from))) m.now.spots.halts m.now.spots.remote)
+      → Own n (Heard by) by m.now.spots (Says (Heard by) ∷ ahead) ahead [] more life
+      → Midst p net q n opening ahead w (Left p net q n opening ahead w L from by) (hears by seq from (nothing s)) more
   unfolding hears change_name say
   hears_as s from seq by life more m x heard threads rows ways idle hand agrees own =
       let o : Spot = m.now.spots.threads by in
       let r : Spot = record o { life = life } in
       let births : List Birth = with_birth (m.now.spots.births n) seq (joined by from) in
-      let same = ap (λ z. spots_with (update m.now.spots.threads by (record o { life = heard_at m.now.spots.births z })) m.now.spots.slots (joined_at by z m.now.spots.births) m.now.spots.halts) x
-      ∙ ap (λ z. spots_with (update m.now.spots.threads by (record o { life = z })) m.now.spots.slots (at_node m.now.spots.births n births) m.now.spots.halts) heard in
-      (labelled p net q n w L (Left p net q n w L from by) (nothing s) [] more (Heard by) (spots_with (update m.now.spots.threads by r) m.now.spots.slots (at_node m.now.spots.births n births) m.now.spots.halts) _ [] [] m
+      let same = ap (λ z. spots_with (update m.now.spots.threads by (record o { life = heard_at m.now.spots.births z })) m.now.spots.slots (joined_at by z m.now.spots.births) m.now.spots.halts m.now.spots.remote) x
+      ∙ ap (λ z. spots_with (update m.now.spots.threads by (record o { life = z })) m.now.spots.slots (at_node m.now.spots.births n births) m.now.spots.halts m.now.spots.remote) heard in
+      (labelled p net q n opening ahead w (Says (Heard by) ∷ ahead) L (Left p net q n opening ahead w L from by) (nothing s) [] more (Heard by) (spots_with (update m.now.spots.threads by r) m.now.spots.slots (at_node m.now.spots.births n births) m.now.spots.halts m.now.spots.remote) _ [] [] m
       same
       (record { solo = tt; holders = tt; life = rw x refl; replies = tt; grants = tt }) refl refl
       (record {
@@ -169,33 +169,33 @@ module _ (p : Program) (net : Net) (q : Occasion) (n : ℕ) (w : World) (L : Lin
         busy = busy_none k by r life refl (idle k e) ∙ sym (busy_none k by o (On from (Asks (tid n seq))) x refl);
       })
       (rw e refl) (λ y. refl) refl)
-      (λ i j. nothing_sent n (Left p net q n w L from by) i j (update m.now.spots.threads by r) (take_link from n (Joins by (tid n seq)) by r L m.now.spots.threads (links_whole p net q n w L s m) (ap (λ z. ways_of by z o.verdict o.guest) x ∙ ap (λ xs. way from n (Joins by (tid n seq)) ++ xs) (sym ways)) i j))
+      (λ i j. nothing_sent n (Left p net q n opening ahead w L from by) i j (update m.now.spots.threads by r) (take_link from n (Joins by (tid n seq)) by r L m.now.spots.threads (links_whole p net q n opening ahead w L (Says (Heard by) ∷ ahead) s m) (ap (λ z. ways_of by z o.verdict o.guest) x ∙ ap (λ xs. way from n (Joins by (tid n seq)) ++ xs) (sym ways)) i j))
       agrees
-      (beside p n m.now.spots (Heard by) by [] s _ [] more life own (life_then p net q n w L m.now.spots (Heard by) by r _ same refl) refl refl)).midst
+      (beside p n m.now.spots (Heard by) by (Says (Heard by) ∷ ahead) ahead s _ [] more life own (life_then p net q n opening ahead w L m.now.spots (Heard by) by r _ same refl) refl refl)).midst
 
   -- the home answers the join
-  hears_answer : (s : Local) (from seq : ℕ) (by : Tid) (reply : TheReply) (second : Option ℕ) (new : Option Birth) → (m : Midst p net q n w L (nothing s) []) → (m.now.spots.threads by).life ≡ On from (Asks (tid n seq))
+  hears_answer : (s : Local) (from seq : ℕ) (by : Tid) (reply : TheReply) (second : Option ℕ) (new : Option Birth) → (m : Midst p net q n opening (Says (Heard by) ∷ ahead) w L (nothing s) []) → (m.now.spots.threads by).life ≡ On from (Asks (tid n seq))
       → heard_life from (tid n seq) (verdict (slice_get (m.now.spots.births n) seq)) ≡ On from (Answers n reply second)
       → ((j : ℕ) → slice_get (with_birth (m.now.spots.births n) seq (joined by from)) j ≡ cond (eqb seq j) new (slice_get (m.now.spots.births n) j))
       → phase_at new ≡ phase_at (slice_get (m.now.spots.births n) seq)
       → ((b : Tid) (at : ℕ) → new ≡ Some (Awaited b at) → slice_get (m.now.spots.births n) seq ≡ Some (Awaited b at))
       → ((b : Tid) (at : ℕ) → slice_get (m.now.spots.births n) seq ≡ Some (Awaited b at) → new ≡ Some (Awaited b at))
-      → Midst p net q n w (Left p net q n w L from by) (reply_by_link by from reply second (hears by seq from (nothing s))) []
+      → Midst p net q n opening ahead w (Left p net q n opening ahead w L from by) (reply_by_link by from reply second (hears by seq from (nothing s))) []
   hears_answer s from seq by reply second new m x heard gets phase awaited keeps =
       let o : Spot = m.now.spots.threads by in
       let life : Life = On from (Answers n reply second) in
       let r : Spot = record o { life = life } in
-      reply_ok p net q n w (Left p net q n w L from by) (hears by seq from (nothing s)) by from reply second []
+      reply_ok p net q n opening ahead w (Left p net q n opening ahead w L from by) (hears by seq from (nothing s)) by from reply second []
       (hears_as s from seq by life (busy by life ∷ []) m x heard (λ k. refl) (λ k. refl) refl (λ k e. e)
-      (fronted is_tid is-true is-refl busy_name (busy_part n) m.now.spots.threads by r [] (busy by life) m.here.busy refl (idle_was p net q n w L o by (On from (Asks (tid n seq))) x refl) (rw (eq-eqb n n refl) refl))
+      (fronted is_tid is-true is-refl busy_name (busy_part n) m.now.spots.threads by r [] (busy by life) m.here.busy refl (idle_was p net q n opening ahead w L o by (On from (Asks (tid n seq))) x refl) (rw (eq-eqb n n refl) refl))
       (joins_agree p n seq from m.now.spots by r (with_birth (m.now.spots.births n) seq (joined by from)) new gets m.agrees x refl refl phase
       (λ b at e. awaits_same m.now.spots.threads by r b (tid n seq) at (λ g. absurd (cc (g, x))) (m.agrees.awaits (tid n seq) b at (awaited b at e)))
       (λ u at f. absurd (cc f)) keeps (λ k f. absurd (cc f)))
-      (record { heir = refl; next = tt; still = rw (eq-eqb n n refl) refl }))
+      (record { heir = refl; next = refl; still = rw (eq-eqb n n refl) refl }))
 
-  pub hears_ok : (s : Local) (from seq : ℕ) (by : Tid) → (m : Midst p net q n w L (nothing s) []) → (m.now.spots.threads by).life ≡ On from (Asks (tid n seq))
-      → Midst p net q n w (Left p net q n w L from by) (judges_join by from (verdict (slice_get s.names seq)) (hears by seq from (nothing s))) []
-  hears_ok s from seq by m x = subst (λ bs. Midst p net q n w (Left p net q n w L from by) (judges_join by from (verdict (slice_get bs seq)) (hears by seq from (nothing s))) []) (sym m.here.names) (by_birth (slice_get (m.now.spots.births n) seq) refl)
+  pub hears_ok : (s : Local) (from seq : ℕ) (by : Tid) → (m : Midst p net q n opening (Says (Heard by) ∷ ahead) w L (nothing s) []) → (m.now.spots.threads by).life ≡ On from (Asks (tid n seq))
+      → Midst p net q n opening ahead w (Left p net q n opening ahead w L from by) (judges_join by from (verdict (slice_get s.names seq)) (hears by seq from (nothing s))) []
+  hears_ok s from seq by m x = subst (λ bs. Midst p net q n opening ahead w (Left p net q n opening ahead w L from by) (judges_join by from (verdict (slice_get bs seq)) (hears by seq from (nothing s))) []) (sym m.here.names) (by_birth (slice_get (m.now.spots.births n) seq) refl)
     where
       o : Spot
       o = m.now.spots.threads by
@@ -203,11 +203,11 @@ module _ (p : Program) (net : Net) (q : Occasion) (n : ℕ) (w : World) (L : Lin
       answer : (reply : TheReply) (second : Option ℕ) (b : Birth) (v : Verdict) → slice_get (m.now.spots.births n) seq ≡ Some b → verdict (Some b) ≡ v → heard_life from (tid n seq) v ≡ On from (Answers n reply second)
           → ((c : Tid) (at : ℕ) → Some (joined by from b) ≡ Some (Awaited c at) → Some b ≡ Some (Awaited c at))
           → ((c : Tid) (at : ℕ) → Some b ≡ Some (Awaited c at) → Some (joined by from b) ≡ Some (Awaited c at))
-          → Midst p net q n w (Left p net q n w L from by) (reply_by_link by from reply second (hears by seq from (nothing s))) []
+          → Midst p net q n opening ahead w (Left p net q n opening ahead w L from by) (reply_by_link by from reply second (hears by seq from (nothing s))) []
       answer reply second b v e f h awaited keeps = hears_answer s from seq by reply second (Some (joined by from b)) m x (ap (λ z. heard_life from (tid n seq) (verdict z)) e ∙ ap (heard_life from (tid n seq)) f ∙ h)
           (λ j. get-with (m.now.spots.births n) seq j (joined by from) b e) (joined_phase b by from ∙ ap phase_at (sym e)) (λ c at g. e ∙ awaited c at g) (λ c at g. keeps c at (sym e ∙ g))
 
-      by_birth : (b : Option Birth) → slice_get (m.now.spots.births n) seq ≡ b → Midst p net q n w (Left p net q n w L from by) (judges_join by from (verdict b) (hears by seq from (nothing s))) []
+      by_birth : (b : Option Birth) → slice_get (m.now.spots.births n) seq ≡ b → Midst p net q n opening ahead w (Left p net q n opening ahead w L from by) (judges_join by from (verdict b) (hears by seq from (nothing s))) []
       by_birth None e = hears_answer s from seq by replies.NoSuch None None m x (ap (λ z. heard_life from (tid n seq) (verdict z)) e)
           (λ j. ap (λ bs. slice_get bs j) (with-none (m.now.spots.births n) seq (joined by from) e) ∙ elim (eqb seq j) as (λ v. eqb seq j ≡ v → slice_get (m.now.spots.births n) j ≡ cond v None (slice_get (m.now.spots.births n) j)) [ true ↦ λ f. ap (λ i. slice_get (m.now.spots.births n) i) (sym (eqb-true seq j f)) ∙ e | false ↦ λ f. refl ] refl)
           (ap phase_at (sym e)) (λ b at f. absurd (cc f)) (λ b at f. absurd (cc (e, f)))
@@ -215,7 +215,7 @@ module _ (p : Program) (net : Net) (q : Occasion) (n : ℕ) (w : World) (L : Lin
           let life : Life = On from (Awaits (tid n seq)) in
           let r : Spot = record o { life = life } in
           hears_as s from seq by life [] m x (ap (λ z. heard_life from (tid n seq) (verdict z)) e) (λ k. refl) (λ k. refl) refl (λ k f. refl)
-          (kept is_tid is-true is-refl busy_name (busy_part n) m.now.spots.threads by r [] m.here.busy (sym (idle_was p net q n w L o by (On from (Asks (tid n seq))) x refl)))
+          (kept is_tid is-true is-refl busy_name (busy_part n) m.now.spots.threads by r [] m.here.busy (sym (idle_was p net q n opening ahead w L o by (On from (Asks (tid n seq))) x refl)))
           (joins_agree p n seq from m.now.spots by r (with_birth (m.now.spots.births n) seq (joined by from)) (Some (Awaited by from)) (λ j. get-with (m.now.spots.births n) seq j (joined by from) Lives e) m.agrees x refl refl (ap phase_at (sym e))
           (λ b at f.
           let same : Awaited by from ≡ Awaited b at = cc f in
@@ -231,7 +231,7 @@ module _ (p : Program) (net : Net) (q : Occasion) (n : ℕ) (w : World) (L : Lin
           (own_birth p n seq m.now.spots (with_birth (m.now.spots.births n) seq (joined by from)) (Some (Awaited by from)) (λ j. get-with (m.now.spots.births n) seq j (joined by from) Lives e))))
           (λ b at f. absurd (cc (e, f)))
           (λ k f. absurd (cc f)))
-          (record { heir = refl; next = tt; still = refl })
+          (record { heir = refl; next = refl; still = refl })
       by_birth (Some (Awaited c at)) e = answer replies.Taken None (Awaited c at) verdicts.Taken e refl refl (λ d k f. f) (λ d k f. f)
       by_birth (Some Detached) e = answer replies.NoSuch None Detached verdicts.NoSuch e refl refl (λ d k f. absurd (cc f)) (λ d k f. absurd (cc f))
       by_birth (Some (Ended_birth end)) e = answer (end_reply end) (Some (end_value end)) (Ended_birth end) (verdicts.Now end) e refl refl (λ d k f. absurd (cc f)) (λ d k f. absurd (cc f))
@@ -256,7 +256,7 @@ ends_agree : (p : Program) (n seq from : ℕ) (end : End) (w : Spots) (f : Tid �
     → phase_at new ≡ After → ((b : Tid) (at : ℕ) → new ≡ Some (Awaited b at) → ⊥)
     → ((u b : Tid) (at : ℕ) → (f b).life ≡ On at (Awaits u) → ((w.threads b).life ≡ On at (Awaits u)) × (is_tid (tid n seq) u ≡ false))
     → ((u : Tid) (m : ℕ) → (f u).life ≡ On m Stays → (w.threads u).life ≡ On m Stays)
-    → Agrees p (spots_with (update f (tid n seq) r) w.slots (at_node w.births n births) w.halts)
+    → Agrees p (spots_with (update f (tid n seq) r) w.slots (at_node w.births n births) w.halts w.remote)
 ends_agree p n seq from end w f r births new gets a x gone phases slots unborn awaits known nobody waits stays = record {
   waits = λ u b at e. elim (is_tid t b) as (λ v. (cond v r (f b)).life ≡ On at (Awaits u) → slice_get (at_node w.births n births u.home) u.seq ≡ Some (Awaited b at)) [
     | true ↦ λ h. absurd (cc (gone, h))
@@ -294,20 +294,20 @@ ends_agree p n seq from end w f r births new gets a x gone phases slots unborn a
     t : Tid
     t = tid n seq
 
-module _ (p : Program) (net : Net) (q : Occasion) (n : ℕ) (w : World) (L : Links) where
+module _ (p : Program) (net : Net) (q : Occasion) (n : ℕ) (opening ahead : List Item) (w : World) (L : Links) where
   -- an end that nobody waits for
-  knows_alone : (s : Local) (from seq : ℕ) (end : End) (b : Birth) → (m : Midst p net q n w L (nothing s) []) → (m.now.spots.threads (tid n seq)).life ≡ Noting from end
+  knows_alone : (s : Local) (from seq : ℕ) (end : End) (b : Birth) → (m : Midst p net q n opening (Says (Known (tid n seq)) ∷ ahead) w L (nothing s) []) → (m.now.spots.threads (tid n seq)).life ≡ Noting from end
       → slice_get (m.now.spots.births n) seq ≡ Some b → joiner (Some b) ≡ None → ((c : Tid) (at : ℕ) → Some (ended end b) ≡ Some (Awaited c at) → ⊥)
-      → Midst p net q n w (Left p net q n w L from (tid n seq)) (knows n seq end (nothing s)) []
+      → Midst p net q n opening ahead w (Left p net q n opening ahead w L from (tid n seq)) (knows n seq end (nothing s)) []
   unfolding knows change_name say
   knows_alone s from seq end b m x e none nobody =
       let t : Tid = tid n seq in
       let o : Spot = m.now.spots.threads t in
       let r : Spot = record o { life = Gone end } in
       let births : List Birth = with_birth (m.now.spots.births n) seq (ended end) in
-      (labelled p net q n w L (Left p net q n w L from t) (nothing s) [] [] (Known t) (spots_with (update m.now.spots.threads t r) m.now.spots.slots (at_node m.now.spots.births n births) m.now.spots.halts) _ [] [] m
-      (ap (λ z. spots_with (update (joiner_served t (end_in z) (joiner (slice_get (m.now.spots.births n) seq)) m.now.spots.threads) t (record o { life = Gone (end_in z) })) m.now.spots.slots (at_node m.now.spots.births n (with_birth (m.now.spots.births n) seq (ended (end_in z)))) m.now.spots.halts) x
-      ∙ ap (λ z. spots_with (update (joiner_served t end z m.now.spots.threads) t r) m.now.spots.slots (at_node m.now.spots.births n births) m.now.spots.halts) (ap joiner e ∙ none))
+      (labelled p net q n opening ahead w (Says (Known t) ∷ ahead) L (Left p net q n opening ahead w L from t) (nothing s) [] [] (Known t) (spots_with (update m.now.spots.threads t r) m.now.spots.slots (at_node m.now.spots.births n births) m.now.spots.halts m.now.spots.remote) _ [] [] m
+      (ap (λ z. spots_with (update (joiner_served t (end_in z) (joiner (slice_get (m.now.spots.births n) seq)) m.now.spots.threads) t (record o { life = Gone (end_in z) })) m.now.spots.slots (at_node m.now.spots.births n (with_birth (m.now.spots.births n) seq (ended (end_in z)))) m.now.spots.halts m.now.spots.remote) x
+      ∙ ap (λ z. spots_with (update (joiner_served t end z m.now.spots.threads) t r) m.now.spots.slots (at_node m.now.spots.births n births) m.now.spots.halts m.now.spots.remote) (ap joiner e ∙ none))
       (record { solo = tt; holders = tt; life = (rw x tt, refl, subst (λ z. JoinerAwaits t z m.now.spots) (sym (ap joiner e ∙ none)) tt); replies = tt; grants = tt }) refl refl
       (record {
         threads = map_kept is_tid is-true is-refl (thread_part n) m.now.spots.threads t r s.threads m.here.threads (sym (ap (λ z. thread_in_life n z o.guest) x));
@@ -324,7 +324,7 @@ module _ (p : Program) (net : Net) (q : Occasion) (n : ℕ) (w : World) (L : Lin
         busy = sym (busy_none k t o (Noting from end) x refl);
       })
       (rw f refl) (λ y. refl) refl)
-      (λ i j. nothing_sent n (Left p net q n w L from t) i j (update m.now.spots.threads t r) (take_link from n (Ended_word t end) t r L m.now.spots.threads (links_whole p net q n w L s m) (ap (λ z. ways_of t z o.verdict o.guest) x) i j))
+      (λ i j. nothing_sent n (Left p net q n opening ahead w L from t) i j (update m.now.spots.threads t r) (take_link from n (Ended_word t end) t r L m.now.spots.threads (links_whole p net q n opening ahead w L (Says (Known t) ∷ ahead) s m) (ap (λ z. ways_of t z o.verdict o.guest) x) i j))
       (ends_agree p n seq from end m.now.spots m.now.spots.threads r births (Some (ended end b)) (λ j. get-with (m.now.spots.births n) seq j (ended end) b e) m.agrees x refl (λ u. refl) (λ u. refl) (λ u f. f) (λ u c at f g. g) (ended_phase end b) nobody
       (λ u c at g. (
         g,
@@ -334,12 +334,12 @@ module _ (p : Program) (net : Net) (q : Occasion) (n : ℕ) (w : World) (L : Lin
             absurd (cc (joins, none))),
       ))
       (λ u k g. g))
-      (record { places = refl; booted = refl; next = tt; still = sym (ap (λ z. busy_among n (as_list (joiner_in z)) (after_label p n (Known t) m.now.spots) ++ []) (ap joiner e ∙ none)) })).midst
+      (record { places = refl; booted = refl; next = refl; still = sym (ap (λ z. busy_among n (as_list (joiner_in z)) (after_label p n (Known t) m.now.spots) ++ ahead) (ap joiner e ∙ none)) })).midst
 
   -- an end that a joiner waits for
-  knows_awaited : (s : Local) (from seq at : ℕ) (end : End) (by : Tid) → (m : Midst p net q n w L (nothing s) []) → (m.now.spots.threads (tid n seq)).life ≡ Noting from end
+  knows_awaited : (s : Local) (from seq at : ℕ) (end : End) (by : Tid) → (m : Midst p net q n opening (Says (Known (tid n seq)) ∷ ahead) w L (nothing s) []) → (m.now.spots.threads (tid n seq)).life ≡ Noting from end
       → slice_get (m.now.spots.births n) seq ≡ Some (Awaited by at)
-      → Midst p net q n w (Left p net q n w L from (tid n seq)) (knows n seq end (nothing s)) (busy by (On at (Answers n (end_reply end) (Some (end_value end)))) ∷ [])
+      → Midst p net q n opening ahead w (Left p net q n opening ahead w L from (tid n seq)) (knows n seq end (nothing s)) (busy by (On at (Answers n (end_reply end) (Some (end_value end)))) ∷ [])
   unfolding knows change_name say
   knows_awaited s from seq at end by m x e =
       let t : Tid = tid n seq in
@@ -353,12 +353,12 @@ module _ (p : Program) (net : Net) (q : Occasion) (n : ℕ) (w : World) (L : Lin
       let here : f t ≡ o = rw apart refl in
       let r : Spot = record o { life = Gone end } in
       let births : List Birth = with_birth (m.now.spots.births n) seq (ended end) in
-      let w1 : Spots = spots_with f m.now.spots.slots m.now.spots.births m.now.spots.halts in
+      let w1 : Spots = spots_with f m.now.spots.slots m.now.spots.births m.now.spots.halts m.now.spots.remote in
       let x1 : (f t).life ≡ Noting from end = ap (λ (z : Spot). z.life) here ∙ x in
-      let same = ap (λ z. spots_with (update (joiner_served t (end_in z) (joiner (slice_get (m.now.spots.births n) seq)) m.now.spots.threads) t (record o { life = Gone (end_in z) })) m.now.spots.slots (at_node m.now.spots.births n (with_birth (m.now.spots.births n) seq (ended (end_in z)))) m.now.spots.halts) x
-      ∙ ap (λ z. spots_with (update (joiner_served t end z m.now.spots.threads) t r) m.now.spots.slots (at_node m.now.spots.births n births) m.now.spots.halts) (ap joiner e) in
+      let same = ap (λ z. spots_with (update (joiner_served t (end_in z) (joiner (slice_get (m.now.spots.births n) seq)) m.now.spots.threads) t (record o { life = Gone (end_in z) })) m.now.spots.slots (at_node m.now.spots.births n (with_birth (m.now.spots.births n) seq (ended (end_in z)))) m.now.spots.halts m.now.spots.remote) x
+      ∙ ap (λ z. spots_with (update (joiner_served t end z m.now.spots.threads) t r) m.now.spots.slots (at_node m.now.spots.births n births) m.now.spots.halts m.now.spots.remote) (ap joiner e) in
       let at_by : (update f t r by).life ≡ life = rw (is-flip by t apart) (rw (is-refl by) refl) in
-      (labelled p net q n w L (Left p net q n w L from t) (nothing s) [] (busy by life ∷ []) (Known t) (spots_with (update f t r) m.now.spots.slots (at_node m.now.spots.births n births) m.now.spots.halts) _ [] [] m
+      (labelled p net q n opening ahead w (Says (Known t) ∷ ahead) L (Left p net q n opening ahead w L from t) (nothing s) [] (busy by life ∷ []) (Known t) (spots_with (update f t r) m.now.spots.slots (at_node m.now.spots.births n births) m.now.spots.halts m.now.spots.remote) _ [] [] m
       same
       (record { solo = tt; holders = tt; life = (rw x tt, refl, subst (λ z. JoinerAwaits t z m.now.spots) (sym (ap joiner e)) y); replies = tt; grants = tt }) refl refl
       (record {
@@ -386,8 +386,8 @@ module _ (p : Program) (net : Net) (q : Occasion) (n : ℕ) (w : World) (L : Lin
         busy = sym (busy_none k t (f t) (Noting from end) x1 refl);
       })
       (rw g refl) (λ z. refl) refl)
-      (λ i j. nothing_sent n (Left p net q n w L from t) i j (update f t r)
-      (take_link from n (Ended_word t end) t r L f (λ a b. links_kept by r1 m.now.spots.threads L (links_whole p net q n w L s m) (sym (ap (λ z. ways_of by z c.verdict c.guest) y)) a b) (ap (λ z. ways_of t z (f t).verdict (f t).guest) x1) i j))
+      (λ i j. nothing_sent n (Left p net q n opening ahead w L from t) i j (update f t r)
+      (take_link from n (Ended_word t end) t r L f (λ a b. links_kept by r1 m.now.spots.threads L (links_whole p net q n opening ahead w L (Says (Known t) ∷ ahead) s m) (sym (ap (λ z. ways_of by z c.verdict c.guest) y)) a b) (ap (λ z. ways_of t z (f t).verdict (f t).guest) x1) i j))
       (ends_agree p n seq from end m.now.spots f r births (Some Over) (λ j. get-with (m.now.spots.births n) seq j (ended end) (Awaited by at) e) m.agrees x refl
       (λ u. phase_same m.now.spots.threads by r1 (sym (ap phase_of y)) u)
       (λ u. held_same m.now.spots.threads by r1 (sym (ap (λ z. held z c.guest) y)) u)
@@ -409,21 +409,21 @@ module _ (p : Program) (net : Net) (q : Occasion) (n : ℕ) (w : World) (L : Lin
       (record {
         places = refl;
         booted = refl;
-        next = tt;
-        still = sym (ap (λ z. busy_among n (as_list (joiner_in z)) (after_label p n (Known t) m.now.spots) ++ []) (ap joiner e) ∙ ap (λ z. cond (is_busy n z) (Does (Thread by) ∷ []) [] ++ []) (ap (λ (z : Spots). (z.threads by).life) same ∙ at_by) ∙ (rw (eq-eqb n n refl) refl));
+        next = refl;
+        still = sym (ap (λ z. busy_among n (as_list (joiner_in z)) (after_label p n (Known t) m.now.spots) ++ ahead) (ap joiner e) ∙ ap (λ z. cond (is_busy n z) (Does (Thread by) ∷ []) [] ++ ahead) (ap (λ (z : Spots). (z.threads by).life) same ∙ at_by) ∙ (rw (eq-eqb n n refl) refl));
       })).midst
 
-  pub knows_ok : (s : Local) (from seq : ℕ) (end : End) → (m : Midst p net q n w L (nothing s) []) → (m.now.spots.threads (tid n seq)).life ≡ Noting from end
-      → Midst p net q n w (Left p net q n w L from (tid n seq)) (tells_joiner end (joiner (slice_get s.names seq)) (knows n seq end (nothing s))) []
-  knows_ok s from seq end m x = subst (λ bs. Midst p net q n w (Left p net q n w L from (tid n seq)) (tells_joiner end (joiner (slice_get bs seq)) (knows n seq end (nothing s))) []) (sym m.here.names) (by_birth (slice_get (m.now.spots.births n) seq) refl)
+  pub knows_ok : (s : Local) (from seq : ℕ) (end : End) → (m : Midst p net q n opening (Says (Known (tid n seq)) ∷ ahead) w L (nothing s) []) → (m.now.spots.threads (tid n seq)).life ≡ Noting from end
+      → Midst p net q n opening ahead w (Left p net q n opening ahead w L from (tid n seq)) (tells_joiner end (joiner (slice_get s.names seq)) (knows n seq end (nothing s))) []
+  knows_ok s from seq end m x = subst (λ bs. Midst p net q n opening ahead w (Left p net q n opening ahead w L from (tid n seq)) (tells_joiner end (joiner (slice_get bs seq)) (knows n seq end (nothing s))) []) (sym m.here.names) (by_birth (slice_get (m.now.spots.births n) seq) refl)
     where
       during : phase_at (slice_get (m.now.spots.births n) seq) ≡ During
       during = m.agrees.named (tid n seq) ∙ ap phase_of x
 
-      by_birth : (b : Option Birth) → slice_get (m.now.spots.births n) seq ≡ b → Midst p net q n w (Left p net q n w L from (tid n seq)) (tells_joiner end (joiner b) (knows n seq end (nothing s))) []
+      by_birth : (b : Option Birth) → slice_get (m.now.spots.births n) seq ≡ b → Midst p net q n opening ahead w (Left p net q n opening ahead w L from (tid n seq)) (tells_joiner end (joiner b) (knows n seq end (nothing s))) []
       by_birth None e = absurd (cc (ap phase_at (sym e) ∙ during))
       by_birth (Some Lives) e = knows_alone s from seq end Lives m x e refl (λ c at g. absurd (cc g))
-      by_birth (Some (Awaited by at)) e = reply_ok p net q n w (Left p net q n w L from (tid n seq)) (knows n seq end (nothing s)) by at (end_reply end) (Some (end_value end)) [] (knows_awaited s from seq at end by m x e)
+      by_birth (Some (Awaited by at)) e = reply_ok p net q n opening ahead w (Left p net q n opening ahead w L from (tid n seq)) (knows n seq end (nothing s)) by at (end_reply end) (Some (end_value end)) [] (knows_awaited s from seq at end by m x e)
       by_birth (Some Detached) e = knows_alone s from seq end Detached m x e refl (λ c at g. absurd (cc g))
       by_birth (Some (Ended_birth other)) e = absurd (cc (ap phase_at (sym e) ∙ during))
       by_birth (Some Over) e = absurd (cc (ap phase_at (sym e) ∙ during))

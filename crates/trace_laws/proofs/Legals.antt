@@ -11,7 +11,7 @@ use Rattle.run_trace.specs.declared.entry.Entry.{Entry}
 use Rattle.run_trace.specs.declared.label.Label.{Label}
 use Rattle.run_trace.specs.Program.{Program}
 use Rattle.run_trace.specs.Cluster.{Event, Net, fresh_net}
-use Rattle.run_trace.specs.Trace.{IsRun, net_after_trace}
+use Rattle.run_trace.specs.Trace.{Fits, IsRun, net_after_trace}
 use Rattle.run_trace.specs.Histories.{IsInOrder, Joins}
 use Rattle.run_trace.specs.Spots.{Ready, On, Spots, at_first}
 use Rattle.run_trace.specs.Rules.{spots_of}
@@ -26,6 +26,7 @@ use Rattle.trace_laws.specs.Obeys.{world_at}
 use Rattle.trace_laws.proofs.Arriving.{on_list_is}
 use Rattle.trace_laws.proofs.Parts.{listed_found}
 use Rattle.trace_laws.proofs.Simulate.{asked_of, listed_ready}
+use Rattle.trace_laws.proofs.Determined.{fits_exactly}
 use Rattle.trace_laws.proofs.Weave.{joined}
 use Rattle.trace_laws.proofs.Wholes.{starts, run_whole, after_each, alone_after_run, held_once_after_run}
 use Rattle.trace_laws.proofs.Entries.{has_entry, Tells, run_keeps, rules_run}
@@ -33,6 +34,13 @@ use Rattle.run_trace.specs.Telling.{world_of, first_world}
 
 pub rules_are_runs : (p : Program) (old : Spots) (base : Net) → Stands p old base → (lines : List Entry) → KeepsRules p (world_at old base) lines ↔ IsRun p base lines
 rules_are_runs p old base s lines = (λ t. rules_run p old base s lines t, λ r. (run_keeps p old base s lines r).tale)
+
+-- and so with one entry after a run
+pub entry_fits : (p : Program) (old : Spots) (base : Net) → Stands p old base → (x : Entry) (xs : List Entry) → IsRun p base xs → IsEntry p (world_of p (world_at old base) xs) x ↔ Fits p (net_after_trace p base xs) x
+entry_fits p old base s x xs r = (
+  λ e. ((fits_exactly p base x xs).0 (rules_run p old base s (x ∷ xs) ((run_keeps p old base s xs r).tale, e))).1,
+  λ f. (run_keeps p old base s (x ∷ xs) ((fits_exactly p base x xs).1 (r, f))).tale.1,
+)
 
 -- a trace goes on with each act that may be
 pub rules_go_on : (p : Program) (old : Spots) (base : Net) → Stands p old base → (lines : List Entry) → KeepsRules p (world_at old base) lines → (stamp n round : ℕ) (a : Act) (to_do : List Item)

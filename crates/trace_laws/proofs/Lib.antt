@@ -15,7 +15,6 @@ pub mod Lifetimes
 pub mod HeapSteps
 pub mod Takes
 pub mod Joins
-pub mod Firsts
 pub mod Picking
 pub mod Events
 pub mod Simulate
@@ -35,3 +34,4 @@ pub mod OwnLives
 pub mod OwnLabels
 pub mod SameLives
 pub mod Unexpected
+pub mod ListTrees

@@ -26,21 +26,21 @@ use Rattle.run_trace.specs.Steps.{say, put, arrive, thread_in, thread_out, slots
 use Rattle.run_trace.specs.Machine.{free_run, free_slot, end_thread}
 use Rattle.run_trace.specs.Cluster.{Net}
 use Rattle.run_trace.specs.Keyed.{StandsFor}
-use Rattle.run_trace.specs.Spots.{Stage, Stays, Ready, Due, Served, Ends, Leaves, Awaits, Life, Unborn, On, Moving, Noting, Gone, Response, Spot, Spots, Holder, Of_node, Of_thread, update, at_node, after_label, gave_life, born_spot, asked_priority, no_response}
+use Rattle.run_trace.specs.Spots.{Stage, Stays, Ready, Due, Served, Ends, Leaves, Awaits, Life, Unborn, On, Moving, Noting, Gone, Response, Spot, Spots, Holder, Of_node, Of_thread, update, at_node, after_label, gave_life, born_spot, asked_priority, no_response, Remote}
 use Rattle.run_trace.specs.Rules.{Occasion, is_free, lowest_free, MayGive}
 use Rattle.run_trace.specs.Console.{shown_by}
 use Rattle.run_trace.specs.Stands.{Here, Agrees, Busy, busy, busy_name, busy_part, thread_part, thread_in_life, row_part, row_in_life, listed, listed_name, ways_of, phase_of, phase_at, Before, During, held, slots_held, IsWellHeld, is_thread}
 use Rattle.trace_laws.proofs.Tids.{is-other, is-true, is-refl, is-false, is-flip, same_name}
 use Rattle.trace_laws.proofs.KeyedLemmas.{kept, added, unfronted, refronted, map_kept, map_removed, map_added}
-use Rattle.trace_laws.proofs.Births.{get-push, get-past}
+use Rattle.trace_laws.proofs.Births.{get-push, get-past, no_bytes, plain_start}
 use Rattle.run_trace.specs.World.{World}
-use Rattle.run_trace.specs.Obeying.{Allows}
-use Rattle.trace_laws.proofs.Midst.{having_said, Then, busy_item, Own, beside, is_next, is_first, Links, Midst, Plain, plain, keeps, under, LinkStands, spots_with, labelled, here_kept, agrees_kept, links_kept}
+use Rattle.run_trace.specs.Obeying.{Allows, IsBy}
+use Rattle.trace_laws.proofs.Midst.{having_said, Then, doing, Own, beside, Links, Midst, Plain, plain, keeps, under, LinkStands, spots_with, labelled, here_kept, agrees_kept, links_kept}
 use Rattle.trace_laws.proofs.Parts.{listed_arrived, is_home, home_way, home_quiet, home_plain, frame_home, away_thread, away_row, busy_none}
 use Rattle.trace_laws.proofs.Arriving.{places_after}
 use Rattle.trace_laws.proofs.Steps.{own_stays, own_goes, life_then, Ties, in_hand, thread_was, row_was, busy_was, send_step}
 use Rattle.run_trace.specs.Causes.{causes}
-use Rattle.run_trace.specs.Items.{Thread as Its, Does, is_busy}
+use Rattle.run_trace.specs.Items.{Thread as Its, Does, Says, Item, is_busy}
 
 -- ## Holders
 
@@ -60,14 +60,14 @@ unborn_of (Noting n end) e = absurd (cc e)
 unborn_of (Gone end) e = absurd (cc e)
 
 -- a thread whose slots change hands; all else as agrees_kept
-agrees_slots : (p : Program) (w : Spots) (t : Tid) (s : Spot) (f : ℕ → Holder) → Agrees p w
+agrees_slots : {remote : Remote} (p : Program) (w : Spots) (t : Tid) (s : Spot) (f : ℕ → Holder) → Agrees p w
     → phase_of s.life ≡ phase_of (w.threads t).life
     → ((u : Tid) (m : ℕ) → (w.threads t).life ≡ On m (Awaits u) → ⊥)
     → ((w.threads t).life ≡ Unborn → ⊥)
     → Plain s.life
     → ((u : Tid) (y : ℕ) → has y (slots_held (held (update w.threads t s u).life (update w.threads t s u).guest)) ≡ is_thread u (f y))
     → IsWellHeld (held s.life s.guest)
-    → Agrees p (spots_with (update w.threads t s) f w.births w.halts)
+    → Agrees p (spots_with (update w.threads t s) f w.births w.halts remote)
 agrees_slots p w t s f a phase quiet born idle slots well = record {
   waits = λ u by at e. elim (is_tid t by) as (λ v. (cond v s (w.threads by)).life ≡ On at (Awaits u) → slice_get (w.births u.home) u.seq ≡ Some (Awaited by at)) [ true ↦ λ g. absurd (idle.waits u at g) | false ↦ λ g. a.waits u by at g ] e;
   stays = λ u m e. elim (is_tid t u) as (λ v. (cond v s (w.threads u)).life ≡ On m Stays → w.halts m ≡ true) [ true ↦ λ g. absurd (idle.stays m g) | false ↦ λ g. a.stays u m g ] e;
@@ -148,9 +148,9 @@ module _ (p : Program) (n : ℕ) (w : Spots) (t : Tid) (s : Spot) (old slots : L
 
 -- ## Ends
 
-module _ (p : Program) (net : Net) (q : Occasion) (n : ℕ) (w : World) (L : Links) where
+module _ (p : Program) (net : Net) (q : Occasion) (n : ℕ) (opening ahead : List Item) (w : World) (L : Links) where
   abbrev Is : Doing → List Busy → Type 0
-  Is d hand = Midst p net q n w L d hand
+  Is d hand = Midst p net q n opening ahead w L d hand
 
   abbrev spot : Spots → Tid → Spot
   spot v t = v.threads t
@@ -158,63 +158,63 @@ module _ (p : Program) (net : Net) (q : Occasion) (n : ℕ) (w : World) (L : Lin
   -- a label by which slots go between node n and its thread t
   pub slots_step : (d : Doing) (hand more : List Busy) (l : Label) (t : Tid) (r : Spot) (now : Local) (f : ℕ → Holder) (a b : Stage)
       → (m : Is d hand)
-      → after_label p n l m.now.spots ≡ spots_with (update m.now.spots.threads t r) f m.now.spots.births m.now.spots.halts
+      → after_label p n l m.now.spots ≡ spots_with (update m.now.spots.threads t r) f m.now.spots.births m.now.spots.halts m.now.spots.remote
       → Allows p (having_said d.labels q) n l m.now
       → causes p n l m.now.spots ≡ [] → shown_by l m.now.spots ≡ []
       → (spot m.now.spots t).life ≡ On n a → r.life ≡ On n b → is_home a ≡ true → is_home b ≡ true
-      → Ties p net q n w L m.now.spots t r now more
+      → Ties p net q n opening ahead w L m.now.spots t r now more
       → now.names ≡ d.node.names → now.halted ≡ d.node.halted
       → Changes n m.now.spots t r now.slots.own f
       → IsWellHeld (held r.life r.guest)
-      → Own n l t m.now.spots d.labels hand more r.life → now.places ≡ places_after l m.now.spots d.node.places → now.booted ≡ d.node.booted
-      → Then p net q n w L m.now l (record { node = now; labels = d.labels ++ l ∷ []; sends = d.sends; prints = d.prints }) more
+      → Own n l t m.now.spots ahead ahead hand more r.life → now.places ≡ places_after l m.now.spots d.node.places → now.booted ≡ d.node.booted
+      → Then p net q n opening ahead w L m.now l (record { node = now; labels = d.labels ++ l ∷ []; sends = d.sends; prints = d.prints }) more
   slots_step d hand more l t r now f a b m same ok sent shown x y home_a home_b ties names halted change well next places booted =
       let v : Spots = m.now.spots in
       let s : Spot = spot m.now.spots t in
       let before : ways_of t s.life s.verdict s.guest ≡ [] = ap (λ z. ways_of t z s.verdict s.guest) x ∙ home_way t n a s.verdict s.guest home_a in
       let after : ways_of t r.life r.verdict r.guest ≡ [] = ap (λ z. ways_of t z r.verdict r.guest) y ∙ home_way t n b r.verdict r.guest home_b in
-      labelled p net q n w L L d hand more l (spots_with (update v.threads t r) f v.births v.halts) now d.sends d.prints m same ok
+      labelled p net q n opening ahead w ahead L L d hand more l (spots_with (update v.threads t r) f v.births v.halts v.remote) now d.sends d.prints m same ok
       (sym (append-nil d.sends) ∙ ap (λ z. d.sends ++ z) (sym sent)) (sym (append-nil d.prints) ∙ ap (λ z. d.prints ++ z) (sym shown))
       (record { threads = ties.threads; rows = ties.rows; busy = ties.busy; names = names ∙ m.here.names; own = change.own; halted = halted ∙ m.here.halted })
       (λ k e. here_kept k v t r f v.births v.halts (net.nodes k) [] (m.there k e) (frame_home n k t s r a b x y home_a home_b e) refl (change.there k e) refl)
       (λ i j. links_kept t r v.threads (under n L d.sends) m.links (after ∙ sym before) i j)
       (agrees_slots p v t r f m.agrees (ap phase_of y ∙ sym (ap phase_of x)) (λ u k e. home_quiet n a home_a u k (sym x ∙ e)) (λ e. absurd (cc (e, x))) (subst (λ z. Plain z) (sym y) (home_plain n b home_b)) change.slots well)
-      (beside p n v l t d.labels d.node now hand more r.life next (life_then p net q n w L m.now.spots l t r _ same refl) places booted)
+      (beside p n v l t ahead ahead d.node now hand more r.life next (life_then p net q n opening ahead w L m.now.spots l t r _ same refl) places booted)
 
   pub gives_ok : (d : Doing) (t : Tid) (end : End) (hs : List Busy) → (m : Is d (busy t (On n (Ends end)) ∷ hs)) → Is (gives t (waits wait.No (spot m.now.spots t).guest) d) (busy t (On n (Leaves end)) ∷ hs)
   unfolding gives thread_out slots_in say
   gives_ok d t end hs m =
       let v : Spots = m.now.spots in
       let s : Spot = spot m.now.spots t in
-      let x : s.life ≡ On n (Ends end) = in_hand p net q n w L d t (On n (Ends end)) hs m in
+      let x : s.life ≡ On n (Ends end) = in_hand p net q n opening ahead w L d t (On n (Ends end)) hs m in
       let mine : List ℕ = guest_slots s.guest in
       let r : Spot = record s { life = On n (Leaves end); guest = gives_slots mine s.guest } in
       let had : (y : ℕ) → has y (slots_held (held s.life s.guest)) ≡ has y mine = λ y. ap (λ z. has y (slots_held (held z s.guest))) x in
       let holder : (y : ℕ) → has y mine ≡ true → v.slots y ≡ Of_thread t = λ y h. thread_holds t (v.slots y) (sym (sym (had y) ∙ m.agrees.slots t y) ∙ h) in
       (slots_step d _ (busy t (On n (Leaves end)) ∷ hs) (Gave t mine) t r _ (given n mine v.slots) (Ends end) (Leaves end) m
-      (ap (λ z. spots_with (update v.threads t (record s { life = gave_life z; guest = gives_slots mine s.guest })) (given n mine v.slots) v.births v.halts) x)
+      (ap (λ z. spots_with (update v.threads t (record s { life = gave_life z; guest = gives_slots mine s.guest })) (given n mine v.slots) v.births v.halts v.remote) x)
       (record { solo = tt; holders = holder; life = subst (λ z. MayGive n z s.guest mine) (sym x) (refl, refl); replies = tt; grants = tt }) refl refl x refl refl refl
       (record {
-        threads = map_removed is_tid is-true is-refl (thread_part n) v.threads t r d.node.threads m.here.threads (thread_was p net q n w L r t (Leaves end) refl);
-        rows = kept is_tid is-true is-refl listed_name (row_part n) v.threads t r (map listed d.node.places.rows) m.here.rows (row_was p net q n w L r t (Leaves end) refl ∙ sym (row_was p net q n w L s t (Ends end) x));
-        busy = refronted is_tid is-true is-refl busy_name (busy_part n) v.threads t r hs (busy t (On n (Ends end))) (busy t (On n (Leaves end))) m.here.busy refl refl (busy_was p net q n w L r t (On n (Leaves end)) refl (eq-eqb n n refl));
+        threads = map_removed is_tid is-true is-refl (thread_part n) v.threads t r d.node.threads m.here.threads (thread_was p net q n opening ahead w L r t (Leaves end) refl);
+        rows = kept is_tid is-true is-refl listed_name (row_part n) v.threads t r (map listed d.node.places.rows) m.here.rows (row_was p net q n opening ahead w L r t (Leaves end) refl ∙ sym (row_was p net q n opening ahead w L s t (Ends end) x));
+        busy = refronted is_tid is-true is-refl busy_name (busy_part n) v.threads t r hs (busy t (On n (Ends end))) (busy t (On n (Leaves end))) m.here.busy refl refl (busy_was p net q n opening ahead w L r t (On n (Leaves end)) refl (eq-eqb n n refl));
       }) refl refl
       (gives_change p n v t r d.node.slots.own mine m.agrees m.here.own holder (λ y. elim (has y mine) as (λ b. has y mine ≡ b → false ≡ cond b false (has y (slots_held (held s.life s.guest)))) [ true ↦ λ h. refl | false ↦ λ h. sym (had y ∙ h) ] refl))
-      tt (own_stays p net q n w L d t (On n (Ends end)) hs (Gave t mine) (On n (Leaves end)) (On n (Leaves end)) m refl refl (eq-eqb n n refl)) refl refl).midst
+      tt (own_stays p net q n opening ahead w L d t (On n (Ends end)) hs (Gave t mine) (On n (Leaves end)) (On n (Leaves end)) m refl refl (eq-eqb n n refl)) refl refl).midst
 
   pub ends_ok : (d : Doing) (t : Tid) (end : End) (hs : List Busy) → (m : Is d (busy t (On n (Leaves end)) ∷ hs)) → Is (ends t end d) hs
   unfolding ends put say
   ends_ok d t end hs m =
       let v : Spots = m.now.spots in
       let s : Spot = spot m.now.spots t in
-      let x : s.life ≡ On n (Leaves end) = in_hand p net q n w L d t (On n (Leaves end)) hs m in
+      let x : s.life ≡ On n (Leaves end) = in_hand p net q n opening ahead w L d t (On n (Leaves end)) hs m in
       let r : Spot = record s { life = Noting n end } in
-      (send_step p net q n w L d _ hs (Ended t end) t r d.node t.home (EndNote t.seq end) m refl
+      (send_step p net q n opening ahead w L ahead d _ hs (Ended t end) t r d.node t.home (EndNote t.seq end) m refl
       (record { solo = tt; holders = tt; life = x; replies = tt; grants = tt }) refl refl
       (ap (λ z. ways_of t z s.verdict s.guest) x) refl refl
       (record {
-        threads = map_kept is_tid is-true is-refl (thread_part n) v.threads t r d.node.threads m.here.threads (sym (thread_was p net q n w L s t (Leaves end) x));
-        rows = kept is_tid is-true is-refl listed_name (row_part n) v.threads t r (map listed d.node.places.rows) m.here.rows (sym (row_was p net q n w L s t (Leaves end) x));
+        threads = map_kept is_tid is-true is-refl (thread_part n) v.threads t r d.node.threads m.here.threads (sym (thread_was p net q n opening ahead w L s t (Leaves end) x));
+        rows = kept is_tid is-true is-refl listed_name (row_part n) v.threads t r (map listed d.node.places.rows) m.here.rows (sym (row_was p net q n opening ahead w L s t (Leaves end) x));
         busy = unfronted is_tid is-true is-refl busy_name (busy_part n) v.threads t r hs (busy t (On n (Leaves end))) m.here.busy refl refl;
       }) refl refl refl
       (λ k e. record {
@@ -225,7 +225,7 @@ module _ (p : Program) (net : Net) (q : Occasion) (n : ℕ) (w : World) (L : Lin
       (sym (ap phase_of x))
       (λ u k e. home_quiet n (Leaves end) refl u k (sym x ∙ e))
       (keeps _ _ (sym (ap (λ z. held z s.guest) x)))
-      (λ e. absurd (cc (e, x))) (plain _ refl) (own_goes p net q n w L d t (On n (Leaves end)) hs (Ended t end) (Noting n end) m refl refl refl) refl refl).midst
+      (λ e. absurd (cc (e, x))) (plain _ refl) (own_goes p net q n opening ahead w L d t (On n (Leaves end)) hs (Ended t end) (Noting n end) m refl refl refl) refl refl).midst
 
   pub end_thread_ok : (d : Doing) (t : Tid) (end : End) (hs : List Busy) → (m : Is d (busy t (On n (Ends end)) ∷ hs)) → Is (end_thread t (waits wait.No (spot m.now.spots t).guest) end d) hs
   end_thread_ok d t end hs m = ends_ok (gives t (waits wait.No (spot m.now.spots t).guest) d) t end hs (gives_ok d t end hs m)
@@ -260,7 +260,7 @@ module _ (p : Program) (net : Net) (n : ℕ) (v : Spots) (M : Links) (s : Local)
   new_spot = record { life = On n Ready; guest = g; verdict = verdict }
 
   abbrev born_spots : Spots
-  born_spots = spots_with (update v.threads new_name new_spot) (at_node v.slots slot (Of_thread new_name)) (at_node v.births n (v.births n ++ Lives ∷ [])) v.halts
+  born_spots = spots_with (update v.threads new_name new_spot) (at_node v.slots slot (Of_thread new_name)) (at_node v.births n (v.births n ++ Lives ∷ [])) v.halts v.remote
 
   unborn : Holds_there p net n v M s hand → (v.threads new_name).life ≡ Unborn
   unborn o = unborn_of (v.threads new_name).life (sym (ap phase_at (get-past (v.births n))) ∙ o.agrees.named new_name)
@@ -352,7 +352,7 @@ module _ (p : Program) (net : Net) (n : ℕ) (v : Spots) (M : Links) (s : Local)
         };
       }
     where
-      listed_arrived_at : (t : Tid) → map listed (arrived t g.priority s.places).rows ≡ map listed s.places.rows ++ (record { tid = t; priority = g.priority }) ∷ []
+      listed_arrived_at : (t : Tid) → map listed (arrived t g.priority s.places).rows ≡ map listed s.places.rows ++ (record { tid = t; list = 0; priority = g.priority }) ∷ []
       listed_arrived_at t = listed_arrived t g.priority s.places
 
 -- ## The steps of a birth
@@ -370,14 +370,15 @@ one_run slot = has-run slot slot 1 ∙ grind (arith, ltb-true slot slot, lt-ltb 
 least_held : (n : ℕ) (v : Spots) (slot : ℕ) → lowest_free n 1 v ≡ Some slot → v.slots slot ≡ Of_node n
 least_held n v slot e = lowest_held n 1 v slot slot e (one_run slot)
 
-module _ (p : Program) (net : Net) (q : Occasion) (n : ℕ) (w : World) (L : Links) (below : nat_lt n (nodes_of p) ≡ true) where
+module _ (p : Program) (net : Net) (q : Occasion) (n : ℕ) (opening ahead : List Item) (w : World) (L : Links) (below : nat_lt n (nodes_of p) ≡ true) where
   abbrev Is_so : Doing → List Busy → Type 0
-  Is_so d hand = Midst p net q n w L d hand
+  Is_so d hand = Midst p net q n opening ahead w L d hand
 
   -- the first thread
-  pub main_born_ok : (d : Doing) (slot : ℕ) → (m : Is_so d []) → d.labels ≡ [] → n ≡ 0 → free_slot d.node.slots.own ≡ Some slot → Is_so (birth n why.Main p.image.main 0 main_priority slot d) []
+  pub main_born_ok : (d : Doing) (slot : ℕ) (i : Item) → (m : Midst p net q n opening (i ∷ ahead) w L d []) → i ≡ Says (Born (tid n (length (m.now.spots.births n))) why.Main p.image.main 0 0 (stack_end slot) slot) → n ≡ 0 → free_slot d.node.slots.own ≡ Some slot
+      → Is_so (birth n why.Main p.image.main 0 main_priority slot d) []
   unfolding birth arrive thread_in name_in slots_out say
-  main_born_ok d slot m first zero free =
+  main_born_ok d slot i m says zero free =
       let v : Spots = m.now.spots in
       let t : Tid = tid n (length (v.births n)) in
       let g : Guest = newborn p.image.main 0 0 (stack_end slot) slot main_priority in
@@ -386,12 +387,12 @@ module _ (p : Program) (net : Net) (q : Occasion) (n : ℕ) (w : World) (L : Lin
       let holder : v.slots slot ≡ Of_node n = least_held n v slot least in
       let new : Holds_there p net n (born_spots p net n v (under n L d.sends) d.node [] below g no_response slot holder refl (new_well p.image.main 0 0 (stack_end slot) slot main_priority)) (under n L d.sends) (with_newborn n t (waits wait.No g) g.priority slot d.node) [] =
       newcomer p net n v (under n L d.sends) d.node [] below g no_response slot holder refl (new_well p.image.main 0 0 (stack_end slot) slot main_priority) o in
-      subst (λ (k : ℕ). Midst p net q n w L (record { node = with_newborn n (tid n k) (waits wait.No g) g.priority slot d.node; labels = d.labels ++ Born (tid n k) why.Main p.image.main 0 0 (stack_end slot) slot ∷ []; sends = d.sends; prints = d.prints }) [])
+      subst (λ (k : ℕ). Midst p net q n opening ahead w L (record { node = with_newborn n (tid n k) (waits wait.No g) g.priority slot d.node; labels = d.labels ++ Born (tid n k) why.Main p.image.main 0 0 (stack_end slot) slot ∷ []; sends = d.sends; prints = d.prints }) [])
       (ap length (sym m.here.names))
-      (labelled p net q n w L L d [] [] (Born t why.Main p.image.main 0 0 (stack_end slot) slot) _ _ d.sends d.prints m refl
-      (record { solo = ((refl, refl, zero), refl, refl); holders = holder; life = (unborn p net n v (under n L d.sends) d.node [] below g no_response slot holder refl (new_well p.image.main 0 0 (stack_end slot) slot main_priority) o, refl); replies = tt; grants = least })
+      (labelled p net q n opening ahead w (i ∷ ahead) L L d [] [] (Born t why.Main p.image.main 0 0 (stack_end slot) slot) _ _ d.sends d.prints m (ap (λ z. spots_with (update v.threads t (record { life = On n Ready; guest = z; verdict = no_response })) (at_node v.slots slot (Of_thread t)) (at_node v.births n (v.births n ++ Lives ∷ [])) v.halts v.remote) (no_bytes (stack_end slot) g))
+      (record { solo = ((refl, refl, zero), refl, plain_start slot); holders = holder; life = (unborn p net n v (under n L d.sends) d.node [] below g no_response slot holder refl (new_well p.image.main 0 0 (stack_end slot) slot main_priority) o, refl); replies = tt; grants = least })
       (sym (append-nil d.sends)) (sym (append-nil d.prints)) new.here new.there new.links new.agrees
-      (record { places = refl; booted = refl; next = is_first n (Born t why.Main p.image.main 0 0 (stack_end slot) slot) v d.labels [] first; still = refl })).midst
+      (record { places = refl; booted = refl; next = subst (λ j. IsBy n (Born t why.Main p.image.main 0 0 (stack_end slot) slot) v j) (sym says) refl; still = refl })).midst
 
   -- a thread that another one creates, which is due the new name then
   pub born_ok : (d : Doing) (by : Tid) (e a k slot : ℕ) (hs : List Busy) → (m : Is_so d (busy by (On n (Served (Create e a k))) ∷ hs)) → free_slot d.node.slots.own ≡ Some slot
@@ -400,21 +401,21 @@ module _ (p : Program) (net : Net) (q : Occasion) (n : ℕ) (w : World) (L : Lin
   born_ok d by e a k slot hs m free =
       let v : Spots = m.now.spots in
       let s : Spot = v.threads by in
-      let x : s.life ≡ On n (Served (Create e a k)) = in_hand p net q n w L d by (On n (Served (Create e a k))) hs m in
+      let x : s.life ≡ On n (Served (Create e a k)) = in_hand p net q n opening ahead w L d by (On n (Served (Create e a k))) hs m in
       let t : Tid = tid n (length (v.births n)) in
       let g : Guest = newborn e a 0 (stack_end slot) slot k in
       let r : Spot = record s { life = On n (Due (tid_value t)) } in
       let least : lowest_free n 1 v ≡ Some slot = lowest_is n 1 v d.node _ m.here ∙ free in
       let holder : v.slots slot ≡ Of_node n = least_held n v slot least in
-      let v1 : Spots = spots_with (update v.threads by r) v.slots v.births v.halts in
+      let v1 : Spots = spots_with (update v.threads by r) v.slots v.births v.halts v.remote in
       let hand : List Busy = busy by (On n (Due (tid_value t))) ∷ hs in
       let M : Links = under n L d.sends in
       let none : Response = no_response in
       let served : Holds_there p net n v1 M d.node hand = record {
         here = record {
-          threads = map_kept is_tid is-true is-refl (thread_part n) v.threads by r d.node.threads m.here.threads (thread_was p net q n w L r by (Due (tid_value t)) refl ∙ sym (thread_was p net q n w L s by (Served (Create e a k)) x));
-          rows = kept is_tid is-true is-refl listed_name (row_part n) v.threads by r (map listed d.node.places.rows) m.here.rows (row_was p net q n w L r by (Due (tid_value t)) refl ∙ sym (row_was p net q n w L s by (Served (Create e a k)) x));
-          busy = refronted is_tid is-true is-refl busy_name (busy_part n) v.threads by r hs (busy by (On n (Served (Create e a k)))) (busy by (On n (Due (tid_value t)))) m.here.busy refl refl (busy_was p net q n w L r by (On n (Due (tid_value t))) refl (eq-eqb n n refl));
+          threads = map_kept is_tid is-true is-refl (thread_part n) v.threads by r d.node.threads m.here.threads (thread_was p net q n opening ahead w L r by (Due (tid_value t)) refl ∙ sym (thread_was p net q n opening ahead w L s by (Served (Create e a k)) x));
+          rows = kept is_tid is-true is-refl listed_name (row_part n) v.threads by r (map listed d.node.places.rows) m.here.rows (row_was p net q n opening ahead w L r by (Due (tid_value t)) refl ∙ sym (row_was p net q n opening ahead w L s by (Served (Create e a k)) x));
+          busy = refronted is_tid is-true is-refl busy_name (busy_part n) v.threads by r hs (busy by (On n (Served (Create e a k)))) (busy by (On n (Due (tid_value t)))) m.here.busy refl refl (busy_was p net q n opening ahead w L r by (On n (Due (tid_value t))) refl (eq-eqb n n refl));
           names = m.here.names;
           own = m.here.own;
           halted = m.here.halted;
@@ -426,17 +427,18 @@ module _ (p : Program) (net : Net) (q : Occasion) (n : ℕ) (w : World) (L : Lin
       let new : Holds_there p net n (born_spots p net n v1 M d.node hand below g none slot holder refl (new_well e a 0 (stack_end slot) slot k)) M (with_newborn n t (waits wait.No g) g.priority slot d.node) hand = newcomer p net n v1 M d.node hand below g none slot holder refl (new_well e a 0 (stack_end slot) slot k) served in
       let fresh : (v.threads t).life ≡ Unborn = unborn_of (v.threads t).life (sym (ap phase_at (get-past (v.births n))) ∙ m.agrees.named t) in
       let same : after_label p n (Born t (why.Create by) e a 0 (stack_end slot) slot) v ≡ born_spots p net n v1 M d.node hand below g none slot holder refl (new_well e a 0 (stack_end slot) slot k) =
-      ap (λ z. spots_with (update (update v.threads by r) t (born_spot n e a 0 (stack_end slot) slot (asked_priority z))) (at_node v.slots slot (Of_thread t)) (at_node v.births n (v.births n ++ Lives ∷ [])) v.halts) x in
-      subst (λ (j : ℕ). Midst p net q n w L (record { node = with_newborn n (tid n j) (waits wait.No g) g.priority slot d.node; labels = d.labels ++ Born (tid n j) (why.Create by) e a 0 (stack_end slot) slot ∷ []; sends = d.sends; prints = d.prints }) (busy by (On n (Due (tid_value (tid n j)))) ∷ hs))
+      ap (λ z. spots_with (update (update v.threads by r) t (born_spot n [] e a 0 (stack_end slot) slot (asked_priority z))) (at_node v.slots slot (Of_thread t)) (at_node v.births n (v.births n ++ Lives ∷ [])) v.halts v.remote) x
+      ∙ ap (λ z. spots_with (update (update v.threads by r) t (record { life = On n Ready; guest = z; verdict = no_response })) (at_node v.slots slot (Of_thread t)) (at_node v.births n (v.births n ++ Lives ∷ [])) v.halts v.remote) (no_bytes (stack_end slot) g) in
+      subst (λ (j : ℕ). Midst p net q n opening ahead w L (record { node = with_newborn n (tid n j) (waits wait.No g) g.priority slot d.node; labels = d.labels ++ Born (tid n j) (why.Create by) e a 0 (stack_end slot) slot ∷ []; sends = d.sends; prints = d.prints }) (busy by (On n (Due (tid_value (tid n j)))) ∷ hs))
       (ap length (sym m.here.names))
-      (labelled p net q n w L L d _ hand (Born t (why.Create by) e a 0 (stack_end slot) slot) _ _ d.sends d.prints m same
-      (record { solo = ((k, x), refl, refl); holders = holder; life = (fresh, refl); replies = tt; grants = least })
+      (labelled p net q n opening ahead w ahead L L d _ hand (Born t (why.Create by) e a 0 (stack_end slot) slot) _ _ d.sends d.prints m same
+      (record { solo = ((k, x), refl, plain_start slot); holders = holder; life = (fresh, refl); replies = tt; grants = least })
       (sym (append-nil d.sends)) (sym (append-nil d.prints)) new.here new.there new.links new.agrees
       (record {
         places = ap (λ z. arrived t (asked_priority z) d.node.places) (sym x);
         booted = refl;
-        next = is_next n (Born t (why.Create by) e a 0 (stack_end slot) slot) v d.labels (Does (Its by) ∷ map busy_item hs) (refl, ap (is_busy n) x ∙ eq-eqb n n refl);
-        still = sym (ap (λ z. cond (is_busy n z) (Does (Its by) ∷ []) [] ++ map busy_item hs) (ap (λ (z : Spots). (z.threads by).life) same ∙ at_by t r v (record { life = On n Ready; guest = g; verdict = none }) x fresh) ∙ (rw (eq-eqb n n refl) refl));
+        next = (refl, ap (is_busy n) x ∙ eq-eqb n n refl);
+        still = sym (ap (λ z. cond (is_busy n z) (Does (Its by) ∷ []) [] ++ doing hs ahead) (ap (λ (z : Spots). (z.threads by).life) same ∙ at_by t r v (record { life = On n Ready; guest = g; verdict = none }) x fresh) ∙ (rw (eq-eqb n n refl) refl));
       })).midst
     where
       at_by : (t : Tid) (r : Spot) (v : Spots) (s : Spot) → (v.threads by).life ≡ On n (Served (Create e a k)) → (v.threads t).life ≡ Unborn → (update (update v.threads by r) t s by).life ≡ r.life

@@ -14,7 +14,7 @@ use Rattle.run_trace.specs.Names.{is_tid}
 use Rattle.run_trace.specs.Program.{Program}
 use Rattle.run_trace.specs.Local.{Local, Doing}
 use Rattle.run_trace.specs.Cluster.{Net}
-use Rattle.run_trace.specs.Spots.{Stays, Life, Awaits, Unborn, On, Spot, Spots, Holder, update, after_label, after_labels}
+use Rattle.run_trace.specs.Spots.{Stays, Life, Awaits, Unborn, On, Spot, Remote, Spots, Holder, update, after_label, after_labels}
 use Rattle.run_trace.specs.Rules.{Occasion, saying, Rule, SoloRule, HoldersRule, LifeRule, RepliesRule, GrantsRule, is_free}
 use Rattle.run_trace.specs.World.{World, world_after}
 use Rattle.trace_laws.specs.Obeys.{ObeyEach, all_causes}
@@ -58,36 +58,33 @@ abbrev pub to_do_after_all : Program → ℕ → List Label → Spots → List I
 to_do_after_all p n [] w to_do = to_do
 to_do_after_all p n (l ∷ ls) w to_do = to_do_after_all p n ls (after_label p n l w) (to_do_after p n l w to_do)
 
--- each label but the first is of the first thread that the event was busy with
+-- each label is what is to be done next
 abbrev pub NextAll : Program → ℕ → List Label → Spots → List Item → Type 0
-NextAll p n [] w hand = ⊤
-NextAll p n (l ∷ ls) w hand = IsNext n l w hand × NextAll p n ls (after_label p n l w) (to_do_after p n l w hand)
+NextAll p n [] w to_do = ⊤
+NextAll p n (l ∷ ls) w to_do = IsNext n l w to_do × NextAll p n ls (after_label p n l w) (to_do_after p n l w to_do)
 
-abbrev pub AreNext : Program → ℕ → List Label → Spots → Type 0
-AreNext p n [] w = ⊤
-AreNext p n (l ∷ ls) w = NextAll p n ls (after_label p n l w) (to_do_after p n l w [])
+-- what there is to do: for those with whom the event is busy, and then what is left of what it began with
+abbrev pub doing : List Busy → List Item → List Item
+doing hand ahead = map busy_item hand ++ ahead
 
--- beside the spots: the run list, whom the event is busy with, and that the node has begun
-pub record Aside (p : Program) (n : ℕ) (w : Spots) (before now : Local) (labels : List Label) (hand : List Busy) : Type 0 where
+-- beside the spots: the run list, what there is still to do, and that the node has begun
+pub record Aside (p : Program) (n : ℕ) (opening ahead : List Item) (w : Spots) (before now : Local) (labels : List Label) (hand : List Busy) : Type 0 where
   pub places : now.places ≡ places_after_all p n labels w before.places
-  pub still : map busy_item hand ≡ to_do_after_all p n labels w []
-  pub next : AreNext p n labels w
+  pub still : doing hand ahead ≡ to_do_after_all p n labels w opening
+  pub next : NextAll p n labels w opening
   pub rising : IsRising now.places
   pub booted : before.booted ≡ true → now.booted ≡ true
 
--- the same of one more label
-abbrev pub IsFirstOrNext : ℕ → Label → Spots → List Label → List Item → Type 0
-IsFirstOrNext n l v [] hand = ⊤
-IsFirstOrNext n l v (x ∷ xs) hand = IsNext n l v hand
-
-pub record Beside (p : Program) (n : ℕ) (v : Spots) (l : Label) (labels : List Label) (old now : Local) (hand more : List Busy) : Type 0 where
+-- the same of one more label, before which this was ahead
+pub record Beside (p : Program) (n : ℕ) (v : Spots) (l : Label) (due ahead : List Item) (old now : Local) (hand more : List Busy) : Type 0 where
   pub places : now.places ≡ places_after l v old.places
-  pub still : map busy_item more ≡ to_do_after p n l v (map busy_item hand)
-  pub next : IsFirstOrNext n l v labels (map busy_item hand)
+  pub still : doing more ahead ≡ to_do_after p n l v (doing hand due)
+  pub next : IsNext n l v (doing hand due)
   pub booted : now.booted ≡ old.booted
 
--- the event on node n, of the world w before it, has come to d, is busy with hand, and has told now; L are the links without what it sent
-pub record Midst (p : Program) (net : Net) (q : Occasion) (n : ℕ) (w : World) (L : Links) (d : Doing) (hand : List Busy) : Type 0 where
+-- the event on node n, of the world w before it, has come to d and has told now; it is busy with hand, and then what is ahead is left
+-- to do, of all that it began with; L are the links without what it sent
+pub record Midst (p : Program) (net : Net) (q : Occasion) (n : ℕ) (opening ahead : List Item) (w : World) (L : Links) (d : Doing) (hand : List Busy) : Type 0 where
   pub now : World
   pub told : now ≡ record w { spots = after_labels p n d.labels w.spots }
   pub allowed : Obeyed p q n d.labels w
@@ -97,11 +94,11 @@ pub record Midst (p : Program) (net : Net) (q : Occasion) (n : ℕ) (w : World) 
   pub there : (k : ℕ) → eqb n k ≡ false → Here k now.spots (net.nodes k) []
   pub links : (i j : ℕ) → LinkStands i j (under n L d.sends i j) now.spots.threads
   pub agrees : Agrees p now.spots
-  pub aside : Aside p n w.spots (net.nodes n) d.node d.labels hand
+  pub aside : Aside p n opening ahead w.spots (net.nodes n) d.node d.labels hand
 
 -- the same after one more label, of a world that was told
-pub record Then (p : Program) (net : Net) (q : Occasion) (n : ℕ) (w : World) (L : Links) (v : World) (l : Label) (d : Doing) (hand : List Busy) : Type 0 where
-  pub midst : Midst p net q n w L d hand
+pub record Then (p : Program) (net : Net) (q : Occasion) (n : ℕ) (opening ahead : List Item) (w : World) (L : Links) (v : World) (l : Label) (d : Doing) (hand : List Busy) : Type 0 where
+  pub midst : Midst p net q n opening ahead w L d hand
   pub now : midst.now ≡ world_after p n l v
 
 -- ## One more label
@@ -130,50 +127,39 @@ places_append : (p : Program) (n : ℕ) (ls : List Label) (l : Label) (w : Spots
 places_append p n [] l w s = refl
 places_append p n (x ∷ ls) l w s = places_append p n ls l (after_label p n x w) (places_after x w s)
 
-hand_append : (p : Program) (n : ℕ) (ls : List Label) (l : Label) (w : Spots) (hand : List Item) → to_do_after_all p n (ls ++ l ∷ []) w hand ≡ to_do_after p n l (after_labels p n ls w) (to_do_after_all p n ls w hand)
-hand_append p n [] l w hand = refl
-hand_append p n (x ∷ ls) l w hand = hand_append p n ls l (after_label p n x w) (to_do_after p n x w hand)
+to_do_append : (p : Program) (n : ℕ) (ls : List Label) (l : Label) (w : Spots) (to_do : List Item) → to_do_after_all p n (ls ++ l ∷ []) w to_do ≡ to_do_after p n l (after_labels p n ls w) (to_do_after_all p n ls w to_do)
+to_do_append p n [] l w to_do = refl
+to_do_append p n (x ∷ ls) l w to_do = to_do_append p n ls l (after_label p n x w) (to_do_after p n x w to_do)
 
-next_all_append : (p : Program) (n : ℕ) (ls : List Label) (l : Label) (w : Spots) (hand : List Item) → NextAll p n ls w hand → IsNext n l (after_labels p n ls w) (to_do_after_all p n ls w hand) → NextAll p n (ls ++ l ∷ []) w hand
-next_all_append p n [] l w hand a k = (k, tt)
-next_all_append p n (x ∷ ls) l w hand a k = (a.0, next_all_append p n ls l (after_label p n x w) (to_do_after p n x w hand) a.1 k)
+next_append : (p : Program) (n : ℕ) (ls : List Label) (l : Label) (w : Spots) (to_do : List Item) → NextAll p n ls w to_do → IsNext n l (after_labels p n ls w) (to_do_after_all p n ls w to_do) → NextAll p n (ls ++ l ∷ []) w to_do
+next_append p n [] l w to_do a k = (k, tt)
+next_append p n (x ∷ ls) l w to_do a k = (a.0, next_append p n ls l (after_label p n x w) (to_do_after p n x w to_do) a.1 k)
 
-next_append : (p : Program) (n : ℕ) (ls : List Label) (l : Label) (w : Spots) → AreNext p n ls w → IsFirstOrNext n l (after_labels p n ls w) ls (to_do_after_all p n ls w []) → AreNext p n (ls ++ l ∷ []) w
-next_append p n [] l w a k = tt
-next_append p n (x ∷ ls) l w a k = next_all_append p n ls l (after_label p n x w) (to_do_after p n x w []) a k
-
-aside_append : (p : Program) (n : ℕ) (w : Spots) (before old now : Local) (labels : List Label) (l : Label) (hand more : List Busy)
-    → Aside p n w before old labels hand → Beside p n (after_labels p n labels w) l labels old now hand more → Aside p n w before now (labels ++ l ∷ []) more
-aside_append p n w before old now labels l hand more a b = record {
+aside_append : (p : Program) (n : ℕ) (opening due ahead : List Item) (w : Spots) (before old now : Local) (labels : List Label) (l : Label) (hand more : List Busy)
+    → Aside p n opening due w before old labels hand → Beside p n (after_labels p n labels w) l due ahead old now hand more → Aside p n opening ahead w before now (labels ++ l ∷ []) more
+aside_append p n opening due ahead w before old now labels l hand more a b = record {
   places = b.places ∙ ap (places_after l (after_labels p n labels w)) a.places ∙ sym (places_append p n labels l w before.places);
-  still = b.still ∙ ap (to_do_after p n l (after_labels p n labels w)) a.still ∙ sym (hand_append p n labels l w []);
-  next = next_append p n labels l w a.next (subst (λ h. IsFirstOrNext n l (after_labels p n labels w) labels h) a.still b.next);
+  still = b.still ∙ ap (to_do_after p n l (after_labels p n labels w)) a.still ∙ sym (to_do_append p n labels l w opening);
+  next = next_append p n labels l w opening a.next (subst (λ h. IsNext n l (after_labels p n labels w) h) a.still b.next);
   rising = subst (λ z. IsRising z) (sym b.places) (rising_after l (after_labels p n labels w) old.places a.rising);
   booted = λ h. b.booted ∙ a.booted h;
 }
 
--- a label of the thread t, which comes to a new life: the event is busy with it, or goes on with the all_but_first
-pub record Own (n : ℕ) (l : Label) (t : Tid) (v : Spots) (labels : List Label) (hand more : List Busy) (new : Life) : Type 0 where
+-- a label of the thread t, which comes to a new life: the event is busy with it, or goes on with what is left to do
+pub record Own (n : ℕ) (l : Label) (t : Tid) (v : Spots) (due ahead : List Item) (hand more : List Busy) (new : Life) : Type 0 where
   pub heir : goes_on_with l v ≡ Thread t ∷ []
-  pub next : IsFirstOrNext n l v labels (map busy_item hand)
-  pub still : map busy_item more ≡ cond (is_busy n new) (Does (Thread t) ∷ []) [] ++ all_but_first (map busy_item hand)
+  pub next : IsNext n l v (doing hand due)
+  pub still : doing more ahead ≡ cond (is_busy n new) (Does (Thread t) ∷ []) [] ++ all_but_first (doing hand due)
 
-pub beside : (p : Program) (n : ℕ) (v : Spots) (l : Label) (t : Tid) (labels : List Label) (old now : Local) (hand more : List Busy) (new : Life)
-    → Own n l t v labels hand more new → ((after_label p n l v).threads t).life ≡ new → now.places ≡ places_after l v old.places → now.booted ≡ old.booted
-    → Beside p n v l labels old now hand more
-beside p n v l t labels old now hand more new o life places booted = record {
+pub beside : (p : Program) (n : ℕ) (v : Spots) (l : Label) (t : Tid) (due ahead : List Item) (old now : Local) (hand more : List Busy) (new : Life)
+    → Own n l t v due ahead hand more new → ((after_label p n l v).threads t).life ≡ new → now.places ≡ places_after l v old.places → now.booted ≡ old.booted
+    → Beside p n v l due ahead old now hand more
+beside p n v l t due ahead old now hand more new o life places booted = record {
   places = places;
   booted = booted;
   next = o.next;
-  still = o.still ∙ ap (λ z. cond (is_busy n z) (Does (Thread t) ∷ []) [] ++ all_but_first (map busy_item hand)) (sym life) ∙ ap (λ z. busy_among n z (after_label p n l v) ++ all_but_first (map busy_item hand)) (sym o.heir);
+  still = o.still ∙ ap (λ z. cond (is_busy n z) (Does (Thread t) ∷ []) [] ++ all_but_first (doing hand due)) (sym life) ∙ ap (λ z. busy_among n z (after_label p n l v) ++ all_but_first (doing hand due)) (sym o.heir);
 }
-
-pub is_next : (n : ℕ) (l : Label) (v : Spots) (labels : List Label) (hand : List Item) → IsNext n l v hand → IsFirstOrNext n l v labels hand
-is_next n l v [] hand k = tt
-is_next n l v (x ∷ xs) hand k = k
-
-pub is_first : (n : ℕ) (l : Label) (v : Spots) (labels : List Label) (hand : List Item) → labels ≡ [] → IsFirstOrNext n l v labels hand
-is_first n l v labels hand e = subst (λ ls. IsFirstOrNext n l v ls hand) (sym e) tt
 
 -- ## Spots of other nodes
 
@@ -183,11 +169,11 @@ pub record Frame (k : ℕ) (t : Tid) (r s : Spot) : Type 0 where
   pub row : row_part k t s ≡ row_part k t r
   pub busy : busy_part k t s ≡ busy_part k t r
 
-abbrev pub spots_with : (Tid → Spot) → (ℕ → Holder) → (ℕ → List Birth) → (ℕ → Bool) → Spots
-spots_with threads slots births halts = record { threads = threads; slots = slots; births = births; halts = halts }
+abbrev pub spots_with : (Tid → Spot) → (ℕ → Holder) → (ℕ → List Birth) → (ℕ → Bool) → Remote → Spots
+spots_with threads slots births halts remote = record { threads = threads; slots = slots; births = births; halts = halts; remote = remote }
 
-pub here_kept : (k : ℕ) (w : Spots) (t : Tid) (s : Spot) (f : ℕ → Holder) (b : ℕ → List Birth) (h : ℕ → Bool) (st : Local) (hand : List Busy) → Here k w st hand → Frame k t (w.threads t) s
-    → b k ≡ w.births k → ((x : ℕ) → is_free k (f x) ≡ is_free k (w.slots x)) → h k ≡ w.halts k → Here k (spots_with (update w.threads t s) f b h) st hand
+pub here_kept : {remote : Remote} (k : ℕ) (w : Spots) (t : Tid) (s : Spot) (f : ℕ → Holder) (b : ℕ → List Birth) (h : ℕ → Bool) (st : Local) (hand : List Busy) → Here k w st hand → Frame k t (w.threads t) s
+    → b k ≡ w.births k → ((x : ℕ) → is_free k (f x) ≡ is_free k (w.slots x)) → h k ≡ w.halts k → Here k (spots_with (update w.threads t s) f b h remote) st hand
 here_kept k w t s f b h st hand m frame births slots halts = record {
   threads = map_kept is_tid is-true is-refl (thread_part k) w.threads t s st.threads m.threads frame.thread;
   rows = kept is_tid is-true is-refl listed_name (row_part k) w.threads t s (map listed st.places.rows) m.rows frame.row;
@@ -326,7 +312,7 @@ pub keeps : (old new : Option Holding) → new ≡ old → Keeps old new
 keeps old new e = record { slots = ap slots_held e; well = λ h. subst (λ x. IsWellHeld x) (sym e) h }
 
 -- a thread that keeps its phase and its slots, and that no record names as a joiner
-pub agrees_kept : (p : Program) (w : Spots) (t : Tid) (s : Spot) (h : ℕ → Bool) → Agrees p w
+pub agrees_kept : {remote : Remote} (p : Program) (w : Spots) (t : Tid) (s : Spot) (h : ℕ → Bool) → Agrees p w
     → phase_of s.life ≡ phase_of (w.threads t).life
     → ((u : Tid) (m : ℕ) → (w.threads t).life ≡ On m (Awaits u) → ⊥)
     → Keeps (held (w.threads t).life (w.threads t).guest) (held s.life s.guest)
@@ -334,7 +320,7 @@ pub agrees_kept : (p : Program) (w : Spots) (t : Tid) (s : Spot) (h : ℕ → Bo
     → ((u : Tid) (m : ℕ) → s.life ≡ On m (Awaits u) → ⊥)
     → ((m : ℕ) → s.life ≡ On m Stays → h m ≡ true)
     → ((m : ℕ) → w.halts m ≡ true → h m ≡ true)
-    → Agrees p (spots_with (update w.threads t s) w.slots w.births h)
+    → Agrees p (spots_with (update w.threads t s) w.slots w.births h remote)
 agrees_kept p w t s h a phase quiet kept born idle stay more = record {
   waits = λ u by at e. elim (is_tid t by) as (λ v. (cond v s (w.threads by)).life ≡ On at (Awaits u) → slice_get (w.births u.home) u.seq ≡ Some (Awaited by at)) [ true ↦ λ f. absurd (idle u at f) | false ↦ λ f. a.waits u by at f ] e;
   stays = λ u m e. elim (is_tid t u) as (λ v. (cond v s (w.threads u)).life ≡ On m Stays → h m ≡ true) [ true ↦ λ f. stay m f | false ↦ λ f. more m (a.stays u m f) ] e;
@@ -362,18 +348,18 @@ agrees_kept p w t s h a phase quiet kept born idle stay more = record {
 
 -- ## The one lemma for a label
 
-module _ (p : Program) (net : Net) (q : Occasion) (n : ℕ) (w : World) where
-  -- a label, with what goes with it
-  pub labelled : (L M : Links) (d : Doing) (hand more : List Busy) (l : Label) (v : Spots) (now : Local) (sends : List Send) (prints : List ℕ)
-      → (m : Midst p net q n w L d hand) → after_label p n l m.now.spots ≡ v → Allows p (having_said d.labels q) n l m.now
+module _ (p : Program) (net : Net) (q : Occasion) (n : ℕ) (opening ahead : List Item) (w : World) where
+  -- a label, with what goes with it, before which this was ahead
+  pub labelled : (due : List Item) (L M : Links) (d : Doing) (hand more : List Busy) (l : Label) (v : Spots) (now : Local) (sends : List Send) (prints : List ℕ)
+      → (m : Midst p net q n opening due w L d hand) → after_label p n l m.now.spots ≡ v → Allows p (having_said d.labels q) n l m.now
       → sends ≡ d.sends ++ causes p n l m.now.spots → prints ≡ d.prints ++ shown_by l m.now.spots
       → Here n v now more
       → ((k : ℕ) → eqb n k ≡ false → Here k v (net.nodes k) [])
       → ((i j : ℕ) → LinkStands i j (under n M sends i j) v.threads)
       → Agrees p v
-      → Beside p n m.now.spots l d.labels d.node now hand more
-      → Then p net q n w M m.now l (record { node = now; labels = d.labels ++ l ∷ []; sends = sends; prints = prints }) more
-  labelled L M d hand more l v now sends prints m same ok sent shown here there links agrees aside =
+      → Beside p n m.now.spots l due ahead d.node now hand more
+      → Then p net q n opening ahead w M m.now l (record { node = now; labels = d.labels ++ l ∷ []; sends = sends; prints = prints }) more
+  labelled due L M d hand more l v now sends prints m same ok sent shown here there links agrees aside =
       let told : m.now ≡ record w { spots = after_labels p n d.labels w.spots } = m.told in
       let spots : m.now.spots ≡ after_labels p n d.labels w.spots = ap (λ (z : World). z.spots) told in
       let may : Allows p (having_said d.labels q) n l (record w { spots = after_labels p n d.labels w.spots }) = subst (λ z. Allows p (having_said d.labels q) n l z) told ok in
@@ -395,6 +381,6 @@ module _ (p : Program) (net : Net) (q : Occasion) (n : ℕ) (w : World) where
           there = there;
           links = links;
           agrees = agrees;
-          aside = aside_append p n w.spots (net.nodes n) d.node now d.labels l hand more m.aside (subst (λ z. Beside p n z l d.labels d.node now hand more) spots aside);
+          aside = aside_append p n opening due ahead w.spots (net.nodes n) d.node now d.labels l hand more m.aside (subst (λ z. Beside p n z l due ahead d.node now hand more) spots aside);
         };
       }

@@ -20,6 +20,7 @@ use Rattle.run_trace.specs.Rules.{Occasion, MayJudge, MayTell, MayHear, MayGive,
 use Rattle.run_trace.specs.World.{World}
 use Rattle.run_trace.specs.Items.{Thread, is_busy, doer}
 use Rattle.run_trace.specs.Obeying.{Allows}
+use Rattle.trace_laws.proofs.Births.{plain_start}
 
 -- ## The label
 
@@ -139,7 +140,7 @@ module _ (p : Program) (q : Occasion) (n : ℕ) (world : World) where
   own_next (Born u (why.Create by) entry a0 a1 sp slot) t e a b =
       let same : by ≡ t = cc e in
       let life : (w.threads t).life ≡ On n (Served (Create entry a0 a.solo.0.0)) = ap (λ z. (w.threads z).life) (sym same) ∙ a.solo.0.1 in
-      rw life (rw a.grants (cc (a.life.1, same, a.solo.1, a.solo.2)))
+      rw life (rw a.grants (cc (a.life.1, same, a.solo.1, a.solo.2 ∙ sym (plain_start slot))))
   own_next (Born u (why.Inside by number) entry a0 a1 sp slot) t e a b = absurd a.solo.0
   own_next (Born u (why.Service by number) entry a0 a1 sp slot) t e a b = absurd a.solo.0
   own_next (Ran u vp count stop) t e a b = let same : u ≡ t = cc e in absurd (not_ready n (w.threads t).life (ap (λ z. (w.threads z).life) (sym same) ∙ a.life) b)

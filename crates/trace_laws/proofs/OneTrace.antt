@@ -9,7 +9,7 @@ use Rattle.run_trace.specs.declared.entry.Entry.{Entry}
 use Rattle.run_trace.specs.declared.label.Label.{Label}
 use Rattle.run_trace.specs.declared.label.Label.TheVariants.{Ran}
 use Rattle.run_trace.specs.declared.packet.Packet.{Packet}
-use Rattle.run_trace.specs.Program.{Program, code_of}
+use Rattle.run_trace.specs.Program.{Program, code_of, tree_of}
 use Rattle.run_trace.specs.Guests.{Run, run_of}
 use Rattle.run_trace.specs.Rules.{Occasion, quantum_in, saying}
 use Rattle.run_trace.specs.Spots.{Spots, stepped}
@@ -62,7 +62,7 @@ one_way_on p q n (l ∷ ls) (m ∷ ms) w to_do x y =
 
 one_start : (p : Program) (stamp n : ℕ) (a : Act) (w : World) (h k : List Item) → Starts p stamp n a w h → Starts p stamp n a w k → h ≡ k
 one_start p stamp n Boot w h k x y = x ∙ sym y
-one_start p stamp n (RunThread vp q) w h k x y = x.2 ∙ ap (λ (z : Listed). Runs z.tid vp ∷ []) (one_picked x.0 y.0 (w.lists n) x.1 y.1) ∙ sym y.2
+one_start p stamp n (RunThread vp q) w h k x y = x.2 ∙ ap (λ (z : Listed). Runs z.tid vp ∷ []) (one_picked (tree_of p) vp x.0 y.0 (w.lists n) x.1 y.1) ∙ sym y.2
 one_start p stamp n (Take from) w h k x y =
     let packet : x.0 ≡ y.0 = cc (x.1, y.1) in
     x.3 ∙ ap (λ (z : Packet). for_packet n z.body) packet ∙ sym y.3

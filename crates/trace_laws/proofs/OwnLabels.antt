@@ -1,6 +1,6 @@
 -- What the labels tell of a thread is what it comes to by what it has lived through: each label keeps it.
 use Rattle.std.proofs.Common.{◌≡◌, ℕ, zero, suc, ◌+◌, ◌*◌, ◌/◌, ◌<◌, ◌⊎◌, List, [], ◌∷◌, ◌++◌, Option, Some, None, Bool, true, false, eqb, cond, refl, sym, ap, ◌∙◌, subst, arith, inl, inr}
-use Rattle.std.specs.Prelude.{slice_get, unwrap_or}
+use Rattle.std.specs.Prelude.{length, slice_get, unwrap_or}
 use Rattle.std.specs.Option.{option_and_then, option_map}
 use Rattle.std.proofs.lemmas.List.{append-nil}
 use Rattle.std.proofs.lemmas.Bool.Decides.{nat_tests}
@@ -32,15 +32,15 @@ use Rattle.run_trace.specs.declared.label.Why.{Why}
 use Rattle.run_trace.specs.declared.label.Why.TheVariants as why
 use Rattle.run_trace.specs.Names.{is_tid}
 use Rattle.run_trace.specs.Program.{Program, code_of}
-use Rattle.run_trace.specs.Guests.{Solo, Guest, newborn, stack_end, with_zero_slots, without_slots, takes_slots, gives_slots, heap_of}
+use Rattle.run_trace.specs.Guests.{Solo, Guest, newborn, stack_start, with_bytes, with_zero_slots, without_slots, takes_slots, gives_slots, heap_of}
 use Rattle.run_trace.specs.Calls.{place_code, call_of, refusal}
 use Rattle.run_trace.specs.Console.{asked_bytes}
-use Rattle.run_trace.specs.Same.{Start, Stretch, Lived, lived_then, written_then}
+use Rattle.run_trace.specs.Same.{Start, Stretch, Lived, unlived, lived_then, written_then}
 use Rattle.run_trace.specs.Items.{subject}
 use Rattle.run_trace.specs.Alone.{is_about}
 use Rattle.run_trace.specs.World.{World}
 use Rattle.run_trace.specs.Rules.{IsBorn, MayHear, MayJudge, MayTell, MayTake, MayGive, MayLeave, MayCome, MayShow, MayKnow, JoinerAwaits, IsReply, SoloRule, LifeRule, RepliesRule, Occasion, quantum_in}
-use Rattle.run_trace.specs.Spots.{Stage, Ready, Running, Due, Served, Told_next, Told_then, Departs, Ends, Leaves, Halts, Stays, Shows, Showing, Shown_there, Asks, Awaits, Answers, Answered, Life, Unborn, On, Moving, Noting, Gone, Response, Spot, Spots, creator_served, priority_by, joiner_served, born_spot, ran_spot, ran_stage, stepped, passed_stage, asked_stage, stage_of_call, heard_life, heard_at, judged_life, judged_guest, told_stage, gave_life, shown_life, end_in, told_guest, after_label}
+use Rattle.run_trace.specs.Spots.{Stage, Ready, Running, Due, Served, Told_next, Told_then, Departs, Ends, Leaves, Halts, Stays, Shows, Showing, Shown_there, Asks, Awaits, Answers, Answered, Life, Unborn, On, Moving, Noting, Gone, Response, Spot, Spots, stack_bytes, creator_served, priority_by, joiner_served, born_spot, ran_spot, ran_stage, stepped, passed_stage, asked_stage, stage_of_call, heard_life, heard_at, judged_life, judged_guest, told_stage, gave_life, shown_life, end_in, told_guest, after_label}
 use Rattle.trace_laws.proofs.Tids.{is-true}
 use Rattle.trace_laws.proofs.Heaps.{gave_all}
 use Rattle.trace_laws.proofs.OwnLives.{exit_value, ends_as, end_at, began, with_slots, free_of, is_address, allotted, given_to, goes_on, ran_on, answered_with, solo_after, printed_by, printed_at, named_line, lines_after, EachCalls}
@@ -213,13 +213,14 @@ with_life image s life lines more a k f = record { calls = k.calls; life = f k.l
 
 -- ## Each of its labels
 
-own_born : (image : List ℕ) (n entry a0 a1 sp slot priority : ℕ) (s : Spot) (lines : List (List ℕ)) (a : Lived)
-    → s.life ≡ Unborn → a1 ≡ 0 → sp ≡ stack_end slot → Tale image s lines a
-    → Tale image (born_spot n entry a0 a1 sp slot priority) lines (lived_then (Born (record { home = 0; seq = 0 }) why.Main entry a0 a1 sp slot) a)
-own_born image n entry a0 a1 sp slot priority s lines a e second end k =
+own_born : (image : List ℕ) (n : ℕ) (bytes : List ℕ) (entry a0 a1 sp slot priority : ℕ) (s : Spot) (lines : List (List ℕ)) (a : Lived)
+    → s.life ≡ Unborn → a1 ≡ length bytes → sp ≡ stack_start slot (length bytes) → Tale image s lines a
+    → Tale image (born_spot n bytes entry a0 a1 sp slot priority) lines (record unlived { start = record { entry = entry; argument = a0; stack = slot; bytes = bytes } })
+own_born image n bytes entry a0 a1 sp slot priority s lines a e second end k =
     let none : (lines ≡ []) × (a.stretches ≡ []) = subst (λ z. LifeTale image z s.guest.solo s.verdict lines a) e k.life in
-    let start : Start = record { entry = entry; argument = a0; stack = slot } in
-    let same : (newborn entry a0 a1 sp slot 0).solo ≡ began start = ap (λ z. (newborn entry a0 z sp slot 0).solo) second ∙ ap (λ z. (newborn entry a0 0 z slot 0).solo) end in
+    let start : Start = record { entry = entry; argument = a0; stack = slot; bytes = bytes } in
+    let same : (with_bytes sp bytes (newborn entry a0 a1 sp slot 0)).solo ≡ began start =
+    ap (λ z. (with_bytes sp bytes (newborn entry a0 z sp slot 0)).solo) second ∙ ap (λ z. (with_bytes z bytes (newborn entry a0 (length bytes) z slot 0)).solo) end in
     record {
       calls = tt;
       life = record {
@@ -556,10 +557,10 @@ module _ (p : Program) (t : Tid) where
   -- each label keeps it
   pub label_tale : (on : Occasion) (n : ℕ) (l : Label) (w : World) (lines : List (List ℕ)) (a : Lived) → SoloRule p on n l w → LifeRule p on n l w → RepliesRule p on n l w
       → Told_of (w.spots.threads t) lines a
-      → Told_of ((after_label p n l w.spots).threads t) (written_then t l w.spots lines) (cond (is_about t (subject l)) (lived_then l a) a)
+      → Told_of ((after_label p n l w.spots).threads t) (written_then t l w.spots lines) (cond (is_about t (subject l)) (lived_then w.spots.remote l a) a)
   label_tale on n (Born u why entry a0 a1 sp slot) w lines a solo life replies k =
-      elim (is_tid u t) as (λ v. is_tid u t ≡ v → Told_of (cond v (born_spot n entry a0 a1 sp slot (priority_by w.spots.threads why)) (creator_served n u why w.spots.threads t)) lines (cond v (lived_then (Born u why entry a0 a1 sp slot) a) a)) [
-        | true ↦ λ e. own_born (code_of p) n entry a0 a1 sp slot (priority_by w.spots.threads why) (w.spots.threads t) lines a (subst (λ z. (w.spots.threads z).life ≡ Unborn) (is-true u t e) life.0) solo.1 solo.2 k
+      elim (is_tid u t) as (λ v. is_tid u t ≡ v → Told_of (cond v (born_spot n (stack_bytes why w.spots.remote) entry a0 a1 sp slot (priority_by w.spots.threads why)) (creator_served n u why w.spots.threads t)) lines (cond v (lived_then w.spots.remote (Born u why entry a0 a1 sp slot) a) a)) [
+        | true ↦ λ e. own_born (code_of p) n (stack_bytes why w.spots.remote) entry a0 a1 sp slot (priority_by w.spots.threads why) (w.spots.threads t) lines a (subst (λ z. (w.spots.threads z).life ≡ Unborn) (is-true u t e) life.0) solo.1 solo.2 k
         | false ↦ λ e. creator n u why entry a0 w.spots lines a solo.0 k
       ] refl
   label_tale on n (Ran u vp count stop) w lines a solo life replies k = quietly w.spots.threads u _ lines a _ (λ z. own_ran p n count (quantum_in on.act) stop (w.spots.threads u) lines a life solo.0 solo.1 z) k

@@ -1,7 +1,7 @@
 -- A thread's life by what it was given alone: what it comes to with these slots and replies, and what it writes. Two lives
 -- with the same gifts and as many instructions are one.
 use Rattle.std.proofs.Common.{◌≡◌, ℕ, suc, ◌+◌, List, [], ◌∷◌, ◌++◌, Some, Bool, true, false, refl, sym, ap, ◌∙◌, subst, arith, map}
-use Rattle.std.specs.Prelude.{nat_lt, ◌==◌, if◌then◌else◌, ⊤}
+use Rattle.std.specs.Prelude.{length, nat_lt, ◌==◌, if◌then◌else◌, ⊤}
 use Rattle.rv_step.specs.Access.{bytes_from}
 use Rattle.rv_step.specs.Step.{State, Outcome, Call as ecall, Fault, step_of}
 use Rattle.rv_step.specs.Run.{after}
@@ -15,7 +15,7 @@ use Rattle.marcel_core.specs.declared.end.End.{End}
 use Rattle.marcel_core.specs.declared.end.End.TheVariants as end_of
 use Rattle.run_trace.specs.declared.label.Extra.{Extra}
 use Rattle.run_trace.specs.Calls.{call_of}
-use Rattle.run_trace.specs.Guests.{Solo, Run, newborn, stack_end, run_of, with_zero_slots, without_slots, heap_of}
+use Rattle.run_trace.specs.Guests.{Solo, Run, newborn, stack_start, with_bytes, run_of, with_zero_slots, without_slots, heap_of}
 use Rattle.run_trace.specs.Same.{Start, Gift, Stretch, Lived, HasLivedLike, instructions_of}
 use Rattle.run_trace.specs.Spots.{stepped, second_of}
 use Rattle.trace_laws.proofs.RunLemmas.{run_is}
@@ -23,7 +23,9 @@ use Rattle.trace_laws.proofs.RunLemmas.{run_is}
 -- ## What it comes to
 
 abbrev pub began : Start → Solo
-began s = (newborn s.entry s.argument 0 (stack_end s.stack) s.stack 0).solo
+began s =
+    let sp : ℕ = stack_start s.stack (length s.bytes) in
+    (with_bytes sp s.bytes (newborn s.entry s.argument (length s.bytes) sp s.stack 0)).solo
 
 abbrev pub with_slots : List ℕ → Solo → Solo
 with_slots slots x = record x { state = record x.state { memory = with_zero_slots slots x.state.memory } }

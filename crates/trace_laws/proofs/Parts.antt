@@ -21,7 +21,7 @@ use Rattle.run_trace.specs.Items.{is_busy}
 -- ## Rows
 
 row_ready : (n : ℕ) (t : Tid) (stage : Stage) (priority : ℕ) (y : Listed) → is_busy n (On n stage) ≡ false → row_in_stage t stage priority ≡ Some y → (stage ≡ Ready) × (priority ≡ y.priority)
-row_ready n t Ready priority y i h = let e : record { tid = t; priority = priority } ≡ y = cc h in (refl, ap (λ (x : Listed). x.priority) e)
+row_ready n t Ready priority y i h = let e : record { tid = t; list = 0; priority = priority } ≡ y = cc h in (refl, ap (λ (x : Listed). x.priority) e)
 row_ready n t (Departs to) priority y i h = absurd (cc (i, eq-eqb n n refl))
 row_ready n t stage priority y i h = grind (arith, h)
 
@@ -69,7 +69,7 @@ listed_without t [] = refl
 listed_without t (r ∷ rs) = elim (is_tid t r.tid) as (λ v. map listed (cond v rs (r ∷ without_row t rs)) ≡ cond v (map listed rs) (listed r ∷ without is_tid is-true is-refl listed_name (map listed rs) t))
     [ true ↦ refl | false ↦ ap (λ xs. listed r ∷ xs) (listed_without t rs) ]
 
-pub listed_arrived : (t : Tid) (priority : ℕ) (s : Places) → map listed (arrived t priority s).rows ≡ map listed s.rows ++ (record { tid = t; priority = priority }) ∷ []
+pub listed_arrived : (t : Tid) (priority : ℕ) (s : Places) → map listed (arrived t priority s).rows ≡ map listed s.rows ++ (record { tid = t; list = 0; priority = priority }) ∷ []
 listed_arrived t priority s = map-append listed s.rows _
 
 -- ## Hands

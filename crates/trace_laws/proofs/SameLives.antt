@@ -22,7 +22,7 @@ use Rattle.run_trace.specs.Same.{Start, Stretch, Lived, lived_then, lived_in, li
 use Rattle.run_trace.specs.Spots.{Ready, Stays, Shows, Showing, Shown_there, Asks, Awaits, Answers, Answered, Life, Unborn, On, Moving, Noting, Gone, Response, Spot, Spots, at_first, after_labels}
 use Rattle.run_trace.specs.Stands.{Stands, busy}
 use Rattle.run_trace.specs.Trace.{net_after_trace}
-use Rattle.trace_laws.proofs.Consequences.{Found, found, LivesAt}
+use Rattle.trace_laws.proofs.Consequences.{Found, found, LivesAt, remote_are}
 use Rattle.trace_laws.proofs.OwnLives.{end_at, ran_on, solo_after, named_line, lines_after, EachCalls, SamePast, same_past}
 use Rattle.trace_laws.proofs.OwnLabels.{Comes, lines_before, LifeTale, Tale, came_so, label_tale}
 use Rattle.trace_laws.proofs.Wholes.{starts, run_whole, Whole}
@@ -31,17 +31,18 @@ use Rattle.trace_laws.proofs.Wholes.{starts, run_whole, Whole}
 
 module _ (p : Program) (t : Tid) where
   labels_tale : (on : Occasion) (n : ℕ) (ls : List Label) (w : World) (lines : List (List ℕ)) (a : Lived) → ObeyEach SoloRule p on n ls w → ObeyEach LifeRule p on n ls w → ObeyEach RepliesRule p on n ls w
-      → Tale (code_of p) (w.spots.threads t) lines a → Tale (code_of p) ((after_labels p n ls w.spots).threads t) (written_in p n t ls w.spots lines) (lived_in t ls a)
+      → Tale (code_of p) (w.spots.threads t) lines a → Tale (code_of p) ((after_labels p n ls w.spots).threads t) (written_in p n t ls w.spots lines) (lived_in w.spots.remote t ls a)
   labels_tale on n [] w lines a solo life replies k = k
   labels_tale on n (l ∷ ls) w lines a solo life replies k =
-      labels_tale (saying l on) n ls (world_after p n l w) (written_then t l w.spots lines) (cond (is_about t (subject l)) (lived_then l a) a) solo.1 life.1 replies.1
+      labels_tale (saying l on) n ls (world_after p n l w) (written_then t l w.spots lines) (cond (is_about t (subject l)) (lived_then w.spots.remote l a) a) solo.1 life.1 replies.1
       (label_tale p t on n l w lines a solo.0 life.0 replies.0 k)
 
   trace_tale : (base : Net) (lines : List Entry) → Obey SoloRule p (at_first p) base lines → Obey LifeRule p (at_first p) base lines → Obey RepliesRule p (at_first p) base lines
       → Tale (code_of p) ((spots_of p (at_first p) lines).threads t) (written p t lines) (lived t lines)
   trace_tale base [] solo life replies = record { calls = tt; life = (refl, refl) }
   trace_tale base (x ∷ xs) solo life replies =
-      labels_tale (occasion x (world_at (spots_of p (at_first p) xs) (net_after_trace p base xs))) x.node x.labels (world_at (spots_of p (at_first p) xs) (net_after_trace p base xs)) (written p t xs) (lived t xs) solo.1 life.1 replies.1 (trace_tale base xs solo.0 life.0 replies.0)
+      subst (λ z. Tale (code_of p) ((spots_of p (at_first p) (x ∷ xs)).threads t) (written p t (x ∷ xs)) (lived_in z t x.labels (lived t xs))) (remote_are p xs)
+      (labels_tale (occasion x (world_at (spots_of p (at_first p) xs) (net_after_trace p base xs))) x.node x.labels (world_at (spots_of p (at_first p) xs) (net_after_trace p base xs)) (written p t xs) (lived t xs) solo.1 life.1 replies.1 (trace_tale base xs solo.0 life.0 replies.0))
 
   legal_whole : (lines : List Entry) → Legal p lines → Whole p (at_first p) (fresh_net p) lines
   legal_whole lines l = run_whole p (at_first p) (fresh_net p) (starts p) lines l.runs

@@ -30,7 +30,7 @@ use Rattle.run_trace.specs.Steps.{say, put, arrive, take_off, thread_at, at_foun
 use Rattle.run_trace.specs.Machine.{answer, settles, goes}
 use Rattle.run_trace.specs.Cluster.{Net}
 use Rattle.run_trace.specs.Keyed.{StandsFor, MapStandsFor}
-use Rattle.run_trace.specs.Spots.{Stage, Ready, Running, Due, Served, Told_next, Told_then, Departs, Halts, Stays, Shows, Asks, Awaits, Life, Unborn, On, Moving, Response, Spot, Spots, update, after_label, ran_stage, stage_of_call, second_of, judged_stage, judged_life, judged_guest, told_stage, at_node}
+use Rattle.run_trace.specs.Spots.{Stage, Ready, Running, Due, Served, Told_next, Told_then, Departs, Halts, Stays, Shows, Asks, Awaits, Life, Unborn, On, Moving, Response, Spot, Spots, update, remote_after, after_label, ran_stage, stage_of_call, second_of, judged_stage, judged_life, judged_guest, told_stage, at_node}
 use Rattle.run_trace.specs.Rules.{Occasion, quantum_in, MayTell, MayLeave, lowest_free}
 use Rattle.run_trace.specs.Console.{shown_by}
 use Rattle.run_trace.specs.Stands.{Busy, busy, busy_name, busy_part, thread_part, thread_in_life, thread_in_stage, row_part, row_in_life, row_in_stage, listed, listed_name, word_subject, word_of, way, ways_of, phase_of, held, held_in_stage, holding_of}
@@ -40,10 +40,10 @@ use Rattle.trace_laws.proofs.RunLemmas.{run_does, run_stepped, run_slots}
 use Rattle.trace_laws.proofs.Arriving.{places_after, ran_places}
 use Rattle.run_trace.specs.Causes.{causes, send_to, asked_causes, judged_causes}
 use Rattle.run_trace.specs.World.{World, world_after}
-use Rattle.run_trace.specs.Obeying.{Allows}
-use Rattle.trace_laws.proofs.Midst.{having_said, Own, beside, is_next, is_first, Links, Midst, under, LinkStands, Frame, spots_with, labelled, here_kept, agrees_kept, Plain, plain, is_plain, links_kept, Keeps, keeps, put_link, Then, updated}
+use Rattle.run_trace.specs.Obeying.{Allows, IsBy}
+use Rattle.trace_laws.proofs.Midst.{having_said, Own, beside, Links, Midst, under, LinkStands, Frame, spots_with, labelled, here_kept, agrees_kept, Plain, plain, is_plain, links_kept, Keeps, keeps, put_link, Then, updated}
 use Rattle.trace_laws.proofs.Parts.{at_hand, listed_without, listed_arrived, is_home, home_way, home_quiet, home_plain, home_busy, frame_home, away_thread, away_row, busy_none}
-use Rattle.run_trace.specs.Items.{Thread as Its, is_busy, doer, goes_on_with}
+use Rattle.run_trace.specs.Items.{Thread as Its, is_busy, doer, goes_on_with, Item, Runs, Says}
 
 -- a thread that has run is still here
 pub ran_there : (t : Tid) (vp : ℕ) (r : Run) (x : Thread) (d : Doing) → thread_at t d ≡ Some x → thread_at t (ran t vp r x d) ≡ Some (record x { guest = with_state r.state x.guest })
@@ -55,9 +55,9 @@ pub second-extra : (o : Option ℕ) → second_of (extra_of o) ≡ o
 second-extra None = refl
 second-extra (Some second) = refl
 
-module _ (p : Program) (net : Net) (q : Occasion) (n : ℕ) (w : World) (L : Links) where
+module _ (p : Program) (net : Net) (q : Occasion) (n : ℕ) (opening ahead : List Item) (w : World) (L : Links) where
   abbrev pub Is : Doing → List Busy → Type 0
-  Is d hand = Midst p net q n w L d hand
+  Is d hand = Midst p net q n opening ahead w L d hand
 
   abbrev pub spot : Spots → Tid → Spot
   spot v t = v.threads t
@@ -72,10 +72,10 @@ module _ (p : Program) (net : Net) (q : Occasion) (n : ℕ) (w : World) (L : Lin
   pub life_then : (v : Spots) (l : Label) (t : Tid) (r : Spot) (u : Spots) → after_label p n l v ≡ u → u.threads ≡ update v.threads t r → ((after_label p n l v).threads t).life ≡ r.life
   life_then v l t r u same threads = ap (λ (x : Spots). (x.threads t).life) same ∙ ap (λ f. (f t).life) threads ∙ ap (λ (z : Spot). z.life) (updated v.threads t r)
 
-  -- a label of one thread, that leaves slots, births and halts
-  pub moved : (M : Links) (d : Doing) (hand more : List Busy) (l : Label) (t : Tid) (r : Spot) (now : Local) (sends : List Send) (prints : List ℕ)
-      → (m : Is d hand)
-      → after_label p n l m.now.spots ≡ spots_with (update m.now.spots.threads t r) m.now.spots.slots m.now.spots.births m.now.spots.halts
+  -- a label of one thread, that leaves slots, births and halts; before it, this was ahead
+  pub moved : (due : List Item) (M : Links) (d : Doing) (hand more : List Busy) (l : Label) (t : Tid) (r : Spot) (now : Local) (sends : List Send) (prints : List ℕ)
+      → (m : Midst p net q n opening due w L d hand)
+      → after_label p n l m.now.spots ≡ spots_with (update m.now.spots.threads t r) m.now.spots.slots m.now.spots.births m.now.spots.halts (remote_after l m.now.spots.remote)
       → Allows p (having_said d.labels q) n l m.now
       → sends ≡ d.sends ++ causes p n l m.now.spots → prints ≡ d.prints ++ shown_by l m.now.spots
       → Ties m.now.spots t r now more
@@ -87,34 +87,34 @@ module _ (p : Program) (net : Net) (q : Occasion) (n : ℕ) (w : World) (L : Lin
       → Keeps (held (spot m.now.spots t).life (spot m.now.spots t).guest) (held r.life r.guest)
       → ((spot m.now.spots t).life ≡ Unborn → ⊥)
       → Plain r.life
-      → Own n l t m.now.spots d.labels hand more r.life → now.places ≡ places_after l m.now.spots d.node.places → now.booted ≡ d.node.booted
-      → Then p net q n w M m.now l (record { node = now; labels = d.labels ++ l ∷ []; sends = sends; prints = prints }) more
-  moved M d hand more l t r now sends prints m same ok sent shown ties names own halted frame links phase quiet slots born idle next places booted =
+      → Own n l t m.now.spots due ahead hand more r.life → now.places ≡ places_after l m.now.spots d.node.places → now.booted ≡ d.node.booted
+      → Then p net q n opening ahead w M m.now l (record { node = now; labels = d.labels ++ l ∷ []; sends = sends; prints = prints }) more
+  moved due M d hand more l t r now sends prints m same ok sent shown ties names own halted frame links phase quiet slots born idle next places booted =
       let v : Spots = m.now.spots in
-      labelled p net q n w L M d hand more l (spots_with (update v.threads t r) v.slots v.births v.halts) now sends prints m same ok sent shown
+      labelled p net q n opening ahead w due L M d hand more l (spots_with (update v.threads t r) v.slots v.births v.halts (remote_after l v.remote)) now sends prints m same ok sent shown
       (record { threads = ties.threads; rows = ties.rows; busy = ties.busy; names = names ∙ m.here.names; own = λ x. ap (λ (xs : List ℕ). has x xs) own ∙ m.here.own x; halted = halted ∙ m.here.halted })
       (λ k e. here_kept k v t r v.slots v.births v.halts (net.nodes k) [] (m.there k e) (frame k e) refl (λ x. refl) refl)
       links
       (agrees_kept p v t r v.halts m.agrees phase quiet slots born idle.waits (λ k e. absurd (idle.stays k e)) (λ k e. e))
-      (beside p n v l t d.labels d.node now hand more r.life next (life_then m.now.spots l t r _ same refl) places booted)
+      (beside p n v l t due ahead d.node now hand more r.life next (life_then m.now.spots l t r _ same refl) places booted)
 
   -- a label that leaves its thread on node n, and no packet
-  pub home_step : (d : Doing) (hand more : List Busy) (l : Label) (t : Tid) (r : Spot) (now : Local) (a b : Stage)
-      → (m : Is d hand)
-      → after_label p n l m.now.spots ≡ spots_with (update m.now.spots.threads t r) m.now.spots.slots m.now.spots.births m.now.spots.halts
+  pub home_step : (due : List Item) (d : Doing) (hand more : List Busy) (l : Label) (t : Tid) (r : Spot) (now : Local) (a b : Stage)
+      → (m : Midst p net q n opening due w L d hand)
+      → after_label p n l m.now.spots ≡ spots_with (update m.now.spots.threads t r) m.now.spots.slots m.now.spots.births m.now.spots.halts (remote_after l m.now.spots.remote)
       → Allows p (having_said d.labels q) n l m.now
       → causes p n l m.now.spots ≡ [] → shown_by l m.now.spots ≡ []
       → (spot m.now.spots t).life ≡ On n a → r.life ≡ On n b → is_home a ≡ true → is_home b ≡ true
       → Keeps (held_in_stage a (spot m.now.spots t).guest) (held_in_stage b r.guest)
       → Ties m.now.spots t r now more
       → now.names ≡ d.node.names → now.slots.own ≡ d.node.slots.own → now.halted ≡ d.node.halted
-      → Own n l t m.now.spots d.labels hand more r.life → now.places ≡ places_after l m.now.spots d.node.places → now.booted ≡ d.node.booted
-      → Then p net q n w L m.now l (record { node = now; labels = d.labels ++ l ∷ []; sends = d.sends; prints = d.prints }) more
-  home_step d hand more l t r now a b m same ok sent shown x y home_a home_b slots ties names own halted next places booted =
+      → Own n l t m.now.spots due ahead hand more r.life → now.places ≡ places_after l m.now.spots d.node.places → now.booted ≡ d.node.booted
+      → Then p net q n opening ahead w L m.now l (record { node = now; labels = d.labels ++ l ∷ []; sends = d.sends; prints = d.prints }) more
+  home_step due d hand more l t r now a b m same ok sent shown x y home_a home_b slots ties names own halted next places booted =
       let s : Spot = spot m.now.spots t in
       let old : ways_of t s.life s.verdict s.guest ≡ [] = ap (λ z. ways_of t z s.verdict s.guest) x ∙ home_way t n a s.verdict s.guest home_a in
       let new : ways_of t r.life r.verdict r.guest ≡ [] = ap (λ z. ways_of t z r.verdict r.guest) y ∙ home_way t n b r.verdict r.guest home_b in
-      moved L d hand more l t r now d.sends d.prints m same ok
+      moved due L d hand more l t r now d.sends d.prints m same ok
       (sym (append-nil d.sends) ∙ ap (λ z. d.sends ++ z) (sym sent)) (sym (append-nil d.prints) ∙ ap (λ z. d.prints ++ z) (sym shown))
       ties names own halted
       (λ k e. frame_home n k t s r a b x y home_a home_b e)
@@ -126,9 +126,9 @@ module _ (p : Program) (net : Net) (q : Occasion) (n : ℕ) (w : World) (L : Lin
       (subst (λ z. Plain z) (sym y) (home_plain n b home_b)) next places booted
 
   -- a label by which its thread, on node n, comes to wait for what a packet brings
-  pub send_step : (d : Doing) (hand more : List Busy) (l : Label) (t : Tid) (r : Spot) (now : Local) (to : ℕ) (body : Body)
-      → (m : Is d hand)
-      → after_label p n l m.now.spots ≡ spots_with (update m.now.spots.threads t r) m.now.spots.slots m.now.spots.births m.now.spots.halts
+  pub send_step : (due : List Item) (d : Doing) (hand more : List Busy) (l : Label) (t : Tid) (r : Spot) (now : Local) (to : ℕ) (body : Body)
+      → (m : Midst p net q n opening due w L d hand)
+      → after_label p n l m.now.spots ≡ spots_with (update m.now.spots.threads t r) m.now.spots.slots m.now.spots.births m.now.spots.halts (remote_after l m.now.spots.remote)
       → Allows p (having_said d.labels q) n l m.now
       → causes p n l m.now.spots ≡ send_to to body → shown_by l m.now.spots ≡ []
       → ways_of t (spot m.now.spots t).life (spot m.now.spots t).verdict (spot m.now.spots t).guest ≡ []
@@ -142,10 +142,10 @@ module _ (p : Program) (net : Net) (q : Occasion) (n : ℕ) (w : World) (L : Lin
       → Keeps (held (spot m.now.spots t).life (spot m.now.spots t).guest) (held r.life r.guest)
       → ((spot m.now.spots t).life ≡ Unborn → ⊥)
       → Plain r.life
-      → Own n l t m.now.spots d.labels hand more r.life → now.places ≡ places_after l m.now.spots d.node.places → now.booted ≡ d.node.booted
-      → Then p net q n w L m.now l (record { node = now; labels = d.labels ++ l ∷ []; sends = d.sends ++ send_to to body; prints = d.prints }) more
-  send_step d hand more l t r now to body m same ok sent shown old new name ties names own halted frame phase quiet slots born idle next places booted =
-      moved L d hand more l t r now (d.sends ++ send_to to body) d.prints m same ok
+      → Own n l t m.now.spots due ahead hand more r.life → now.places ≡ places_after l m.now.spots d.node.places → now.booted ≡ d.node.booted
+      → Then p net q n opening ahead w L m.now l (record { node = now; labels = d.labels ++ l ∷ []; sends = d.sends ++ send_to to body; prints = d.prints }) more
+  send_step due d hand more l t r now to body m same ok sent shown old new name ties names own halted frame phase quiet slots born idle next places booted =
+      moved due L d hand more l t r now (d.sends ++ send_to to body) d.prints m same ok
       (ap (λ z. d.sends ++ z) (sym sent)) (sym (append-nil d.prints) ∙ ap (λ z. d.prints ++ z) (sym shown))
       ties names own halted frame
       (λ i j. put_link n to body t r L d.sends m.now.spots.threads m.links name (new ∙ ap (λ xs. xs ++ way n to (word_of to body)) (sym old)) i j)
@@ -163,29 +163,29 @@ module _ (p : Program) (net : Net) (q : Occasion) (n : ℕ) (w : World) (L : Lin
 
   -- a label of the thread in hand, which stays there, or is let go
   pub own_stays : (d : Doing) (t : Tid) (life : Life) (hs : List Busy) (l : Label) (new next : Life) → (m : Is d (busy t life ∷ hs)) → doer l ≡ Some (Its t) → goes_on_with l m.now.spots ≡ Its t ∷ [] → is_busy n new ≡ true
-      → Own n l t m.now.spots d.labels (busy t life ∷ hs) (busy t next ∷ hs) new
+      → Own n l t m.now.spots ahead ahead (busy t life ∷ hs) (busy t next ∷ hs) new
   own_stays d t life hs l new next m by on busied = record {
     heir = on;
-    next = is_next n l m.now.spots d.labels _ (by, (at_hand t (is_busy n (spot m.now.spots t).life) life (spot m.now.spots t).life (sym (m.here.busy.shows t) ∙ (rw (is-refl t) refl))).1);
+    next = (by, (at_hand t (is_busy n (spot m.now.spots t).life) life (spot m.now.spots t).life (sym (m.here.busy.shows t) ∙ (rw (is-refl t) refl))).1);
     still = rw busied refl;
   }
 
   pub own_goes : (d : Doing) (t : Tid) (life : Life) (hs : List Busy) (l : Label) (new : Life) → (m : Is d (busy t life ∷ hs)) → doer l ≡ Some (Its t) → goes_on_with l m.now.spots ≡ Its t ∷ [] → is_busy n new ≡ false
-      → Own n l t m.now.spots d.labels (busy t life ∷ hs) hs new
+      → Own n l t m.now.spots ahead ahead (busy t life ∷ hs) hs new
   own_goes d t life hs l new m by on idle = record {
     heir = on;
-    next = is_next n l m.now.spots d.labels _ (by, (at_hand t (is_busy n (spot m.now.spots t).life) life (spot m.now.spots t).life (sym (m.here.busy.shows t) ∙ (rw (is-refl t) refl))).1);
+    next = (by, (at_hand t (is_busy n (spot m.now.spots t).life) life (spot m.now.spots t).life (sym (m.here.busy.shows t) ∙ (rw (is-refl t) refl))).1);
     still = rw idle refl;
   }
 
-  -- the first label, after which the event is busy with its thread, or with none
-  pub own_starts : (d : Doing) (v : Spots) (t : Tid) (l : Label) (new next : Life) → d.labels ≡ [] → goes_on_with l v ≡ Its t ∷ [] → is_busy n new ≡ true
-      → Own n l t v d.labels [] (busy t next ∷ []) new
-  own_starts d v t l new next none on busied = record { heir = on; next = is_first n l v d.labels [] none; still = rw busied refl }
+  -- a label that is the first of what is ahead, after which the event is busy with its thread, or with none
+  pub own_starts : (i : Item) (v : Spots) (t : Tid) (l : Label) (new next : Life) → IsBy n l v i → goes_on_with l v ≡ Its t ∷ [] → is_busy n new ≡ true
+      → Own n l t v (i ∷ ahead) ahead [] (busy t next ∷ []) new
+  own_starts i v t l new next by on busied = record { heir = on; next = by; still = rw busied refl }
 
-  pub own_alone : (d : Doing) (v : Spots) (t : Tid) (l : Label) (new : Life) → d.labels ≡ [] → goes_on_with l v ≡ Its t ∷ [] → is_busy n new ≡ false
-      → Own n l t v d.labels [] [] new
-  own_alone d v t l new none on idle = record { heir = on; next = is_first n l v d.labels [] none; still = rw idle refl }
+  pub own_alone : (i : Item) (v : Spots) (t : Tid) (l : Label) (new : Life) → IsBy n l v i → goes_on_with l v ≡ Its t ∷ [] → is_busy n new ≡ false
+      → Own n l t v (i ∷ ahead) ahead [] [] new
+  own_alone i v t l new by on idle = record { heir = on; next = by; still = rw idle refl }
 
   -- the thread of this stage, as it is on the node
   pub on_node : (d : Doing) (hand : List Busy) (t : Tid) (a : Stage) → (m : Is d hand) → (spot m.now.spots t).life ≡ On n a → lookup (is_tid t) d.node.threads ≡ thread_in_stage a (spot m.now.spots t).guest
@@ -213,18 +213,18 @@ module _ (p : Program) (net : Net) (q : Occasion) (n : ℕ) (w : World) (L : Lin
 
   pub judge_ok : (d : Doing) (t : Tid) (code : ℕ) (second : Option ℕ) (a b : Stage) (hs : List Busy) → (m : Is d (busy t (On n a) ∷ hs))
       → Allows p (having_said d.labels q) n (Judged t code (extra_of second)) m.now
-      → after_label p n (Judged t code (extra_of second)) m.now.spots ≡ spots_with (update m.now.spots.threads t (record (spot m.now.spots t) { life = On n b; verdict = record { code = code; extra = extra_of second } })) m.now.spots.slots m.now.spots.births m.now.spots.halts
+      → after_label p n (Judged t code (extra_of second)) m.now.spots ≡ spots_with (update m.now.spots.threads t (record (spot m.now.spots t) { life = On n b; verdict = record { code = code; extra = extra_of second } })) m.now.spots.slots m.now.spots.births m.now.spots.halts m.now.spots.remote
       → causes p n (Judged t code (extra_of second)) m.now.spots ≡ []
       → is_home a ≡ true → thread_in_stage a (spot m.now.spots t).guest ≡ Some (waits wait.No (spot m.now.spots t).guest) → row_in_stage t a (spot m.now.spots t).guest.priority ≡ None → held_in_stage a (spot m.now.spots t).guest ≡ Some (holding_of (spot m.now.spots t).guest)
       → is_home b ≡ true → is_busy n (On n b) ≡ true → thread_in_stage b (spot m.now.spots t).guest ≡ Some (waits wait.No (spot m.now.spots t).guest) → row_in_stage t b (spot m.now.spots t).guest.priority ≡ None → held_in_stage b (spot m.now.spots t).guest ≡ Some (holding_of (spot m.now.spots t).guest)
-      → Then p net q n w L m.now (Judged t code (extra_of second)) (judge t code second d) (busy t (On n b) ∷ hs)
+      → Then p net q n opening ahead w L m.now (Judged t code (extra_of second)) (judge t code second d) (busy t (On n b) ∷ hs)
   unfolding judge say
   judge_ok d t code second a b hs m ok same sent home there row slots home_b busied there_b row_b slots_b =
       let v : Spots = m.now.spots in
       let s : Spot = spot m.now.spots t in
       let x : s.life ≡ On n a = in_hand d t (On n a) hs m in
       let r : Spot = record s { life = On n b; verdict = record { code = code; extra = extra_of second } } in
-      home_step d _ (busy t (On n b) ∷ hs) (Judged t code (extra_of second)) t r d.node a b m same ok sent refl x refl home home_b (keeps _ _ (slots_b ∙ sym slots))
+      home_step ahead d _ (busy t (On n b) ∷ hs) (Judged t code (extra_of second)) t r d.node a b m same ok sent refl x refl home home_b (keeps _ _ (slots_b ∙ sym slots))
       (record {
         threads = map_kept is_tid is-true is-refl (thread_part n) v.threads t r d.node.threads m.here.threads (thread_was r t b refl ∙ there_b ∙ sym (thread_was s t a x ∙ there));
         rows = kept is_tid is-true is-refl listed_name (row_part n) v.threads t r (map listed d.node.places.rows) m.here.rows (row_was r t b refl ∙ row_b ∙ sym (row_was s t a x ∙ row));
@@ -239,10 +239,10 @@ module _ (p : Program) (net : Net) (q : Occasion) (n : ℕ) (w : World) (L : Lin
   tells_ok : (d : Doing) (t : Tid) (a b : Stage) (hs more : List Busy) → (m : Is d (busy t (On n a) ∷ hs))
       → MayTell n (On n a) → told_stage (On n a) ≡ b → is_home a ≡ true → is_home b ≡ true
       → ((g : Guest) → thread_in_stage a g ≡ Some (waits wait.No g)) → ((g : Guest) → thread_in_stage b g ≡ Some (waits wait.No g))
-      → ((k : ℕ) → row_in_stage t a k ≡ None) → ((k : ℕ) → row_in_stage t b k ≡ Some (record { tid = t; priority = k }))
+      → ((k : ℕ) → row_in_stage t a k ≡ None) → ((k : ℕ) → row_in_stage t b k ≡ Some (record { tid = t; list = 0; priority = k }))
       → ((g : Guest) → held_in_stage a g ≡ Some (holding_of g)) → ((g : Guest) → held_in_stage b g ≡ Some (holding_of g))
       → StandsFor is_tid busy_name (busy_part n) more (update m.now.spots.threads t (told_with m.now.spots t b))
-      → Own n (Told t) t m.now.spots d.labels (busy t (On n a) ∷ hs) more (On n b)
+      → Own n (Told t) t m.now.spots ahead ahead (busy t (On n a) ∷ hs) more (On n b)
       → Is (tell t (spot m.now.spots t).verdict.code (second_of (spot m.now.spots t).verdict.extra) d) more
   unfolding tell arrive say keep
   tells_ok d t a b hs more m may next home_a home_b there_a there_b row_a row_b held_a held_b hand own =
@@ -253,7 +253,7 @@ module _ (p : Program) (net : Net) (q : Occasion) (n : ℕ) (w : World) (L : Lin
       let r : Spot = told_with m.now.spots t b in
       let stage : told_stage s.life ≡ b = ap told_stage x ∙ next in
       subst (λ o. Is (tell_found t s.verdict.code (second_of s.verdict.extra) o d) more) (sym (on_node d _ t a m x ∙ there_a s.guest))
-      (home_step d _ more (Told t) t r _ a b m (ap (λ z. spots_with (update v.threads t (record s { life = On n z; guest = y })) v.slots v.births v.halts) stage)
+      (home_step ahead d _ more (Told t) t r _ a b m (ap (λ z. spots_with (update v.threads t (record s { life = On n z; guest = y })) v.slots v.births v.halts v.remote) stage)
       (record { solo = tt; holders = tt; life = subst (λ z. MayTell n z) (sym x) may; replies = tt; grants = tt }) refl refl x refl home_a home_b (keeps _ _ (held_b y ∙ sym (held_a s.guest)))
       (record {
         threads = map_set is_tid is-true is-refl (thread_part n) v.threads t r d.node.threads (waits wait.No s.guest) (waits wait.No y) m.here.threads (thread_was s t a x ∙ there_a s.guest) (thread_was r t b refl ∙ there_b y);
@@ -282,14 +282,14 @@ module _ (p : Program) (net : Net) (q : Occasion) (n : ℕ) (w : World) (L : Lin
 
   -- the judged reply is what is told next
   judged_verdict : (v u : World) (t : Tid) (code : ℕ) (second : Option ℕ) (s : Spot) → u ≡ world_after p n (Judged t code (extra_of second)) v
-      → after_label p n (Judged t code (extra_of second)) v.spots ≡ spots_with (update v.spots.threads t s) v.spots.slots v.spots.births v.spots.halts
+      → after_label p n (Judged t code (extra_of second)) v.spots ≡ spots_with (update v.spots.threads t s) v.spots.slots v.spots.births v.spots.halts v.spots.remote
       → (u.spots.threads t).verdict ≡ s.verdict
   judged_verdict v u t code second s e same = ap (λ (z : World). (z.spots.threads t).verdict) e ∙ ap (λ (z : Spots). (z.threads t).verdict) same ∙ ap (λ (z : Spot). z.verdict) (updated v.spots.threads t s)
 
   judged_same : (v : Spots) (t : Tid) (code : ℕ) (second : Option ℕ) (life : Life) → (spot v t).life ≡ life
-      → after_label p n (Judged t code (extra_of second)) v ≡ spots_with (update v.threads t (record { life = judged_life life; guest = judged_guest life (spot v t).guest; verdict = record { code = code; extra = extra_of second } })) v.slots v.births v.halts
+      → after_label p n (Judged t code (extra_of second)) v ≡ spots_with (update v.threads t (record { life = judged_life life; guest = judged_guest life (spot v t).guest; verdict = record { code = code; extra = extra_of second } })) v.slots v.births v.halts v.remote
   judged_same v t code second life x =
-      ap (λ z. spots_with (update v.threads t (record { life = judged_life z; guest = judged_guest z (spot v t).guest; verdict = record { code = code; extra = extra_of second } })) v.slots v.births v.halts) x
+      ap (λ z. spots_with (update v.threads t (record { life = judged_life z; guest = judged_guest z (spot v t).guest; verdict = record { code = code; extra = extra_of second } })) v.slots v.births v.halts v.remote) x
 
   -- a thread that is due a reply has it at once
   pub answer_ok : (d : Doing) (t : Tid) (code : ℕ) (hs : List Busy) → (m : Is d (busy t (On n (Due code)) ∷ hs)) → Is (answer t code d) hs
@@ -318,7 +318,7 @@ module _ (p : Program) (net : Net) (q : Occasion) (n : ℕ) (w : World) (L : Lin
       let stage : Stage = Served (MigrateSelf to) in
       let x : (spot m.now.spots t).life ≡ On n stage = in_hand d t (On n stage) hs m in
       let same = judged_same m.now.spots t 0 None (On n stage) x
-      ∙ ap (λ z. spots_with (update v.threads t (record { life = On n (cond z Told_next (Told_then to)); guest = (spot m.now.spots t).guest; verdict = record { code = 0; extra = Nothing } })) v.slots v.births v.halts) away in
+      ∙ ap (λ z. spots_with (update v.threads t (record { life = On n (cond z Told_next (Told_then to)); guest = (spot m.now.spots t).guest; verdict = record { code = 0; extra = Nothing } })) v.slots v.births v.halts v.remote) away in
       let k = judge_ok d t 0 None stage (Told_then to) hs m (record { solo = tt; holders = tt; life = rw x refl; replies = rw x (refl, refl); grants = rw x tt }) same (ap (judged_causes t) x) refl refl refl refl refl (eq-eqb n n refl) refl refl refl in
       subst (λ (z : Response). Is (tell t z.code (second_of z.extra) (judge t 0 None d)) (busy t (On n (Departs to)) ∷ hs)) (judged_verdict m.now k.midst.now t 0 None _ k.now same)
       (tell_then_ok (judge t 0 None d) t to hs k.midst)
@@ -330,7 +330,7 @@ module _ (p : Program) (net : Net) (q : Occasion) (n : ℕ) (w : World) (L : Lin
       let stage : Stage = Served (MigrateSelf to) in
       let x : (spot m.now.spots t).life ≡ On n stage = in_hand d t (On n stage) hs m in
       let same = judged_same m.now.spots t 0 None (On n stage) x
-      ∙ ap (λ z. spots_with (update v.threads t (record { life = On n (cond z Told_next (Told_then to)); guest = (spot m.now.spots t).guest; verdict = record { code = 0; extra = Nothing } })) v.slots v.births v.halts) stays in
+      ∙ ap (λ z. spots_with (update v.threads t (record { life = On n (cond z Told_next (Told_then to)); guest = (spot m.now.spots t).guest; verdict = record { code = 0; extra = Nothing } })) v.slots v.births v.halts v.remote) stays in
       let k = judge_ok d t 0 None stage Told_next hs m (record { solo = tt; holders = tt; life = rw x refl; replies = rw x (refl, refl); grants = rw x tt }) same (ap (judged_causes t) x) refl refl refl refl refl (eq-eqb n n refl) refl refl refl in
       subst (λ (z : Response). Is (tell t z.code (second_of z.extra) (judge t 0 None d)) hs) (judged_verdict m.now k.midst.now t 0 None _ k.now same)
       (tell_ok (judge t 0 None d) t hs k.midst)
@@ -340,7 +340,7 @@ module _ (p : Program) (net : Net) (q : Occasion) (n : ℕ) (w : World) (L : Lin
       → judged_stage n c ≡ Told_next → judged_guest (On n (Served c)) (spot m.now.spots t).guest ≡ g
       → Allows p (having_said d.labels q) n (Judged t code Nothing) m.now
       → Keeps (held_in_stage (Served c) (spot m.now.spots t).guest) (Some (holding_of g))
-      → Then p net q n w L m.now (Judged t code Nothing) (settle t code g d) (busy t (On n Told_next) ∷ hs)
+      → Then p net q n opening ahead w L m.now (Judged t code Nothing) (settle t code g d) (busy t (On n Told_next) ∷ hs)
   unfolding settle keep say
   settle_ok d t code g c hs m next becomes ok holds =
       let v : Spots = m.now.spots in
@@ -348,9 +348,9 @@ module _ (p : Program) (net : Net) (q : Occasion) (n : ℕ) (w : World) (L : Lin
       let x : s.life ≡ On n (Served c) = in_hand d t (On n (Served c)) hs m in
       let r : Spot = record { life = On n Told_next; guest = g; verdict = record { code = code; extra = Nothing } } in
       let same = judged_same m.now.spots t code None (On n (Served c)) x
-      ∙ ap (λ z. spots_with (update v.threads t (record { life = On n z; guest = judged_guest (On n (Served c)) s.guest; verdict = record { code = code; extra = Nothing } })) v.slots v.births v.halts) next
-      ∙ ap (λ (z : Guest). spots_with (update v.threads t (record { life = On n Told_next; guest = z; verdict = record { code = code; extra = Nothing } })) v.slots v.births v.halts) becomes in
-      home_step d _ (busy t (On n Told_next) ∷ hs) (Judged t code Nothing) t r _ (Served c) Told_next m same ok (ap (judged_causes t) x) refl x refl refl refl holds
+      ∙ ap (λ z. spots_with (update v.threads t (record { life = On n z; guest = judged_guest (On n (Served c)) s.guest; verdict = record { code = code; extra = Nothing } })) v.slots v.births v.halts v.remote) next
+      ∙ ap (λ (z : Guest). spots_with (update v.threads t (record { life = On n Told_next; guest = z; verdict = record { code = code; extra = Nothing } })) v.slots v.births v.halts v.remote) becomes in
+      home_step ahead d _ (busy t (On n Told_next) ∷ hs) (Judged t code Nothing) t r _ (Served c) Told_next m same ok (ap (judged_causes t) x) refl x refl refl refl holds
       (record {
         threads = map_set is_tid is-true is-refl (thread_part n) v.threads t r d.node.threads (waits wait.No s.guest) (waits wait.No g) m.here.threads (thread_was s t (Served c) x) (thread_was r t Told_next refl);
         rows = kept is_tid is-true is-refl listed_name (row_part n) v.threads t r (map listed d.node.places.rows) m.here.rows (row_was r t Told_next refl ∙ sym (row_was s t (Served c) x));
@@ -381,9 +381,9 @@ module _ (p : Program) (net : Net) (q : Occasion) (n : ℕ) (w : World) (L : Lin
   ran_with v t z = record (spot v t) { life = On n (ran_stage (run_now v t).stop z); guest = with_state z (spot v t).guest }
 
   ran_same : (v : Spots) (t : Tid) (vp : ℕ) → after_label p n (ran_label v t vp) v
-      ≡ spots_with (update v.threads t (ran_with v t (run_now v t).state)) v.slots v.births v.halts
+      ≡ spots_with (update v.threads t (ran_with v t (run_now v t).state)) v.slots v.births v.halts v.remote
   ran_same v t vp =
-      ap (λ (z : State). spots_with (update v.threads t (ran_with v t z)) v.slots v.births v.halts) (run_stepped (code_of p) (quantum_in q.act) (spot v t).guest.solo.state)
+      ap (λ (z : State). spots_with (update v.threads t (ran_with v t z)) v.slots v.births v.halts v.remote) (run_stepped (code_of p) (quantum_in q.act) (spot v t).guest.solo.state)
 
   ran_allowed : (said : List Label) (v : World) (t : Tid) (vp : ℕ) → (spot v.spots t).life ≡ On n Ready → Allows p (having_said said q) n (ran_label v.spots t vp) v
   ran_allowed said v t vp x =
@@ -404,48 +404,48 @@ module _ (p : Program) (net : Net) (q : Occasion) (n : ℕ) (w : World) (L : Lin
       ap (λ (xs : List ℕ). Some (record { slots = xs; stack = g.solo.stack; live = g.solo.live })) (run_slots (code_of p) (quantum_in q.act) g.solo.state)
 
   -- a run to a call or a fault
-  pub ran_ok : (d : Doing) (t : Tid) (vp : ℕ) (b : Stage) → (m : Is d []) → d.labels ≡ [] → ((k : ℕ) (s : Places) → ran_places (run_now m.now.spots t).stop t k s ≡ taken_off t s) → (spot m.now.spots t).life ≡ On n Ready
+  pub ran_ok : (d : Doing) (t : Tid) (vp : ℕ) (b : Stage) → (m : Midst p net q n opening (Runs t vp ∷ ahead) w L d []) → ((k : ℕ) (s : Places) → ran_places (run_now m.now.spots t).stop t k s ≡ taken_off t s) → (spot m.now.spots t).life ≡ On n Ready
       → ran_stage (run_now m.now.spots t).stop (run_now m.now.spots t).state ≡ b → is_home b ≡ true → is_busy n (On n b) ≡ true
       → thread_in_stage b (with_state (run_now m.now.spots t).state (spot m.now.spots t).guest) ≡ Some (waits wait.No (with_state (run_now m.now.spots t).state (spot m.now.spots t).guest))
       → row_in_stage t b (spot m.now.spots t).guest.priority ≡ None
       → held_in_stage b (with_state (run_now m.now.spots t).state (spot m.now.spots t).guest) ≡ Some (holding_of (with_state (run_now m.now.spots t).state (spot m.now.spots t).guest))
-      → Then p net q n w L m.now (ran_label m.now.spots t vp) (ran t vp (run_now m.now.spots t) (waits wait.No (spot m.now.spots t).guest) d) (busy t (On n b) ∷ [])
+      → Then p net q n opening ahead w L m.now (ran_label m.now.spots t vp) (ran t vp (run_now m.now.spots t) (waits wait.No (spot m.now.spots t).guest) d) (busy t (On n b) ∷ [])
   unfolding ran take_off say keep
-  ran_ok d t vp b m none off x st home busied there row slots =
+  ran_ok d t vp b m off x st home busied there row slots =
       let v : Spots = m.now.spots in
       let s : Spot = spot m.now.spots t in
       let r : Spot = ran_with m.now.spots t (run_now m.now.spots t).state in
       let y : r.life ≡ On n b = ap (λ z. On n z) st in
-      home_step d [] (busy t (On n b) ∷ []) (ran_label m.now.spots t vp) t r _ Ready b m (ran_same m.now.spots t vp) (ran_allowed d.labels m.now t vp x) refl refl x y refl home (keeps _ _ (slots ∙ ran_holding m.now.spots t))
+      home_step (Runs t vp ∷ ahead) d [] (busy t (On n b) ∷ []) (ran_label m.now.spots t vp) t r _ Ready b m (ran_same m.now.spots t vp) (ran_allowed d.labels m.now t vp x) refl refl x y refl home (keeps _ _ (slots ∙ ran_holding m.now.spots t))
       (record {
         threads = map_set is_tid is-true is-refl (thread_part n) v.threads t r d.node.threads (waits wait.No s.guest) _ m.here.threads (thread_was s t Ready x) (thread_was r t b y ∙ there);
         rows = subst (λ rows. StandsFor is_tid listed_name (row_part n) rows (update v.threads t r)) (sym (listed_without t d.node.places.rows))
             (removed is_tid is-true is-refl listed_name (row_part n) v.threads t r (map listed d.node.places.rows) m.here.rows (row_was r t b y ∙ row));
         busy = fronted is_tid is-true is-refl busy_name (busy_part n) v.threads t r [] (busy t (On n b)) m.here.busy refl (idle_was s t (On n Ready) x refl) (busy_was r t (On n b) y busied);
-      }) refl refl refl (own_starts d m.now.spots t (ran_label m.now.spots t vp) r.life (On n b) none refl (ap (is_busy n) y ∙ busied)) (sym (off s.guest.priority d.node.places)) refl
+      }) refl refl refl (own_starts (Runs t vp) m.now.spots t (ran_label m.now.spots t vp) r.life (On n b) (_, _, refl) refl (ap (is_busy n) y ∙ busied)) (sym (off s.guest.priority d.node.places)) refl
 
   -- what the thread has become
   pub ran_guest : (v u : World) (t : Tid) (vp : ℕ) → u ≡ world_after p n (ran_label v.spots t vp) v → (u.spots.threads t).guest ≡ with_state (run_now v.spots t).state (spot v.spots t).guest
   ran_guest v u t vp e = ap (λ (z : World). (z.spots.threads t).guest) e ∙ ap (λ (z : Spots). (z.threads t).guest) (ran_same v.spots t vp) ∙ ap (λ (z : Spot). z.guest) (updated v.spots.threads t (ran_with v.spots t (run_now v.spots t).state))
 
   -- a run of the whole quantum
-  pub runs_out_ok : (d : Doing) (t : Tid) (vp : ℕ) → (m : Is d []) → d.labels ≡ [] → ((k : ℕ) (s : Places) → ran_places (run_now m.now.spots t).stop t k s ≡ arrived t k (taken_off t s)) → (spot m.now.spots t).life ≡ On n Ready
+  pub runs_out_ok : (d : Doing) (t : Tid) (vp : ℕ) → (m : Midst p net q n opening (Runs t vp ∷ ahead) w L d []) → ((k : ℕ) (s : Places) → ran_places (run_now m.now.spots t).stop t k s ≡ arrived t k (taken_off t s)) → (spot m.now.spots t).life ≡ On n Ready
       → ran_stage (run_now m.now.spots t).stop (run_now m.now.spots t).state ≡ Ready
       → Is (arrive t (spot m.now.spots t).guest.priority (ran t vp (run_now m.now.spots t) (waits wait.No (spot m.now.spots t).guest) d)) []
   unfolding arrive ran take_off say keep
-  runs_out_ok d t vp m none off x st =
+  runs_out_ok d t vp m off x st =
       let v : Spots = m.now.spots in
       let s : Spot = spot m.now.spots t in
       let r : Spot = ran_with m.now.spots t (run_now m.now.spots t).state in
       let y : r.life ≡ On n Ready = ap (λ z. On n z) st in
       let rest : Places = taken_off t d.node.places in
-      (home_step d [] [] (ran_label m.now.spots t vp) t r _ Ready Ready m (ran_same m.now.spots t vp) (ran_allowed d.labels m.now t vp x) refl refl x y refl refl (keeps _ _ (ran_holding m.now.spots t))
+      (home_step (Runs t vp ∷ ahead) d [] [] (ran_label m.now.spots t vp) t r _ Ready Ready m (ran_same m.now.spots t vp) (ran_allowed d.labels m.now t vp x) refl refl x y refl refl (keeps _ _ (ran_holding m.now.spots t))
       (record {
         threads = map_set is_tid is-true is-refl (thread_part n) v.threads t r d.node.threads (waits wait.No s.guest) _ m.here.threads (thread_was s t Ready x) (thread_was r t Ready y);
-        rows = subst (λ rows. StandsFor is_tid listed_name (row_part n) rows (update v.threads t r)) (sym (listed_arrived t s.guest.priority rest ∙ ap (λ rows. rows ++ (record { tid = t; priority = s.guest.priority }) ∷ []) (listed_without t d.node.places.rows)))
+        rows = subst (λ rows. StandsFor is_tid listed_name (row_part n) rows (update v.threads t r)) (sym (listed_arrived t s.guest.priority rest ∙ ap (λ rows. rows ++ (record { tid = t; list = 0; priority = s.guest.priority }) ∷ []) (listed_without t d.node.places.rows)))
             (replaced is_tid is-true is-refl listed_name (row_part n) v.threads t r (map listed d.node.places.rows) _ m.here.rows refl (row_was r t Ready y));
         busy = kept is_tid is-true is-refl busy_name (busy_part n) v.threads t r [] m.here.busy (idle_was r t (On n Ready) y refl ∙ sym (idle_was s t (On n Ready) x refl));
-      }) refl refl refl (own_alone d m.now.spots t (ran_label m.now.spots t vp) r.life none refl (ap (is_busy n) y)) (sym (off s.guest.priority d.node.places)) refl).midst
+      }) refl refl refl (own_alone (Runs t vp) m.now.spots t (ran_label m.now.spots t vp) r.life (_, _, refl) refl (ap (is_busy n) y)) (sym (off s.guest.priority d.node.places)) refl).midst
 
   -- ## Calls
 
@@ -460,9 +460,9 @@ module _ (p : Program) (net : Net) (q : Occasion) (n : ℕ) (w : World) (L : Lin
 
   asked_same : (v : Spots) (t : Tid) (bytes : List ℕ) (b : Stage) → stage_of_call p n t (solo_at v t) ≡ b
       → after_label p n (Asked t (number_of (call_at v t)) (args_of (call_at v t)) bytes) v
-      ≡ spots_with (update v.threads t (record (spot v t) { life = On n b })) v.slots v.births v.halts
+      ≡ spots_with (update v.threads t (record (spot v t) { life = On n b })) v.slots v.births v.halts (remote_after (Asked t (number_of (call_at v t)) (args_of (call_at v t)) bytes) v.remote)
   asked_same v t bytes b st =
-      ap (λ z. spots_with (update v.threads t (record (spot v t) { life = On n z })) v.slots v.births v.halts) st
+      ap (λ z. spots_with (update v.threads t (record (spot v t) { life = On n z })) v.slots v.births v.halts (remote_after (Asked t (number_of (call_at v t)) (args_of (call_at v t)) bytes) v.remote)) st
 
   -- a call that goes on here
   pub asks_ok : (d : Doing) (t : Tid) (b : Stage) (hs : List Busy) → (m : Is d (busy t (On n Running) ∷ hs))
@@ -476,7 +476,7 @@ module _ (p : Program) (net : Net) (q : Occasion) (n : ℕ) (w : World) (L : Lin
       let s : Spot = spot m.now.spots t in
       let x : s.life ≡ On n Running = in_hand d t (On n Running) hs m in
       let r : Spot = record s { life = On n b } in
-      (home_step d _ (busy t (On n b) ∷ hs) (Asked t (number_of (call_at m.now.spots t)) (args_of (call_at m.now.spots t)) []) t r d.node Running b m (asked_same m.now.spots t [] b st)
+      (home_step ahead d _ (busy t (On n b) ∷ hs) (Asked t (number_of (call_at m.now.spots t)) (args_of (call_at m.now.spots t)) []) t r d.node Running b m (asked_same m.now.spots t [] b st)
       (record { solo = (refl, refl, bytes); holders = tt; life = x; replies = tt; grants = tt }) (ap (asked_causes t) st ∙ sent) refl x refl refl home slots
       (record {
         threads = map_kept is_tid is-true is-refl (thread_part n) v.threads t r d.node.threads m.here.threads (thread_was r t b refl ∙ there ∙ sym (thread_was s t Running x));
@@ -497,7 +497,7 @@ module _ (p : Program) (net : Net) (q : Occasion) (n : ℕ) (w : World) (L : Lin
       let s : Spot = spot m.now.spots t in
       let x : s.life ≡ On n Running = in_hand d t (On n Running) hs m in
       let r : Spot = record s { life = On n b } in
-      (send_step d _ hs (Asked t (number_of (call_at m.now.spots t)) (args_of (call_at m.now.spots t)) bytes) t r _ to body m (asked_same m.now.spots t bytes b st)
+      (send_step ahead d _ hs (Asked t (number_of (call_at m.now.spots t)) (args_of (call_at m.now.spots t)) bytes) t r _ to body m (asked_same m.now.spots t bytes b st)
       (record { solo = (refl, refl, said); holders = tt; life = x; replies = tt; grants = tt }) (ap (asked_causes t) st ∙ sent) refl
       (ap (λ z. ways_of t z s.verdict s.guest) x) ways name
       (record {
@@ -536,7 +536,7 @@ module _ (p : Program) (net : Net) (q : Occasion) (n : ℕ) (w : World) (L : Lin
       let s : Spot = spot m.now.spots t in
       let x : s.life ≡ On n Halts = in_hand d t (On n Halts) hs m in
       let r : Spot = record s { life = On n Stays } in
-      (labelled p net q n w L L d _ hs (Halted t) (spots_with (update v.threads t r) v.slots v.births (at_node v.halts n true)) _ d.sends d.prints m refl
+      (labelled p net q n opening ahead w ahead L L d _ hs (Halted t) (spots_with (update v.threads t r) v.slots v.births (at_node v.halts n true) v.remote) _ d.sends d.prints m refl
       (record { solo = tt; holders = tt; life = x; replies = tt; grants = tt }) (sym (append-nil d.sends)) (sym (append-nil d.prints))
       (record {
         threads = map_set is_tid is-true is-refl (thread_part n) v.threads t r d.node.threads (waits wait.No s.guest) (waits wait.Halted s.guest) m.here.threads (thread_was s t Halts x) (thread_was r t Stays refl);
@@ -550,23 +550,23 @@ module _ (p : Program) (net : Net) (q : Occasion) (n : ℕ) (w : World) (L : Lin
       (λ i j. links_kept t r v.threads (under n L d.sends) m.links (sym (ap (λ z. ways_of t z s.verdict s.guest) x)) i j)
       (agrees_kept p v t r (at_node v.halts n true) m.agrees (sym (ap phase_of x)) (λ u k e. home_quiet n Halts refl u k (sym x ∙ e)) (keeps _ _ (ap (λ z. held z s.guest) (sym x))) (λ e. absurd (cc (e, x))) (λ u k e. absurd (cc e))
       (λ k e. (let same : n ≡ k = cc e in rw (eq-eqb n k same) refl)) (λ k e. elim (eqb n k) as (λ v. cond v true (m.now.spots.halts k) ≡ true) [ true ↦ refl | false ↦ e ]))
-      (beside p n v (Halted t) t d.labels d.node _ _ hs r.life (own_goes d t (On n Halts) hs (Halted t) (On n Stays) m refl refl refl) (life_then m.now.spots (Halted t) t r _ refl refl) refl refl)).midst
+      (beside p n v (Halted t) t ahead ahead d.node _ _ hs r.life (own_goes d t (On n Halts) hs (Halted t) (On n Stays) m refl refl refl) (life_then m.now.spots (Halted t) t r _ refl refl) refl refl)).midst
 
   -- ## Moves
 
   -- a thread on the run list goes to another node of the cluster
-  pub leaves_ok : (d : Doing) (t : Tid) (to : ℕ) (a : Stage) (hand hs : List Busy) → (m : Is d hand) → (spot m.now.spots t).life ≡ On n a
+  pub leaves_ok : (due : List Item) (d : Doing) (t : Tid) (to : ℕ) (a : Stage) (hand hs : List Busy) → (m : Midst p net q n opening due w L d hand) → (spot m.now.spots t).life ≡ On n a
       → MayLeave n to (On n a) → to < nodes_of p → (to ≡ n → ⊥)
       → is_home a ≡ true → held_in_stage a (spot m.now.spots t).guest ≡ Some (holding_of (spot m.now.spots t).guest)
       → StandsFor is_tid busy_name (busy_part n) hs (update m.now.spots.threads t (record (spot m.now.spots t) { life = Moving n to }))
-      → Own n (Left t to) t m.now.spots d.labels hand hs (Moving n to)
+      → Own n (Left t to) t m.now.spots due ahead hand hs (Moving n to)
       → Is (leaves t to (waits wait.No (spot m.now.spots t).guest) d) hs
   unfolding leaves put say thread_out take_off
-  leaves_ok d t to a hand hs m x may below other home slots hands own =
+  leaves_ok due d t to a hand hs m x may below other home slots hands own =
       let v : Spots = m.now.spots in
       let s : Spot = spot m.now.spots t in
       let r : Spot = record s { life = Moving n to } in
-      (send_step d hand hs (Left t to) t r _ to (Mover (packed t s.guest)) m refl
+      (send_step due d hand hs (Left t to) t r _ to (Mover (packed t s.guest)) m refl
       (record { solo = tt; holders = tt; life = (subst (λ z. MayLeave n to z) (sym x) may, below, other); replies = tt; grants = tt }) refl refl
       (ap (λ z. ways_of t z s.verdict s.guest) x ∙ home_way t n a s.verdict s.guest home) refl refl
       (record {
@@ -587,8 +587,8 @@ module _ (p : Program) (net : Net) (q : Occasion) (n : ℕ) (w : World) (L : Lin
       (plain _ refl) own refl refl).midst
 
   -- its home is a node, as each thread's is
-  pub home_of : (d : Doing) (hand : List Busy) (t : Tid) (a : Stage) → (m : Is d hand) → (spot m.now.spots t).life ≡ On n a → nat_lt t.home (nodes_of p) ≡ true
-  home_of d hand t a m x = elim (nat_lt t.home (nodes_of p)) as (λ v. nat_lt t.home (nodes_of p) ≡ v → v ≡ true) [
+  pub home_of : (due : List Item) (d : Doing) (hand : List Busy) (t : Tid) (a : Stage) → (m : Midst p net q n opening due w L d hand) → (spot m.now.spots t).life ≡ On n a → nat_lt t.home (nodes_of p) ≡ true
+  home_of due d hand t a m x = elim (nat_lt t.home (nodes_of p)) as (λ v. nat_lt t.home (nodes_of p) ≡ v → v ≡ true) [
     | true ↦ λ e. refl
     | false ↦ λ e. (let none : (spot m.now.spots t).life ≡ Unborn = m.agrees.homes t e in absurd (cc (none, x)))
   ] refl
@@ -599,17 +599,17 @@ module _ (p : Program) (net : Net) (q : Occasion) (n : ℕ) (w : World) (L : Lin
       let v : Spots = m.now.spots in
       let x : (spot m.now.spots t).life ≡ On n (Departs to) = in_hand d t (On n (Departs to)) hs m in
       let r : Spot = record (spot m.now.spots t) { life = Moving n to } in
-      subst (λ b. Is (cond b (leaves t to (waits wait.No (spot m.now.spots t).guest) d) d) hs) (sym (home_of d _ t (Departs to) m x))
-      (leaves_ok d t to (Departs to) _ hs m x (refl, refl) below other refl refl
+      subst (λ b. Is (cond b (leaves t to (waits wait.No (spot m.now.spots t).guest) d) d) hs) (sym (home_of ahead d _ t (Departs to) m x))
+      (leaves_ok ahead d t to (Departs to) _ hs m x (refl, refl) below other refl refl
       (unfronted is_tid is-true is-refl busy_name (busy_part n) v.threads t r hs (busy t (On n (Departs to))) m.here.busy refl refl)
       (own_goes d t (On n (Departs to)) hs (Left t to) (Moving n to) m refl refl refl))
 
   -- or because it is sent away
-  pub sent_ok : (d : Doing) (t : Tid) (to : ℕ) → (m : Is d []) → d.labels ≡ [] → (spot m.now.spots t).life ≡ On n Ready → to < nodes_of p → (to ≡ n → ⊥) → Is (goes p t to (waits wait.No (spot m.now.spots t).guest) d) []
-  sent_ok d t to m none x below other =
+  pub sent_ok : (d : Doing) (t : Tid) (to : ℕ) → (m : Midst p net q n opening (Says (Left t to) ∷ ahead) w L d []) → (spot m.now.spots t).life ≡ On n Ready → to < nodes_of p → (to ≡ n → ⊥) → Is (goes p t to (waits wait.No (spot m.now.spots t).guest) d) []
+  sent_ok d t to m x below other =
       let v : Spots = m.now.spots in
       let r : Spot = record (spot m.now.spots t) { life = Moving n to } in
-      subst (λ b. Is (cond b (leaves t to (waits wait.No (spot m.now.spots t).guest) d) d) []) (sym (home_of d _ t Ready m x))
-      (leaves_ok d t to Ready [] [] m x refl below other refl refl
+      subst (λ b. Is (cond b (leaves t to (waits wait.No (spot m.now.spots t).guest) d) d) []) (sym (home_of (Says (Left t to) ∷ ahead) d _ t Ready m x))
+      (leaves_ok (Says (Left t to) ∷ ahead) d t to Ready [] [] m x refl below other refl refl
       (kept is_tid is-true is-refl busy_name (busy_part n) v.threads t r [] m.here.busy (sym (idle_was (spot m.now.spots t) t (On n Ready) x refl)))
-      (own_alone d m.now.spots t (Left t to) (Moving n to) none refl refl))
+      (own_alone (Says (Left t to)) m.now.spots t (Left t to) (Moving n to) refl refl refl))

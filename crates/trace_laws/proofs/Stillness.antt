@@ -4,12 +4,12 @@ use Rattle.std.proofs.lemmas.Bool.{eq-eqb}
 use Rattle.slot_space.specs.declared.names.Tid.{Tid}
 use Rattle.run_trace.specs.declared.node.Row.{Row}
 use Rattle.run_trace.specs.Names.{is_tid}
-use Rattle.run_trace.specs.Program.{Program}
+use Rattle.run_trace.specs.Program.{Program, tree_of}
 use Rattle.run_trace.specs.Guests.{Thread, waits}
 use Rattle.run_trace.specs.Cluster.{Net}
 use Rattle.run_trace.specs.Holding.{IsOn}
 use Rattle.run_trace.specs.Keyed.{item_of}
-use Rattle.run_trace.specs.Places.{best}
+use Rattle.run_trace.specs.Places.{best_on}
 use Rattle.run_trace.specs.Outcome.{Lives, AllLinksEmpty, WaitsByItsRule, IsStuck}
 use Rattle.run_trace.specs.Spots.{Stage, Ready, Running, Due, Served, Told_next, Told_then, Departs, Ends, Leaves, Halts, Stays, Shows, Showing, Shown_there, Asks, Awaits, Answers, Answered, Life, Unborn, On, Moving, Noting, Gone, Response, Spots}
 use Rattle.run_trace.specs.Stands.{Stands, listed, listed_name, row_part, row_in_life, link_part, on_link, ways_of, Way, words_of, words_about, phase_of, phase_at, During, thread_in_life, thread_in_stage, wait_of}
@@ -50,7 +50,7 @@ module _ (p : Program) (w : Spots) (net : Net) (s : Stands p w net) where
       ready : (m : ℕ) → (w.threads t).life ≡ On m Ready → ⊥
       ready m e =
           let none : item_of is_tid listed_name (map listed (net.nodes m).places.rows) t ≡ None = ap (λ (rs : List Row). item_of is_tid listed_name (map listed rs) t) (rows m) in
-          let some : row_part m t (w.threads t) ≡ Some (record { tid = t; priority = (w.threads t).guest.priority }) = ap (λ z. row_in_life m t z (w.threads t).guest.priority) e ∙ (rw (eq-eqb m m refl) refl) in
+          let some : row_part m t (w.threads t) ≡ Some (record { tid = t; list = 0; priority = (w.threads t).guest.priority }) = ap (λ z. row_in_life m t z (w.threads t).guest.priority) e ∙ (rw (eq-eqb m m refl) refl) in
           absurd (cc (none, (s.nodes m).rows.shows t, some))
 
       by : (life : Life) → (w.threads t).life ≡ life → IsSettled (w.threads t).life → WaitsByItsRule w life
@@ -134,9 +134,9 @@ module _ (p : Program) (w : Spots) (net : Net) (s : Stands p w net) where
       let on : OnNode n (w.threads t) x = on_node_is n t (w.threads t) x (sym ((s.nodes n).threads.shows t) ∙ h) in
       subst (λ z. Lives z) (sym on.life) tt
 
-  pub picked_there : (n : ℕ) (r : Row) → best (net.nodes n).places.rows ≡ Some r → (x : Thread) × IsOn net n r.tid x
-  picked_there n r picked =
-      (waits (wait_of Ready) (w.threads r.tid).guest, (s.nodes n).threads.shows r.tid ∙ ap (λ z. thread_in_life n z (w.threads r.tid).guest) (picked_ready p w net s (asked_of Boot None) n r picked) ∙ (rw (eq-eqb n n refl) refl))
+  pub picked_there : (n vp : ℕ) (r : Row) → best_on (tree_of p) vp (net.nodes n).places.rows ≡ Some r → (x : Thread) × IsOn net n r.tid x
+  picked_there n vp r picked =
+      (waits (wait_of Ready) (w.threads r.tid).guest, (s.nodes n).threads.shows r.tid ∙ ap (λ z. thread_in_life n z (w.threads r.tid).guest) (picked_ready p w net s (asked_of Boot None) n vp r picked) ∙ (rw (eq-eqb n n refl) refl))
 
   -- a thread has called halt exactly where a node says so
   pub halts_are : (n : ℕ) → (net.nodes n).halted ≡ w.halts n

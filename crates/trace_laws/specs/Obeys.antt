@@ -9,7 +9,7 @@ use Rattle.run_trace.specs.declared.entry.Entry.{Entry}
 use Rattle.run_trace.specs.declared.label.Label.{Label}
 use Rattle.run_trace.specs.declared.label.Label.TheVariants.{Ran, Left, Down, Burst}
 use Rattle.run_trace.specs.declared.node.Row.{Row}
-use Rattle.run_trace.specs.Program.{Program}
+use Rattle.run_trace.specs.Program.{Program, tree_of}
 use Rattle.run_trace.specs.Places.{IsBest, is_listed}
 use Rattle.run_trace.specs.Cluster.{Net}
 use Rattle.run_trace.specs.Trace.{net_after_trace, sends_or, done_for}
@@ -21,7 +21,7 @@ use Rattle.run_trace.specs.Causes.{causes}
 use Rattle.run_trace.specs.Obeying.{occasion}
 use Rattle.run_trace.specs.Rules.{Rule, Occasion, saying, SoloRule, HoldersRule, LifeRule, RepliesRule, GrantsRule, spots_of}
 
--- ## Picks: the best of the run list runs; a thread that is sent away is on it
+-- ## Picks: the best of the lists that cover the processor runs; a thread that is sent away is on it
 
 -- a label that says what was shifted on the run lists
 abbrev pub is_shift : Label → Bool
@@ -38,15 +38,15 @@ abbrev pub RunsNext : Tid → ℕ → List Label → Type 0
 RunsNext t vp labels =
     (shifts : List Label) × AllShift shifts × (count : ℕ) × (stop : Stop) × (more : List Label) × (labels ≡ shifts ++ Ran t vp count stop ∷ more)
 
-abbrev pub PicksBest : Act → List Row → List Label → Type 0
-PicksBest (Run vp quantum) rows labels = (r : Row) × IsBest r rows × RunsNext r.tid vp labels
-PicksBest Boot rows labels = ⊤
-PicksBest (Take from) rows labels = ⊤
-PicksBest (Move t to) rows labels = (is_listed t rows ≡ true) × (labels ≡ Left t to ∷ [])
+abbrev pub PicksBest : Program → Act → List Row → List Label → Type 0
+PicksBest p (Run vp quantum) rows labels = (r : Row) × IsBest (tree_of p) vp r rows × RunsNext r.tid vp labels
+PicksBest p Boot rows labels = ⊤
+PicksBest p (Take from) rows labels = ⊤
+PicksBest p (Move t to) rows labels = (is_listed t rows ≡ true) × (labels ≡ Left t to ∷ [])
 
 abbrev pub Picks : Program → Net → List Entry → Type 0
 Picks p base [] = ⊤
-Picks p base (x ∷ xs) = Picks p base xs × PicksBest x.act ((net_after_trace p base xs).nodes x.node).places.rows x.labels
+Picks p base (x ∷ xs) = Picks p base xs × PicksBest p x.act ((net_after_trace p base xs).nodes x.node).places.rows x.labels
 
 -- ## Carried: an entry sends what its labels cause, and nothing else
 

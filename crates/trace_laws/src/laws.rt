@@ -1,6 +1,7 @@
 //! The laws, each as a contract.
 
-ghost use Rattle.std.specs.Prelude.{◌≡◌, ◌<◌, ◌≤◌, ◌⊎◌, ℕ, List, map, ◌++◌, ◌∷◌, ◌↔◌, Some, [], false, true};
+ghost use Rattle.run_trace.specs.Trees.{Tree, processors, covers, depth_of, is_leaf, next_towards};
+ghost use Rattle.std.specs.Prelude.{suc, ◌≡◌, ◌<◌, ◌≤◌, ◌⊎◌, ℕ, List, map, ◌++◌, ◌∷◌, ◌↔◌, Some, [], false, true};
 ghost use Rattle.rv_step.specs.Run.{after, StopsBy};
 ghost use Rattle.rv_step.specs.Step.{State};
 ghost use Rattle.rv_step.specs.declared.hart.Stop.{Stop};
@@ -10,7 +11,7 @@ ghost use Rattle.run_trace.specs.declared.entry.Act.{Act};
 ghost use Rattle.run_trace.specs.declared.entry.Entry.{Entry};
 ghost use Rattle.run_trace.specs.declared.label.Label.{Label};
 ghost use Rattle.run_trace.specs.declared.node.Row.{Row};
-ghost use Rattle.run_trace.specs.Program.{Program, code_of, nodes_of};
+ghost use Rattle.run_trace.specs.Program.{Program, code_of, nodes_of, tree_of};
 ghost use Rattle.trace_laws.specs.Beginnings.{BeginsSo};
 ghost use Rattle.trace_laws.specs.Gathers.{events_in, Gathers};
 ghost use Rattle.trace_laws.specs.Strays.{AllExpected};
@@ -27,11 +28,11 @@ ghost use Rattle.run_trace.specs.Machine.{is_range, is_stray, local_event, stamp
 ghost use Rattle.run_trace.specs.declared.packet.Packet.{Packet};
 ghost use Rattle.run_trace.specs.declared.entry.Act.TheVariants.{Take};
 ghost use Rattle.run_trace.specs.Outcome.{AllLinksEmpty, IsStuck, Lives};
-ghost use Rattle.run_trace.specs.Places.{best, is_listed};
+ghost use Rattle.run_trace.specs.Places.{best_on, is_listed};
 ghost use Rattle.run_trace.specs.Rules.{spots_of};
 ghost use Rattle.run_trace.specs.Same.{HasEnded, HasLivedLike, HasWritten, lived};
 ghost use Rattle.run_trace.specs.Spots.{On, Ready, Spots, Stage, at_first};
-ghost use Rattle.run_trace.specs.Obeying.{KeepsRules, is_on_list, may_act, Starts};
+ghost use Rattle.run_trace.specs.Obeying.{IsEntry, KeepsRules, is_on_list, may_act, Starts};
 ghost use Rattle.run_trace.specs.Stands.{Stands};
 ghost use Rattle.run_trace.specs.Trace.{IsRun, entry_of, events_of, Fits, net_after_trace};
 ghost use Rattle.run_trace.specs.World.{World};
@@ -83,9 +84,11 @@ pub fn one_trace()
     ensures { (p : Program) (old : World) (xs ys : List Entry) → map heading xs ≡ map heading ys → KeepsRules p old xs → KeepsRules p old ys → xs ≡ ys }
 {}
 
-/// The rules and the machine are two definitions of one thing; and a trace that keeps the rules goes on with each act that may be.
+/// The rules and the machine are two definitions of one thing: of a trace, and of one entry after a trace, so the first entry that
+/// the machine can't make is the first that the rules refuse. And a trace that keeps the rules goes on with each act that may be.
 pub fn rules_and_machine()
     ensures same { (p : Program) (old : Spots) (base : Net) → Stands p old base → (lines : List Entry) → KeepsRules p (world_at old base) lines ↔ IsRun p base lines }
+    ensures entry { (p : Program) (old : Spots) (base : Net) → Stands p old base → (x : Entry) (xs : List Entry) → IsRun p base xs → IsEntry p (world_of p (world_at old base) xs) x ↔ Fits p (net_after_trace p base xs) x }
     ensures goes_on { (p : Program) (old : Spots) (base : Net) → Stands p old base → (lines : List Entry) → KeepsRules p (world_at old base) lines → (stamp n round : ℕ) (a : Act) (to_do : List Item) → may_act p n ((world_of p (world_at old base) lines).begun n) a ≡ true → Starts p stamp n a (world_of p (world_at old base) lines) to_do → (ls : List Label) × KeepsRules p (world_at old base) ((record { stamp = stamp; node = n; round = round; act = a; labels = ls }) ∷ lines) }
 {}
 
@@ -162,9 +165,17 @@ pub fn inside()
     ensures lives { (p : Program) (lines : List Entry) → IsRun p (fresh_net p) lines → (t : Tid) (n : ℕ) (stage : Stage) → ((spots_of p (at_first p) lines).threads t).life ≡ On n stage → n < nodes_of p }
 {}
 
-/// The thread that a node picks from its run list is on that node.
+/// Of the lists that cover a processor each but a leaf has the next one below it, and a leaf covers no other processor.
+pub fn levels()
+    ensures next { (tree : Tree) (vp list : ℕ) → vp < processors tree → covers tree vp list ≡ true → is_leaf tree list ≡ false → (covers tree vp (next_towards tree vp list) ≡ true) × (depth_of tree (next_towards tree vp list) ≡ suc (depth_of tree list)) }
+    ensures leaf { (tree : Tree) (vp other list : ℕ) → vp < processors tree → other < processors tree → covers tree vp list ≡ true → covers tree other list ≡ true → is_leaf tree list ≡ true → vp ≡ other }
+{}
+
+/// The thread that a processor picks from its node's run lists is on that node; and there is one wherever somebody can run, since
+/// as yet all stand on the root list.
 pub fn picked()
-    ensures { (p : Program) (w : Spots) (net : Net) → Stands p w net → (n : ℕ) (r : Row) → best (net.nodes n).places.rows ≡ Some r → (x : Thread) × IsOn net n r.tid x }
+    ensures some { (p : Program) (w : Spots) (net : Net) → Stands p w net → (n vp : ℕ) → ((net.nodes n).places.rows ≡ [] → ⊥) → (r : Row) × (best_on (tree_of p) vp (net.nodes n).places.rows ≡ Some r) }
+    ensures there { (p : Program) (w : Spots) (net : Net) → Stands p w net → (n vp : ℕ) (r : Row) → best_on (tree_of p) vp (net.nodes n).places.rows ≡ Some r → (x : Thread) × IsOn net n r.tid x }
 {}
 
 /// A thread that is on a node is on its run list exactly where it waits for nothing, and each on the run list is on the node.

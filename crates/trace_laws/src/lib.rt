@@ -5,6 +5,6 @@
 mod laws;
 
 pub use laws::{
-    alone, begun, expected, gathered, ignored, inside, joined, judged, legal, merged, one_holder,
+    alone, begun, expected, gathered, ignored, inside, joined, judged, legal, levels, merged, one_holder,
     one_trace, picked, quiet, ran, ready, rules_and_machine, same_wherever, started, told, whole,
 };

@@ -1,5 +1,5 @@
-use Rattle.trace_laws.proofs.Legals.{rules_are_runs, rules_go_on}
+use Rattle.trace_laws.proofs.Legals.{rules_are_runs, entry_fits, rules_go_on}
 use Rattle.trace_laws.proofs.laws.rules_and_machine.Goals as goal
 
 pub returns : goal.returns
-returns c = record { same = rules_are_runs; goes_on = rules_go_on }
+returns c = record { same = rules_are_runs; entry = entry_fits; goes_on = rules_go_on }
