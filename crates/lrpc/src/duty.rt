@@ -6,7 +6,7 @@ ghost use Rattle.lrpc.specs.Duties.{given_by, after_giving, owed_by};
 use crate::call::CallNo;
 
 /// What a thread owes to a remote call.
-#[derive(Clone, Copy, Debug, PartialEq, Eq)]
+#[derive(Clone, Copy, PartialEq, Eq)]
 pub enum Duty {
     /// It serves no call.
     None,
@@ -19,7 +19,7 @@ pub enum Duty {
 }
 
 /// What becomes of a result that a thread gives.
-#[derive(Clone, Copy, Debug, PartialEq, Eq)]
+#[derive(Clone, Copy, PartialEq, Eq)]
 pub enum Given {
     /// It goes to the caller of this call.
     Send(CallNo),

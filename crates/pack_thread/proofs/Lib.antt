@@ -1,5 +1,7 @@
 pub mod FieldLaws
 pub mod Steps
+pub mod PlaceSteps
+pub mod DutySteps
 pub mod BlockRules
 pub mod WriteSteps
 pub mod Memories

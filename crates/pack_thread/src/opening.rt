@@ -4,7 +4,7 @@ ghost use Rattle.std.specs.Prelude.{◌≡◌, ℕ, suc, ◌+◌, ◌^◌, ◌<�
 ghost use Rattle.slot_space.specs.Sets.{has, IsSlotSet};
 ghost use Rattle.iso_blocks.specs.Heap.{IsBlock, StandFrom};
 ghost use Rattle.pack_thread.specs.Fields.{number_at as number_from, read};
-ghost use Rattle.pack_thread.specs.Grammar.{read_text, thread_fields, duty_fields, register_fields, place_fields, slot_fields, live_fields, block_fields, is_call_node as may_be_call_node, is_heap_slot as may_be_heap_slot, is_start as may_be_start, is_size as may_be_size};
+ghost use Rattle.pack_thread.specs.Grammar.{read_text, thread_fields, duty_fields, register_fields, place_fields, slot_fields, live_fields, block_fields, is_call_node as may_be_call_node, is_call_number as may_be_call_number, is_heap_slot as may_be_heap_slot, is_start as may_be_start, is_size as may_be_size};
 ghost use Rattle.pack_thread.specs.Reading.{GoesOn, block_at, blocks_at};
 ghost use Rattle.pack_thread.specs.Opened.{who_numbers, place_numbers, live_at, slots_at, opened_numbers, reading_of, IsOpen};
 ghost use Rattle.pack_thread.specs.Threads.{call_numbers, duty_numbers, block_numbers};
@@ -125,7 +125,6 @@ fn read_who(bytes: &[u8]) -> Result<Who, u64>
 }
 
 /// The fields from 14 on: the duty, and the call that the thread serves.
-#[tactic(auto, unfolding(crate::specs::Grammar::duty_fields, crate::specs::Fields::read))]
 fn read_duty(bytes: &[u8]) -> Result<Duty, u64>
     ensures { GoesOn duty_numbers result (read duty_fields bytes.now 14) (λ d. read (register_fields 31) bytes.now 25) }
 {
@@ -134,9 +133,9 @@ fn read_duty(bytes: &[u8]) -> Result<Duty, u64>
     let home = number_at(bytes, 15, 1)?;
     require(is_call_node(duty, home), 15)?;
     let seq = number_at(bytes, 16, 4)?;
-    require(duty != 0 || seq == 0, 16)?;
+    require(is_call_number(duty, seq), 16)?;
     let count = number_at(bytes, 20, 4)?;
-    require(duty != 0 || count == 0, 20)?;
+    require(is_call_number(duty, count), 20)?;
     let at = number_at(bytes, 24, 1)?;
     require(is_call_node(duty, at), 24)?;
     let call = CallNo {
@@ -170,6 +169,13 @@ fn is_call_node(duty: u64, node: u64) -> bool
     if duty == 0 { node == 0 } else { node < 8 }
 }
 
+/// Whether the number may be one of the call that a thread serves, by the number of its duty.
+fn is_call_number(duty: u64, number: u64) -> bool
+    ensures { result ≡ may_be_call_number duty number }
+{
+    duty != 0 || number == 0
+}
+
 /// The fields from 25 on: registers 1 to 31.
 fn read_registers(bytes: &[u8]) -> Result<[u64; 32], u64>
     ensures numbers { GoesOn (λ regs. drop 1 regs) result (read (register_fields 31) bytes.now 25) (λ regs. read place_fields bytes.now 273) }
@@ -183,7 +189,6 @@ fn read_registers(bytes: &[u8]) -> Result<[u64; 32], u64>
 }
 
 /// The fields from 273 on.
-#[tactic(auto, unfolding(crate::specs::Grammar::place_fields, crate::specs::Fields::read))]
 fn read_place(bytes: &[u8]) -> Result<Place, u64>
     ensures numbers { GoesOn place_numbers result (read place_fields bytes.now 273) (λ p. read (slot_fields p.heap 0 p.stack []) bytes.now 285) }
     ensures small { IfOk result (λ p. (p.stack < 4096) × (p.heap < 4096)) }

@@ -85,7 +85,6 @@ fn build(alloc: Global, bytes: &[u8], opened: Opened, pool: &mut Pool) -> Result
 }
 
 /// So many blocks, from a place of the bytes on.
-#[tactic(auto, unfolding(crate::specs::Reading::blocks_at))]
 fn blocks_of(
     alloc: Global,
     bytes: &[u8],

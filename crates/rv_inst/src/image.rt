@@ -9,7 +9,7 @@ use std::alloc::Global;
 const IMAGE_START: u64 = 0x1_0000;
 
 /// A program as it stands in memory, the first byte at 0x10000. It is read-only.
-#[derive(Debug, PartialEq, Eq, Drop)]
+#[derive(PartialEq, Eq, Drop)]
 pub struct Image {
     /// The bytes from 0x10000 on.
     pub bytes: Items<u8>,
