@@ -10,8 +10,9 @@ use Rattle.words.proofs.Rules.{same_text}
 use Rattle.words.proofs.Uses.{tally, tally_is, uses_have_values}
 use Rattle.settings.specs.declared.verb.Verb.{Verb}
 use Rattle.settings.specs.declared.command.Command.{Command}
-use Rattle.settings.specs.Numbers.{NumberOf, all_names, at_most_once, at_most_one, moves, nodes, number_at, quantum, seed, slots, turns}
-use Rattle.settings.specs.Settings.{IsOnceOnly, chosen_by, chosen_with, command_of, grammar_of, settings_by, settings_of, some_then, verb_of}
+use Rattle.settings.specs.declared.command.Command.TheVariants as command
+use Rattle.settings.specs.Numbers.{NumberOf, all_names, at_most_once, at_most_one, flag_at, moves, nodes, number_at, quantum, schedule, seed, slots, summary, trace, turns}
+use Rattle.settings.specs.Settings.{IsOnceOnly, chosen_by, chosen_with, command_of, grammar_of, settings_by, settings_of, some_then, turns_of, verb_of}
 
 -- ---- what there isn't
 
@@ -45,19 +46,41 @@ slots_single command given two = then_nothing (number_at given nodes) _ (λ n. r
 quantum_single : IsSingle quantum.name
 quantum_single command given two = then_nothing (number_at given nodes) _ (λ n. then_nothing (number_at given slots) _ (λ s. rw (no_number given quantum two) refl))
 
+no_turns : (command : Command) (given : Text → List Text) → 2 ≤ length (given turns.name) → number_at given (turns_of command) ≡ None
+no_turns (command.Stress jobs) given h = rw (two_values (given turns.name) h) refl
+no_turns (command.Asm file) given h = rw (two_values (given turns.name) h) refl
+no_turns (command.Sim file) given h = rw (two_values (given turns.name) h) refl
+no_turns (command.Replay file acts) given h = rw (two_values (given turns.name) h) refl
+
 turns_single : IsSingle turns.name
 turns_single command given two =
-    then_nothing (number_at given nodes) _ (λ n. then_nothing (number_at given slots) _ (λ s. then_nothing (number_at given quantum) _ (λ q. rw (no_number given turns two) refl)))
+    then_nothing (number_at given nodes) _ (λ n. then_nothing (number_at given slots) _ (λ s. then_nothing (number_at given quantum) _ (λ q. rw (no_turns command given two) refl)))
 
 seed_single : IsSingle seed.name
 seed_single command given two =
-    then_nothing (number_at given nodes) _ (λ n. then_nothing (number_at given slots) _ (λ s. then_nothing (number_at given quantum) _ (λ q. then_nothing (number_at given turns) _ (λ t.
+    then_nothing (number_at given nodes) _ (λ n. then_nothing (number_at given slots) _ (λ s. then_nothing (number_at given quantum) _ (λ q. then_nothing (number_at given (turns_of command)) _ (λ t.
     rw (no_number given seed two) refl))))
 
 moves_single : IsSingle moves
 moves_single command given two =
-    then_nothing (number_at given nodes) _ (λ n. then_nothing (number_at given slots) _ (λ s. then_nothing (number_at given quantum) _ (λ q. then_nothing (number_at given turns) _ (λ t.
+    then_nothing (number_at given nodes) _ (λ n. then_nothing (number_at given slots) _ (λ s. then_nothing (number_at given quantum) _ (λ q. then_nothing (number_at given (turns_of command)) _ (λ t.
     then_nothing (number_at given seed) _ (λ d. rw (two_uses (given moves) two) refl)))))
+
+summary_single : IsSingle summary
+summary_single command given two =
+    then_nothing (number_at given nodes) _ (λ n. then_nothing (number_at given slots) _ (λ s. then_nothing (number_at given quantum) _ (λ q. then_nothing (number_at given (turns_of command)) _ (λ t.
+    then_nothing (number_at given seed) _ (λ d. then_nothing (flag_at given moves) _ (λ m. rw (two_uses (given summary) two) refl))))))
+
+trace_single : IsSingle trace
+trace_single command given two =
+    then_nothing (number_at given nodes) _ (λ n. then_nothing (number_at given slots) _ (λ s. then_nothing (number_at given quantum) _ (λ q. then_nothing (number_at given (turns_of command)) _ (λ t.
+    then_nothing (number_at given seed) _ (λ d. then_nothing (flag_at given moves) _ (λ m. then_nothing (flag_at given summary) _ (λ u. rw (two_values (given trace) two) refl)))))))
+
+schedule_single : IsSingle schedule
+schedule_single command given two =
+    then_nothing (number_at given nodes) _ (λ n. then_nothing (number_at given slots) _ (λ s. then_nothing (number_at given quantum) _ (λ q. then_nothing (number_at given (turns_of command)) _ (λ t.
+    then_nothing (number_at given seed) _ (λ d. then_nothing (flag_at given moves) _ (λ m. then_nothing (flag_at given summary) _ (λ u. then_nothing (at_most_one (given trace)) _ (λ r.
+    rw (two_values (given schedule) two) refl))))))))
 
 -- ---- the words
 
@@ -69,12 +92,14 @@ good_names verb names command e = by_test (list_all is_name names) refl
     by_test false h = let bad = rw h at e in cc
 
 pub verb_is_plain : (word : Text) (verb : Verb) → verb_of word ≡ Some verb → form_of word ≡ plain
-verb_is_plain word verb e = by_word (bytes_eq word (codes "asm")) (bytes_eq word (codes "sim")) refl refl
+verb_is_plain word verb e = by_word (bytes_eq word (codes "asm")) (bytes_eq word (codes "sim")) (bytes_eq word (codes "replay")) (bytes_eq word (codes "stress")) refl refl refl refl
   where
-    by_word : (a s : Bool) → bytes_eq word (codes "asm") ≡ a → bytes_eq word (codes "sim") ≡ s → form_of word ≡ plain
-    by_word true s ea es = rw (same_text word (codes "asm") ea) refl
-    by_word false true ea es = rw (same_text word (codes "sim") es) refl
-    by_word false false ea es = let bad = rw (ea, es) at e in cc
+    by_word : (a s r t : Bool) → bytes_eq word (codes "asm") ≡ a → bytes_eq word (codes "sim") ≡ s → bytes_eq word (codes "replay") ≡ r → bytes_eq word (codes "stress") ≡ t → form_of word ≡ plain
+    by_word true s r t ea es er et = rw (same_text word (codes "asm") ea) refl
+    by_word false true r t ea es er et = rw (same_text word (codes "sim") es) refl
+    by_word false false true t ea es er et = rw (same_text word (codes "replay") er) refl
+    by_word false false false true ea es er et = rw (same_text word (codes "stress") et) refl
+    by_word false false false false ea es er et = let bad = rw (ea, es, er, et) at e in cc
 
 verb_is_no_use : (name word : Text) (verb : Verb) → verb_of word ≡ Some verb → is_use name word ≡ false
 verb_is_no_use name word verb e = rw (verb_is_plain word verb e) refl
@@ -109,9 +134,13 @@ once name single (word ∷ words) h = by_verb name single word words (verb_of wo
 
 pub all_once : All IsOnceOnly all_names
 all_once =
-    All-cons IsOnceOnly nodes.name (slots.name ∷ quantum.name ∷ turns.name ∷ seed.name ∷ moves ∷ []) (once nodes.name nodes_single)
-    (All-cons IsOnceOnly slots.name (quantum.name ∷ turns.name ∷ seed.name ∷ moves ∷ []) (once slots.name slots_single)
-    (All-cons IsOnceOnly quantum.name (turns.name ∷ seed.name ∷ moves ∷ []) (once quantum.name quantum_single)
-    (All-cons IsOnceOnly turns.name (seed.name ∷ moves ∷ []) (once turns.name turns_single)
-    (All-cons IsOnceOnly seed.name (moves ∷ []) (once seed.name seed_single)
-    (All-cons IsOnceOnly moves [] (once moves moves_single) (All-nil IsOnceOnly))))))
+    All-cons IsOnceOnly nodes.name (slots.name ∷ quantum.name ∷ turns.name ∷ seed.name ∷ trace ∷ schedule ∷ moves ∷ summary ∷ []) (once nodes.name nodes_single)
+    (All-cons IsOnceOnly slots.name (quantum.name ∷ turns.name ∷ seed.name ∷ trace ∷ schedule ∷ moves ∷ summary ∷ []) (once slots.name slots_single)
+    (All-cons IsOnceOnly quantum.name (turns.name ∷ seed.name ∷ trace ∷ schedule ∷ moves ∷ summary ∷ []) (once quantum.name quantum_single)
+    (All-cons IsOnceOnly turns.name (seed.name ∷ trace ∷ schedule ∷ moves ∷ summary ∷ []) (once turns.name turns_single)
+    (All-cons IsOnceOnly seed.name (trace ∷ schedule ∷ moves ∷ summary ∷ []) (once seed.name seed_single)
+    (All-cons IsOnceOnly trace (schedule ∷ moves ∷ summary ∷ []) (once trace trace_single)
+    (All-cons IsOnceOnly schedule (moves ∷ summary ∷ []) (once schedule schedule_single)
+    (All-cons IsOnceOnly moves (summary ∷ []) (once moves moves_single)
+    (All-cons IsOnceOnly summary [] (once summary summary_single)
+    (All-nil IsOnceOnly)))))))))

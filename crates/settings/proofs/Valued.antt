@@ -10,7 +10,7 @@ use Rattle.words.proofs.Walks.{and_both}
 use Rattle.settings.specs.declared.verb.Verb.{Verb}
 use Rattle.settings.specs.declared.verb.Verb.TheVariants as verb
 use Rattle.settings.specs.declared.command.Command.{Command}
-use Rattle.settings.specs.Numbers.{flags, moves}
+use Rattle.settings.specs.Numbers.{flags, moves, summary}
 use Rattle.settings.specs.Settings.{IsWithoutValue, chosen_by, command_of, gives_value, grammar_of, settings_by, settings_of, gives_in, verb_of}
 use Rattle.settings.proofs.Twice.{good_names, verb_is_plain}
 
@@ -122,6 +122,16 @@ without_value name no_option (word ∷ words) h = by_verb name no_option word wo
 moves_is_no_option : IsNoOption moves
 moves_is_no_option verb.Asm = refl
 moves_is_no_option verb.Sim = refl
+moves_is_no_option verb.Replay = refl
+moves_is_no_option verb.Stress = refl
+
+summary_is_no_option : IsNoOption summary
+summary_is_no_option verb.Asm = refl
+summary_is_no_option verb.Sim = refl
+summary_is_no_option verb.Replay = refl
+summary_is_no_option verb.Stress = refl
 
 pub all_without_value : All IsWithoutValue flags
-all_without_value = All-cons IsWithoutValue moves [] (without_value moves moves_is_no_option) (All-nil IsWithoutValue)
+all_without_value =
+    All-cons IsWithoutValue moves (summary ∷ []) (without_value moves moves_is_no_option)
+    (All-cons IsWithoutValue summary [] (without_value summary summary_is_no_option) (All-nil IsWithoutValue))

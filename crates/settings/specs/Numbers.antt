@@ -1,6 +1,7 @@
 -- Options whose values are numbers, flags, and what is given at most once.
-use Rattle.std.specs.Prelude.{◌&&◌, ℕ, Bool, true, false, List, [], ◌∷◌, ◌++◌, length, map, Option, Some, None, if◌then◌else◌, codes, nat_le, option_and_then}
+use Rattle.std.specs.Prelude.{◌&&◌, ℕ, Bool, true, false, List, [], ◌∷◌, ◌++◌, length, map, not, Option, Some, None, if◌then◌else◌, codes, nat_le, option_and_then}
 use Rattle.std.specs.List.{list_all}
+use Rattle.std.specs.Str.{bytes_eq}
 use Rattle.std.specs.Str.Parse.{digits_value}
 use Rattle.words.specs.Words.{Text, is_name}
 
@@ -50,6 +51,10 @@ turns = record { name = codes "turns"; low = 1; high = 1000000; usual = 100000 }
 abbrev pub seed : NumberOf
 seed = record { name = codes "seed"; low = 0; high = 18446744073709551615; usual = 0 }
 
+-- the turns of `stress`, which has more where the option isn't given
+abbrev pub long_turns : NumberOf
+long_turns = record turns { usual = 1000000 }
+
 -- all of them
 abbrev pub number_options : List NumberOf
 number_options = nodes ∷ slots ∷ quantum ∷ turns ∷ seed ∷ []
@@ -62,18 +67,42 @@ number_or_usual o (Some text) = number_of o.low o.high text
 abbrev pub number_at : (Text → List Text) → NumberOf → Option ℕ
 number_at given o = option_and_then (number_or_usual o) (at_most_one (given o.name))
 
+-- the number of jobs of `stress`
+abbrev pub jobs_of : Text → Option ℕ
+jobs_of text = number_of 1 1000 text
+
+-- ---- options whose values are names of files
+
+abbrev pub trace : Text
+trace = codes "trace"
+
+abbrev pub schedule : Text
+schedule = codes "schedule"
+
+-- all of them
+abbrev pub name_options : List Text
+name_options = trace ∷ schedule ∷ []
+
+-- not both are given with one name
+abbrev pub are_apart : Option Text → Option Text → Bool
+are_apart (Some a) (Some b) = not (bytes_eq a b)
+are_apart _ _ = true
+
 -- ---- flags
 
 abbrev pub moves : Text
 moves = codes "moves"
 
+abbrev pub summary : Text
+summary = codes "summary"
+
 -- all of them
 abbrev pub flags : List Text
-flags = moves ∷ []
+flags = moves ∷ summary ∷ []
 
 -- the names of all options and flags
 abbrev pub all_names : List Text
-all_names = map (λ o. o.name) number_options ++ flags
+all_names = map (λ o. o.name) number_options ++ (name_options ++ flags)
 
 -- whether there is a use of a flag; None where there are two
 abbrev pub at_most_once : List Text → Option Bool

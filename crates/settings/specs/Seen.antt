@@ -1,9 +1,12 @@
 -- Settings as numbers, and an option without where its name lies in memory.
-use Rattle.std.specs.Prelude.{◌≤◌}
+use Rattle.std.specs.Prelude.{◌≤◌, ℕ}
+use Rattle.std.specs.Option.{option_map}
 use Rattle.settings.specs.Numbers.{NumberOf}
 use Rattle.settings.specs.Settings.{Chosen}
 use Rattle.settings.specs.declared.number.NumberOption.{NumberOption}
 use Rattle.settings.specs.declared.asked.Settings.{Settings}
+use Rattle.settings.specs.declared.asked.Asked.{Asked}
+use Rattle.settings.specs.declared.command.Command.{Command}
 
 abbrev pub chosen : Settings → Chosen
 chosen s = record {
@@ -14,10 +17,31 @@ chosen s = record {
   turns = s.turns;
   seed = s.seed;
   moves = s.moves;
+  summary = s.summary;
+  trace = s.trace;
+  schedule = s.schedule;
 }
 
 abbrev pub option_seen : NumberOption → NumberOf
 option_seen o = record { name = o.name.now; low = o.low; high = o.high; usual = o.usual }
+
+-- the same of what is asked for by names that aren't owned
+abbrev pub chosen_in : Command → Asked → Chosen
+chosen_in command a = record {
+  command = command;
+  nodes = a.setup.geometry.nodes;
+  slots = a.setup.geometry.slots;
+  quantum = a.setup.quantum;
+  turns = a.turns;
+  seed = a.seed;
+  moves = a.moves;
+  summary = a.summary;
+  trace = option_map (λ s. s.now) a.trace;
+  schedule = option_map (λ s. s.now) a.schedule;
+}
+
+abbrev pub IsBetween : ℕ → ℕ → ℕ → Type 0
+IsBetween low high n = (low ≤ n) × (n ≤ high)
 
 -- a run has 1 to 65,536 instructions, and there are 1 to 1,000,000 entries; nodes and slots have their own limits
 pub record IsWithinLimits (s : Settings) : Type 0 where

@@ -19,7 +19,7 @@ fn chosen_by(alloc: Global, verb: Verb, given: &Given) -> Result<Settings, Words
     ensures limits { IfOk result IsWithinLimits }
 {
     let command = command_of(alloc, verb, given.values("FILE"))?;
-    settings_with(command, given).ok_or(WordsError::Usage)
+    settings_with(alloc, command, given)
 }
 
 /// The settings of a command by the words behind it.

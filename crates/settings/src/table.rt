@@ -36,6 +36,14 @@ pub(crate) const TURNS: NumberOption = NumberOption {
     usual: 100_000,
 };
 
+/// The turns of `stress`.
+pub(crate) const LONG_TURNS: NumberOption = NumberOption {
+    name: "turns",
+    low: 1,
+    high: 1_000_000,
+    usual: 1_000_000,
+};
+
 pub(crate) const SEED: NumberOption = NumberOption {
     name: "seed",
     low: 0,
@@ -45,6 +53,15 @@ pub(crate) const SEED: NumberOption = NumberOption {
 
 /// The name of a flag.
 pub(crate) const MOVES: &str = "moves";
+
+/// The name of a flag.
+pub(crate) const SUMMARY: &str = "summary";
+
+/// The name of an option whose value is a file's name.
+pub(crate) const TRACE: &str = "trace";
+
+/// The name of an option whose value is a file's name.
+pub(crate) const SCHEDULE: &str = "schedule";
 
 /// The option's number.
 pub(crate) fn number_at(given: &Given, option: NumberOption) -> Option<u64>

@@ -6,16 +6,26 @@ ghost use Rattle.settings.specs.Settings.{verb_of, grammar_of};
 
 use words::Grammar;
 
-/// What is done with a file.
+/// What is done.
 #[derive(Clone, Copy, Debug, PartialEq, Eq)]
 pub(crate) enum Verb {
     Asm,
     Sim,
+    Replay,
+    Stress,
 }
 
-static SIM_OPTIONS: [&str; 5] = ["nodes", "slots", "quantum", "turns", "seed"];
+static SIM_OPTIONS: [&str; 7] = [
+    "nodes", "slots", "quantum", "turns", "seed", "trace", "schedule",
+];
 
-static SIM_FLAGS: [&str; 1] = ["moves"];
+static SIM_FLAGS: [&str; 2] = ["moves", "summary"];
+
+static REPLAY_OPTIONS: [&str; 3] = ["nodes", "slots", "trace"];
+
+static REPLAY_FLAGS: [&str; 1] = ["summary"];
+
+static STRESS_OPTIONS: [&str; 6] = ["nodes", "slots", "quantum", "turns", "trace", "schedule"];
 
 impl Verb {
     /// The command of a word.
@@ -26,6 +36,10 @@ impl Verb {
             Some(Verb::Asm)
         } else if word == "sim" {
             Some(Verb::Sim)
+        } else if word == "replay" {
+            Some(Verb::Replay)
+        } else if word == "stress" {
+            Some(Verb::Stress)
         } else {
             None
         }
@@ -43,6 +57,14 @@ impl Verb {
             Verb::Sim => Grammar {
                 options: &SIM_OPTIONS,
                 flags: &SIM_FLAGS,
+            },
+            Verb::Replay => Grammar {
+                options: &REPLAY_OPTIONS,
+                flags: &REPLAY_FLAGS,
+            },
+            Verb::Stress => Grammar {
+                options: &STRESS_OPTIONS,
+                flags: &[],
             },
         }
     }

@@ -3,5 +3,8 @@
 #![tactic(auto)]
 
 mod error;
+mod rows;
+mod writing;
 
 pub use error::TextError;
+pub use writing::{push_number, push_tid, trace_text};

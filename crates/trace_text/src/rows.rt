@@ -1,0 +1,66 @@
+//! The table of calls.
+
+ghost use Rattle.std.specs.Prelude.{◌≡◌, map};
+ghost use Rattle.std.specs.Option.{option_map};
+ghost use Rattle.trace_text.specs.Calls.{calls, row_of, numbered, call_numbered};
+
+/// A call: its name, its number, how many arguments are told of it, and whether the bytes that it names are told.
+#[derive(Clone, Copy)]
+pub(crate) struct Row {
+    pub(crate) name: &'static [u8],
+    pub(crate) number: u64,
+    pub(crate) arguments: usize,
+    pub(crate) says: bool,
+}
+
+macro_rules! row {
+    ($name:expr, $number:expr, $arguments:expr, $says:expr) => {
+        Row {
+            name: $name,
+            number: $number,
+            arguments: $arguments,
+            says: $says,
+        }
+    };
+}
+
+static ROWS: [Row; 12] = [
+    row!(b"exit", 1, 1, false),
+    row!(b"self", 2, 0, false),
+    row!(b"node", 3, 0, false),
+    row!(b"nodes", 4, 0, false),
+    row!(b"yield", 5, 0, false),
+    row!(b"create", 6, 3, false),
+    row!(b"join", 7, 1, false),
+    row!(b"isomalloc", 12, 1, false),
+    row!(b"isofree", 13, 1, false),
+    row!(b"migrate_self", 14, 1, false),
+    row!(b"print", 16, 2, true),
+    row!(b"halt", 25, 0, false),
+];
+
+/// Every call that a guest can make so far.
+#[tactic(auto, unfolding(crate::specs::Calls::calls))]
+fn rows() -> &'static [Row]
+    ensures { map row_of result.now ≡ calls }
+{
+    &ROWS
+}
+
+fn numbered(rows: &[Row], number: u64) -> Option<Row>
+    ensures { option_map row_of result ≡ numbered (map row_of rows.now) number }
+{
+    for row in rows {
+        if row.number == number {
+            return Some(*row);
+        }
+    }
+    None
+}
+
+/// The call of this number.
+pub(crate) fn call_numbered(number: u64) -> Option<Row>
+    ensures { option_map row_of result ≡ call_numbered number }
+{
+    numbered(rows(), number)
+}
