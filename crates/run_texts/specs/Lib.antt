@@ -1,0 +1,6 @@
+pub mod Parts
+pub mod Acts
+pub mod Schedules
+pub mod Written
+pub mod Summaries
+pub mod Stress

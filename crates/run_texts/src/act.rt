@@ -1,0 +1,141 @@
+//! What a line of a schedule says.
+
+ghost use Rattle.std.specs.Prelude.{◌≡◌};
+ghost use Rattle.run_texts.specs.Parts.{words_of};
+ghost use Rattle.run_texts.specs.Acts.{act_in, move_in, node_in, run_in, said_in, said_plainly, said_words, take_in, tid_in};
+
+use crate::number::number_in;
+use crate::parts::{next_word, place_of, without_carriage_return};
+use run_trace::Act;
+use slot_space::{NodeNo, Tid};
+
+/// What a line of a schedule says.
+#[derive(Clone, Copy)]
+pub(crate) enum Said {
+    Nothing,
+    /// It isn't of the grammar.
+    Bad,
+    /// This act on this node.
+    Act(NodeNo, Act),
+}
+
+/// A node's number, of so many nodes.
+fn node_in(nodes: u8, text: &[u8]) -> Option<NodeNo>
+    ensures { result ≡ node_in nodes text.now }
+{
+    let node = number_in(0, nodes as u64, text)?;
+    Some(NodeNo(node as u8))
+}
+
+/// A thread's name.
+fn tid_in(nodes: u8, text: &[u8]) -> Option<Tid>
+    ensures { result ≡ tid_in nodes text.now }
+{
+    let dot = place_of(b'.', text);
+    if dot == text.len() {
+        return None;
+    }
+    let home = node_in(nodes, &text[..dot])?;
+    let seq = number_in(0, 0x1_0000_0000, &text[dot + 1..])?;
+    Some(Tid {
+        home,
+        seq: seq as u32,
+    })
+}
+
+/// A processor, of which there is one, and a quantum.
+fn run_in(words: &[u8]) -> Option<Act>
+    ensures { result ≡ run_in (words_of words.now) }
+{
+    let (vp, rest) = next_word(words)?;
+    let (quantum, rest) = next_word(rest)?;
+    if next_word(rest).is_some() {
+        return None;
+    }
+    let vp = number_in(0, 1, vp)?;
+    let quantum = number_in(1, 65537, quantum)?;
+    Some(Act::Run(vp as u8, quantum as u32))
+}
+
+/// The sender's node.
+fn take_in(nodes: u8, words: &[u8]) -> Option<Act>
+    ensures { result ≡ take_in nodes (words_of words.now) }
+{
+    let (sender, rest) = next_word(words)?;
+    if next_word(rest).is_some() {
+        return None;
+    }
+    let sender = node_in(nodes, sender)?;
+    Some(Act::Take(sender))
+}
+
+/// A thread, and another node.
+fn move_in(nodes: u8, node: NodeNo, words: &[u8]) -> Option<Act>
+    ensures { result ≡ move_in nodes node (words_of words.now) }
+{
+    let (t, rest) = next_word(words)?;
+    let (to, rest) = next_word(rest)?;
+    if next_word(rest).is_some() {
+        return None;
+    }
+    let t = tid_in(nodes, t)?;
+    let to = node_in(nodes, to)?;
+    if to.0 == node.0 {
+        None
+    } else {
+        Some(Act::Move(t, to))
+    }
+}
+
+/// An act of this name on this node.
+fn act_in(nodes: u8, node: NodeNo, name: &[u8], words: &[u8]) -> Option<Act>
+    ensures { result ≡ act_in nodes node name.now (words_of words.now) }
+{
+    if name == b"run".as_slice() {
+        run_in(words)
+    } else if name == b"take".as_slice() {
+        take_in(nodes, words)
+    } else if name == b"move".as_slice() {
+        move_in(nodes, node, words)
+    } else {
+        None
+    }
+}
+
+/// What an act's words say.
+fn said_words(nodes: u8, line: &[u8]) -> Said
+    ensures { result ≡ said_words nodes (words_of line.now) }
+{
+    let Some((name, rest)) = next_word(line) else {
+        return Said::Bad
+    };
+    let Some((node, rest)) = next_word(rest) else {
+        return Said::Bad
+    };
+    let Some(node) = node_in(nodes, node) else {
+        return Said::Bad
+    };
+    match act_in(nodes, node, name, rest) {
+        Some(act) => Said::Act(node, act),
+        None => Said::Bad,
+    }
+}
+
+fn said_plainly(nodes: u8, line: &[u8]) -> Said
+    ensures { result ≡ said_plainly nodes line.now }
+{
+    if line.is_empty() || line[0] == b'#' || next_word(line).is_none() {
+        return Said::Nothing;
+    }
+    if line[0] == b' ' {
+        return Said::Bad;
+    }
+    said_words(nodes, line)
+}
+
+/// What a line says, where there are so many nodes.
+pub(crate) fn said_in(nodes: u8, line: &[u8]) -> Said
+    ensures { result ≡ said_in nodes line.now }
+{
+    said_plainly(nodes, without_carriage_return(line))
+}
