@@ -1,7 +1,7 @@
 -- Settings as numbers, and an option without where its name lies in memory.
-use Rattle.std.specs.Prelude.{◌≤◌, ℕ}
+use Rattle.std.specs.Prelude.{◌≡◌, ◌≤◌, ℕ, true}
 use Rattle.std.specs.Option.{option_map}
-use Rattle.settings.specs.Numbers.{NumberOf}
+use Rattle.settings.specs.Numbers.{NumberOf, are_apart}
 use Rattle.settings.specs.Settings.{Chosen}
 use Rattle.settings.specs.declared.number.NumberOption.{NumberOption}
 use Rattle.settings.specs.declared.asked.Settings.{Settings}
@@ -43,9 +43,11 @@ chosen_in command a = record {
 abbrev pub IsBetween : ℕ → ℕ → ℕ → Type 0
 IsBetween low high n = (low ≤ n) × (n ≤ high)
 
--- a run has 1 to 65,536 instructions, and there are 1 to 1,000,000 entries; nodes and slots have their own limits
+-- a run has 1 to 65,536 instructions, and there are 1 to 1,000,000 entries; nodes and slots have their own limits; the trace and the
+-- schedule go to two files
 pub record IsWithinLimits (s : Settings) : Type 0 where
   pub some_quantum : 1 ≤ s.setup.quantum
   pub small_quantum : s.setup.quantum ≤ 65536
   pub some_turns : 1 ≤ s.turns
   pub few_turns : s.turns ≤ 1000000
+  pub apart : are_apart s.trace s.schedule ≡ true

@@ -1,6 +1,6 @@
 //! What a command line asks for.
 
-ghost use Rattle.std.specs.Prelude.{◌≡◌, Some, None, IfOk, IfSome, IsErrOf};
+ghost use Rattle.std.specs.Prelude.{◌≡◌, true, Some, None, IfOk, IfSome, IsErrOf};
 ghost use Rattle.std.specs.Option.{option_map};
 ghost use Rattle.words.specs.Seen.{values_given};
 ghost use Rattle.settings.specs.Numbers.{are_apart};
@@ -82,6 +82,7 @@ struct Asked<'a> {
 fn asked_with<'a>(command: &Command, given: &Given<'a>) -> Option<Asked<'a>>
     ensures value { option_map (chosen_in command.now) result ≡ chosen_with command.now (values_given given.now) }
     ensures limits { IfSome result (λ a. IsBetween 1 65536 a.setup.quantum × IsBetween 1 1000000 a.turns) }
+    ensures apart { IfSome result (λ a. are_apart (option_map (λ s. s.now) a.trace) (option_map (λ s. s.now) a.schedule) ≡ true) }
 {
     let nodes = number_at(given, NODES)?;
     let slots = number_at(given, SLOTS)?;

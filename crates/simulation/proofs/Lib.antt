@@ -1,3 +1,4 @@
 mod Beginning
 mod Choosing
 mod Running
+mod Replaying

@@ -30,17 +30,17 @@ use Rattle.simulation.proofs.Beginning.{begins_possible, nothing_shown}
 
 -- ## The output
 
-appended : (written : Option (List ℕ)) (xs ys : List ℕ) (mid now : Option (List ℕ)) → Appends written xs mid → Appends mid ys now → Appends written (xs ++ ys) now
+pub appended : (written : Option (List ℕ)) (xs ys : List ℕ) (mid now : Option (List ℕ)) → Appends written xs mid → Appends mid ys now → Appends written (xs ++ ys) now
 appended None xs ys mid now h k = k ∙ ap (option_map (λ b. b ++ ys)) h
 appended (Some b) xs ys mid now h k = k ∙ ap (option_map (λ z. z ++ ys)) h ∙ ap (λ (z : List ℕ). Some z) (append_assoc b xs ys)
 
-whole_prefix : (written : Option (List ℕ)) (xs : List ℕ) (now : Option (List ℕ)) → Appends written xs now → AppendsPrefix written xs now
+pub whole_prefix : (written : Option (List ℕ)) (xs : List ℕ) (now : Option (List ℕ)) → Appends written xs now → AppendsPrefix written xs now
 whole_prefix written xs now h = (length xs, subst (λ ys. Appends written ys now) (sym (take_all xs)) h)
   where
     take_all : (xs : List ℕ) → take (length xs) xs ≡ xs
     take_all xs = ap (take (length xs)) (sym (append-nil xs)) ∙ take-append_seam xs []
 
-prefixed : (written : Option (List ℕ)) (xs ys : List ℕ) (mid now : Option (List ℕ)) → Appends written xs mid → AppendsPrefix mid ys now → AppendsPrefix written (xs ++ ys) now
+pub prefixed : (written : Option (List ℕ)) (xs ys : List ℕ) (mid now : Option (List ℕ)) → Appends written xs mid → AppendsPrefix mid ys now → AppendsPrefix written (xs ++ ys) now
 prefixed written xs ys mid now h k =
     (length xs + k.0, subst (λ zs. Appends written zs now) (sym (take-append-add xs ys k.0)) (appended written xs (take k.0 ys) mid now h k.1))
 

@@ -12,7 +12,7 @@ use Rattle.cluster.specs.Outcomes.{IsDoneAt, IsStuckAt}
 use Rattle.cluster.specs.Standing.{HaveCarried}
 use Rattle.simulation.specs.Drawn.{AreDrawn}
 use Rattle.simulation.specs.declared.simulation.End.{End}
-use Rattle.simulation.specs.declared.simulation.End.TheVariants.{Done, Stalled, OutOfTurns, WriteFault, NoMemory}
+use Rattle.simulation.specs.declared.simulation.End.TheVariants.{Done, Stalled, OutOfTurns, NotPossible, WriteFault, NoMemory}
 use Rattle.simulation.specs.declared.simulation.Simulated.{Simulated}
 
 -- after none of these acts the program was done or stuck
@@ -30,6 +30,7 @@ abbrev pub EndsAt : Program → (turns : ℕ) → List Entry → List Entry → 
 EndsAt p turns first later Done = (later ≡ [] → ⊥) × WentOn p first (before_last later) × IsDoneAt p (later ++ first)
 EndsAt p turns first later Stalled = (later ≡ [] → ⊥) × WentOn p first (before_last later) × IsStuckAt p (later ++ first)
 EndsAt p turns first later OutOfTurns = WentOn p first later × (length later ≡ turns)
+EndsAt p turns first later (NotPossible line) = ⊥
 EndsAt p turns first later WriteFault = WentOn p first (before_last later)
 EndsAt p turns first later NoMemory = WentOn p first (before_last later)
 
@@ -52,6 +53,7 @@ abbrev pub ShowsAt : Program → Option (List ℕ) → Option (List ℕ) → Lis
 ShowsAt p written now lines Done = Appends written (console_of p (at_first p) lines) now
 ShowsAt p written now lines Stalled = Appends written (console_of p (at_first p) lines) now
 ShowsAt p written now lines OutOfTurns = Appends written (console_of p (at_first p) lines) now
+ShowsAt p written now lines (NotPossible line) = Appends written (console_of p (at_first p) lines) now
 ShowsAt p written now lines WriteFault = AppendsPrefix written (console_of p (at_first p) lines) now
 ShowsAt p written now lines NoMemory = lines ≢ [] → AppendsPrefix written (console_of p (at_first p) lines) now
 

@@ -1,3 +1,5 @@
 pub mod Drawn
 pub mod Ends
 pub mod Underway
+pub mod Schedules
+pub mod Replayed

@@ -34,8 +34,10 @@ pub enum End {
     Done,
     /// Threads live, and each waits for what doesn't come.
     Stalled,
-    /// All turns are done.
+    /// All turns are done, or all acts of the schedule, and the program goes on.
     OutOfTurns,
+    /// The act of this line of the schedule isn't possible.
+    NotPossible(u32),
     /// The output was refused.
     WriteFault,
     /// There was not enough memory.
@@ -100,7 +102,7 @@ pub fn simulate<K: Sink>(
 }
 
 // A run of which there is nothing, for want of memory.
-fn none(alloc: Global) -> Simulated
+pub(crate) fn none(alloc: Global) -> Simulated
     ensures { (result.trace ≡ []) × (result.end ≡ End.NoMemory) }
 {
     Simulated {
@@ -163,7 +165,11 @@ fn draw(cluster: &mut Cluster, word: u32, moves: bool) -> Result<(), NoMemory>
 }
 
 // Writes the lines that came after the first so many bytes.
-fn show<K: Sink>(cluster: &Cluster, shown: usize, out: &mut K) -> Result<(), WriteRefusal>
+pub(crate) fn show<K: Sink>(
+    cluster: &Cluster,
+    shown: usize,
+    out: &mut K,
+) -> Result<(), WriteRefusal>
     requires { shown ≤ length (console_in cluster.now) }
     ensures ok { OnOk result (Appends (K.written out.old) (drop shown (console_in cluster.now)) (K.written out.new)) }
     ensures err { OnErr result (AppendsPrefix (K.written out.old) (drop shown (console_in cluster.now)) (K.written out.new)) }

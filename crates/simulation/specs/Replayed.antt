@@ -1,0 +1,32 @@
+-- A run by a schedule, under way and ended.
+use Rattle.std.specs.Prelude.{◌≡◌, ℕ, List, ◌++◌, length, Option}
+use Rattle.outside.specs.Outside.{Appends}
+use Rattle.run_trace.specs.declared.entry.Entry.{Entry}
+use Rattle.run_trace.specs.Legality.{boot_entries}
+use Rattle.run_trace.specs.Program.{nodes_of}
+use Rattle.cluster.specs.View.{ClusterView, console_in, wires_of}
+use Rattle.cluster.specs.Standing.{StandsFor, HasTrace}
+use Rattle.simulation.specs.Ends.{ShowsAt}
+use Rattle.simulation.specs.Schedules.{AreFirstOf, RunsBy}
+use Rattle.simulation.specs.Underway.{LeavesAt}
+use Rattle.simulation.specs.declared.schedule.Scheduled.{Scheduled}
+use Rattle.simulation.specs.declared.simulation.End.{End}
+
+-- after so many acts of a run that began as old
+pub record IsReplaying (schedule : List Scheduled) (old : ClusterView) (written : Option (List ℕ)) (done : ℕ) (c : ClusterView) (now : Option (List ℕ)) : Type 0 where
+  pub program : c.program ≡ old.program
+  pub later : List Entry
+  pub stands : StandsFor c (later ++ boot_entries old.program (nodes_of old.program))
+  pub count : length later ≡ done
+  pub turns : c.turns ≡ done
+  pub acts : AreFirstOf schedule later
+  pub shown : Appends written (console_in c) now
+  pub wide : length (wires_of c) ≡ length (wires_of old)
+
+-- a run that began as old has ended
+pub record HasReplayed (schedule : List Scheduled) (old new : ClusterView) (written now : Option (List ℕ)) (end : End) : Type 0 where
+  pub lines : List Entry
+  pub trace : HasTrace new lines
+  pub runs : RunsBy old.program schedule lines end
+  pub shows : ShowsAt old.program written now lines end
+  pub leaves : LeavesAt old.program old new lines end
