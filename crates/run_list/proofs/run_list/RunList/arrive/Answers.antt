@@ -1,16 +1,19 @@
-use Rattle.std.proofs.Common.{◌++◌, ◌∷◌, [], sym, ap, ◌∙◌, subst}
+use Rattle.std.proofs.Common.{◌≡◌, List, ◌++◌, ◌∷◌, [], refl, sym, ap, ◌∙◌, subst}
 use Rattle.run_trace.specs.declared.node.Row.{Row}
 use Rattle.run_trace.specs.Names.{tid_cmp}
+use Rattle.run_trace.specs.Places.{AreOnRoot}
+use Rattle.run_trace.proofs.OnRoot.{root_pushed}
 use Rattle.run_list.specs.Names.{names_of}
 use Rattle.run_list.specs.Sorted.{AreUp, put}
 use Rattle.run_list.proofs.OfRows.{names_up, names_more}
 use Rattle.run_list.proofs.run_list.RunList.arrive.Goals as goal
 
 pub put-requires : goal.put-requires
-put-requires c = subst (λ ns. AreUp tid_cmp ns) (sym c.self.invariant) (names_up c.self.inside.rows.items)
+put-requires c = subst (λ ns. AreUp tid_cmp ns) (sym c.self.invariant.0) (names_up c.self.inside.rows.items)
 
 pub invariant_of-self-2 : goal.invariant_of-self-2
 invariant_of-self-2 c =
     let r : Row = record { tid = c.args.t; list = 0; priority = c.args.priority; arrival = c.self.inside.next } in
-    c.in_ok-put.ensures.ok ∙ ap (put tid_cmp c.args.t) c.self.invariant ∙ sym (names_more c.self.inside.rows.items r)
-    ∙ ap names_of (sym (c.push_reserved.ensures.items ∙ ap (λ rows. rows ++ r ∷ []) c.in_ok-reserve.ensures.items))
+    let pushed = c.push_reserved.ensures.items ∙ ap (λ rows. rows ++ r ∷ []) c.in_ok-reserve.ensures.items in
+    ( c.in_ok-put.ensures.ok ∙ ap (put tid_cmp c.args.t) c.self.invariant.0 ∙ sym (names_more c.self.inside.rows.items r) ∙ ap names_of (sym pushed)
+    , subst AreOnRoot (sym pushed) (root_pushed c.self.inside.rows.items r c.self.invariant.1 refl) )
