@@ -1,6 +1,7 @@
 -- The chosen act is one of the possible ones, and each of those can be done.
-use Rattle.std.proofs.Common.{◌≡◌, ℕ, zero, suc, ◌+◌, ◌%◌, ◌<◌, ◌≤◌, List, [], ◌∷◌, ◌++◌, map, length, Option, Some, None, Bool, true, false, eqb, cond, refl, sym, ap, ◌∙◌, subst, arith}
+use Rattle.std.proofs.Common.{◌≡◌, ℕ, zero, suc, ◌+◌, ◌%◌, ◌<◌, ◌≤◌, List, [], ◌∷◌, ◌++◌, map, length, reverse, Option, Some, None, Bool, true, false, eqb, cond, refl, sym, ap, ◌∙◌, subst, arith}
 use Rattle.std.specs.Prelude.{◌↔◌, ◌≢◌, ⊤, filter, flat_map, slice_get, not, ◌==◌}
+use Rattle.std.proofs.lemmas.List.{append-nil, length-reverse}
 use Rattle.std.proofs.lemmas.Option.{slice_get-get_or}
 use Rattle.std.proofs.lemmas.Bool.{eq-eqb}
 use Rattle.slot_space.specs.Sets.{run}
@@ -11,12 +12,14 @@ use Rattle.run_trace.specs.declared.entry.Entry.{Entry}
 use Rattle.run_trace.specs.Program.{Program, nodes_of, quantum_limit}
 use Rattle.run_trace.specs.Places.{is_listed}
 use Rattle.run_trace.specs.Cluster.{Net}
-use Rattle.node_loop.specs.Turns.{IsActInRange}
+use Rattle.node_loop.specs.Turns.{IsActInRange, entry_limit}
 use Rattle.node_loop.specs.declared.node.Turned.{Turned}
 use Rattle.node_loop.specs.declared.node.Turned.TheVariants.{Did, Idle}
 use Rattle.cluster.specs.Acts.{has_pick, holds, runs_of, takes_of, ready_on, moves_to, moves_of, acts_of, possible_acts, is_possible}
-use Rattle.cluster.specs.View.{ClusterView}
-use Rattle.cluster.specs.Standing.{StandsFor, Steps, net_after}
+use Rattle.cluster.specs.View.{ClusterView, greatest_clock}
+use Rattle.cluster.specs.Standing.{StandsFor, HasRoom, NoneLater, Steps, entries_at, net_after}
+use Rattle.cluster.proofs.Runs.{few_own}
+use Rattle.run_trace.specs.Histories.{IsInOrder, own_entries}
 use Rattle.simulation.specs.Drawn.{chosen, possible_after}
 use Rattle.simulation.specs.Underway.{Draws}
 
@@ -107,11 +110,11 @@ item_passes {A = A} P [] i a all e = absurd (let none : slice_get {X = A} [] i �
 item_passes P (x ∷ xs) zero a all e = let same : x ≡ a = cc e in subst P same all.0
 item_passes P (x ∷ xs) (suc i) a all e = item_passes P xs i a all.1 e
 
-pub chosen_possible : (moves : Bool) (c : ClusterView) (lines : List Entry) (acts items : List (ℕ × Act)) (o : Option (ℕ × Act)) (word : ℕ) (a : ℕ × Act) → StandsFor c lines
+pub chosen_possible : (moves : Bool) (c : ClusterView) (lines : List Entry) (acts items : List (ℕ × Act)) (o : Option (ℕ × Act)) (word : ℕ) (a : ℕ × Act) → StandsFor c [] lines
     → acts ≡ possible_after moves c.program lines → items ≡ acts → o ≡ chosen word items → o ≡ Some a → IsPossible c.program (net_after c.program lines) a
 chosen_possible moves c lines acts items o word a s listed same is some =
     item_passes (IsPossible c.program (net_after c.program lines)) (possible_after moves c.program lines) (word % length (possible_after moves c.program lines)) a
-    (each_possible c.program (net_after c.program lines) s.some_quantum s.bounded_quantum moves) (ap (chosen word) (sym (same ∙ listed)) ∙ sym is ∙ some)
+    (each_possible c.program (net_after c.program lines) s.agrees.some_quantum s.agrees.bounded_quantum moves) (ap (chosen word) (sym (same ∙ listed)) ∙ sym is ∙ some)
 
 pub some_chosen : (acts all items : List (ℕ × Act)) (o : Option (ℕ × Act)) (word : ℕ) → acts ≡ all → (all ≡ [] → ⊥) → items ≡ acts → o ≡ chosen word items → o ≡ None → ⊥
 some_chosen acts all items o word listed some same c none = by acts (sym (ap (chosen word) same) ∙ sym c ∙ none) listed
@@ -123,10 +126,23 @@ some_chosen acts all items o word listed some same c none = by acts (sym (ap (ch
         cc (e, slice_get-get_or (x ∷ xs) (word % length (x ∷ xs)) x inside)
 
 -- an act that can be done is done
-pub draws : (moves : Bool) (old new : ClusterView) (lines : List Entry) (acts items : List (ℕ × Act)) (o : Option (ℕ × Act)) (word n : ℕ) (act : Act) (t : Turned) → StandsFor old lines
-    → acts ≡ possible_after moves old.program lines → items ≡ acts → o ≡ chosen word items → o ≡ Some (n, act) → Steps old lines n act new t
-    → (t ≡ Idle) ↔ (is_possible (net_after old.program lines) n act ≡ false) → Draws moves word lines old new
+pub draws : (moves : Bool) (old new : ClusterView) (lines : List Entry) (acts items : List (ℕ × Act)) (o : Option (ℕ × Act)) (word n : ℕ) (act : Act) (t : Turned) → StandsFor old [] lines
+    → acts ≡ possible_after moves old.program lines → items ≡ acts → o ≡ chosen word items → o ≡ Some (n, act) → Steps old [] lines n act new t
+    → (t ≡ Idle) ↔ (is_possible (net_after old.program (lines ++ [])) n act ≡ false) → Draws moves word lines old new
 draws moves old new lines acts items o word n act Idle s listed same is some h i =
-    absurd (cc (i.0 refl, (chosen_possible moves old lines acts items o word (n, act) s listed same is some).possible))
+    absurd (cc (i.0 refl, ap (λ ls. is_possible (net_after old.program ls) n act) (append-nil lines), (chosen_possible moves old lines acts items o word (n, act) s listed same is some).possible))
 draws moves old new lines acts items o word n act Did s listed same is some h i =
     record { node = n; act = act; chosen_is = ap (chosen word) (sym (same ∙ listed)) ∙ sym is ∙ some; adds = h }
+
+-- ## No part of the trace came before
+
+pub listed_whole : (moves : Bool) (p : Program) (kept : List Entry) (acts : List (ℕ × Act)) → acts ≡ possible_acts moves p (net_after p (kept ++ [])) → acts ≡ possible_after moves p kept
+listed_whole moves p kept acts e = e ∙ ap (λ ls. possible_acts moves p (net_after p ls)) (append-nil kept)
+
+-- a node has at most one entry for each stamp, so it has room for more
+pub has_room : (c : ClusterView) (kept : List Entry) → StandsFor c [] kept → greatest_clock c.nodes + 1 < entry_limit → (n : ℕ) → HasRoom c n
+has_room c kept s few n v at =
+    let order : IsInOrder kept = s.agrees.trace.order in
+    let stamps : NoneLater (greatest_clock c.nodes) kept = subst (λ ls. NoneLater (greatest_clock c.nodes) ls) (append-nil kept) s.agrees.stamps in
+    let same : length (own_entries n kept) ≡ length v.entries = ap length (s.agrees.trace.entries n ∙ ap (λ o. reverse (entries_at o)) at) ∙ length-reverse v.entries in
+    omega (arith, few_own n (greatest_clock c.nodes) kept order stamps, same, few)
