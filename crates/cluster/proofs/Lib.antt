@@ -16,3 +16,4 @@ pub mod Listings
 pub mod Merging
 pub mod Booting
 mod Going
+mod Gathered

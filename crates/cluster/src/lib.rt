@@ -6,8 +6,10 @@ mod beginning;
 mod cluster;
 mod deciding;
 mod ending;
+mod laws;
 mod listing;
 mod stepping;
 
 pub use cluster::Cluster;
 pub use deciding::State;
+pub use laws::{rounds_gather, runs_join};
