@@ -12,9 +12,9 @@ use Rattle.run_trace.specs.Program.{Program, nodes_of}
 use Rattle.wires.proofs.Gets.{some_at}
 use Rattle.node_loop.specs.View.{NodeView, next_round}
 use Rattle.node_loop.specs.Turns.{entry_limit}
-use Rattle.cluster.specs.Standing.{AgreesWith, entries_at}
+use Rattle.cluster.specs.Standing.{AgreesWith, HasRoom, entries_at}
 use Rattle.cluster.specs.View.{ClusterView, greatest_clock}
-use Rattle.cluster.proofs.Runs.{few_all}
+use Rattle.cluster.proofs.Runs.{few_all, few_own, later_front}
 
 pub clock_within : (vs : List NodeView) (n : ℕ) (v : NodeView) → slice_get vs n ≡ Some v → v.clock ≤ greatest_clock vs
 clock_within [] n v e = absurd (cc e)
@@ -94,3 +94,9 @@ module _ (c : ClusterView) (before kept : List Entry) (s : AgreesWith c before k
 
   pub clocks_low : greatest_clock c.nodes < 2 ^ 62 - 1
   clocks_low = omega (arith, greatest_within, few_entries)
+
+  -- a node has at most one entry for each stamp, so where the clocks are low it has room for more
+  pub has_room : greatest_clock c.nodes + 1 < entry_limit → (n : ℕ) → HasRoom c n
+  has_room low n v at =
+      let same : length (own_entries n kept) ≡ length v.entries = ap length (s.trace.entries n ∙ ap (λ o. reverse (entries_at o)) at) ∙ length-reverse v.entries in
+      omega (arith, few_own n (greatest_clock c.nodes) kept s.trace.order (later_front (greatest_clock c.nodes) kept before s.stamps), same, low)

@@ -352,6 +352,7 @@ module _ (c : ClusterView) (before kept : List Entry) (s : StandsFor c before ke
   pub adds : Adds c before kept n act now
   adds = record {
     program = refl;
+    turns = refl;
     wide = wires-length nodes c.rest ∙ ap (λ k. k + length c.rest) count ∙ sym (wires-length c.nodes c.rest);
     entry = x;
     stands = record { agrees = agrees; settled = all_settled };

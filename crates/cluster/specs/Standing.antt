@@ -149,6 +149,7 @@ pub record ComesNext (old : ClusterView) (n : ℕ) (asked : Act) (x : Entry) : T
 -- an entry more, with which the cluster stands again; each clock is raised to the greatest, and that of the entry is its stamp
 pub record Adds (old : ClusterView) (before kept : List Entry) (n : ℕ) (act : Act) (new : ClusterView) : Type 0 where
   pub program : new.program ≡ old.program
+  pub turns : new.turns ≡ suc old.turns
   pub wide : length (wires_of new) ≡ length (wires_of old)
   pub entry : Entry
   pub stands : StandsFor new before (entry ∷ kept)

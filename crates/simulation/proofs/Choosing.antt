@@ -1,7 +1,7 @@
 -- The chosen act is one of the possible ones, and each of those can be done.
-use Rattle.std.proofs.Common.{◌≡◌, ℕ, zero, suc, ◌+◌, ◌%◌, ◌<◌, ◌≤◌, List, [], ◌∷◌, ◌++◌, map, length, reverse, Option, Some, None, Bool, true, false, eqb, cond, refl, sym, ap, ◌∙◌, subst, arith}
+use Rattle.std.proofs.Common.{◌≡◌, ℕ, zero, suc, ◌+◌, ◌%◌, ◌<◌, ◌≤◌, List, [], ◌∷◌, ◌++◌, map, length, Option, Some, None, Bool, true, false, eqb, cond, refl, sym, ap, ◌∙◌, subst, arith}
 use Rattle.std.specs.Prelude.{◌↔◌, ◌≢◌, ⊤, filter, flat_map, slice_get, not, ◌==◌}
-use Rattle.std.proofs.lemmas.List.{append-nil, length-reverse}
+use Rattle.std.proofs.lemmas.List.{append-nil}
 use Rattle.std.proofs.lemmas.Option.{slice_get-get_or}
 use Rattle.std.proofs.lemmas.Bool.{eq-eqb}
 use Rattle.slot_space.specs.Sets.{run}
@@ -12,14 +12,12 @@ use Rattle.run_trace.specs.declared.entry.Entry.{Entry}
 use Rattle.run_trace.specs.Program.{Program, nodes_of, quantum_limit}
 use Rattle.run_trace.specs.Places.{is_listed}
 use Rattle.run_trace.specs.Cluster.{Net}
-use Rattle.node_loop.specs.Turns.{IsActInRange, entry_limit}
+use Rattle.node_loop.specs.Turns.{IsActInRange}
 use Rattle.node_loop.specs.declared.node.Turned.{Turned}
 use Rattle.node_loop.specs.declared.node.Turned.TheVariants.{Did, Idle}
 use Rattle.cluster.specs.Acts.{has_pick, holds, runs_of, takes_of, ready_on, moves_to, moves_of, acts_of, possible_acts, is_possible}
-use Rattle.cluster.specs.View.{ClusterView, greatest_clock}
-use Rattle.cluster.specs.Standing.{StandsFor, HasRoom, NoneLater, Steps, entries_at, net_after}
-use Rattle.cluster.proofs.Runs.{few_own}
-use Rattle.run_trace.specs.Histories.{IsInOrder, own_entries}
+use Rattle.cluster.specs.View.{ClusterView}
+use Rattle.cluster.specs.Standing.{StandsFor, Steps, net_after}
 use Rattle.simulation.specs.Drawn.{chosen, possible_after}
 use Rattle.simulation.specs.Underway.{Draws}
 
@@ -138,11 +136,3 @@ draws moves old new lines acts items o word n act Did s listed same is some h i 
 
 pub listed_whole : (moves : Bool) (p : Program) (kept : List Entry) (acts : List (ℕ × Act)) → acts ≡ possible_acts moves p (net_after p (kept ++ [])) → acts ≡ possible_after moves p kept
 listed_whole moves p kept acts e = e ∙ ap (λ ls. possible_acts moves p (net_after p ls)) (append-nil kept)
-
--- a node has at most one entry for each stamp, so it has room for more
-pub has_room : (c : ClusterView) (kept : List Entry) → StandsFor c [] kept → greatest_clock c.nodes + 1 < entry_limit → (n : ℕ) → HasRoom c n
-has_room c kept s few n v at =
-    let order : IsInOrder kept = s.agrees.trace.order in
-    let stamps : NoneLater (greatest_clock c.nodes) kept = subst (λ ls. NoneLater (greatest_clock c.nodes) ls) (append-nil kept) s.agrees.stamps in
-    let same : length (own_entries n kept) ≡ length v.entries = ap length (s.agrees.trace.entries n ∙ ap (λ o. reverse (entries_at o)) at) ∙ length-reverse v.entries in
-    omega (arith, few_own n (greatest_clock c.nodes) kept order stamps, same, few)

@@ -1,5 +1,6 @@
 use Rattle.std.proofs.Common.{[]}
-use Rattle.simulation.proofs.Choosing.{chosen_possible, some_chosen, draws, has_room, listed_whole}
+use Rattle.simulation.proofs.Choosing.{chosen_possible, some_chosen, draws, listed_whole}
+use Rattle.cluster.proofs.Clocks.{has_room}
 use Rattle.simulation.proofs.simulation.draw.Goals as goal
 
 pub unreachable-requires : goal.unreachable-requires
@@ -16,7 +17,7 @@ returns-clause-ok c lines s = draws c.args.moves c.args.cluster.now c.step.new.s
     s (listed_whole c.args.moves c.args.cluster.now.program lines _ (c.in_ok-acts.ensures [] lines s)) c.deref.ensures.value c.chosen.ensures c.in-Some.is (c.in_ok-step-in-Some.ensures.steps [] lines s) (c.in_ok-step-in-Some.ensures.idle [] lines s)
 
 pub step-requires-clause-room : goal.step-requires-clause-room
-step-requires-clause-room c = has_room c.args.cluster.now c.requires.some.0 c.requires.some.1 c.requires.few _
+step-requires-clause-room c = has_room c.args.cluster.now [] c.requires.some.0 c.requires.some.1.agrees c.requires.few _
 
 pub step-requires-clause-stands : goal.step-requires-clause-stands
 step-requires-clause-stands c = ([], c.requires.some.0, c.requires.some.1)
