@@ -1,5 +1,5 @@
 -- Nodes that have begun stand for the beginnings.
-use Rattle.std.proofs.Common.{◌≡◌, ℕ, zero, suc, ◌<◌, ◌≤◌, ◌%◌, max, List, [], ◌∷◌, ◌++◌, length, reverse, map, drop, Option, Some, None, Bool, true, false, cond, eqb, refl, sym, ap, ◌∙◌, subst, arith, length-drop}
+use Rattle.std.proofs.Common.{◌≡◌, ℕ, zero, suc, ◌<◌, ◌≤◌, ◌%◌, max, List, [], ◌∷◌, ◌++◌, length, reverse, map, drop, Option, Some, None, Bool, true, false, cond, eqb, refl, sym, ap, ◌∙◌, subst, arith, append-nil, length-drop}
 use Rattle.std.specs.Prelude.{slice_get}
 use Rattle.std.proofs.lemmas.Bool.{eq-eqb, ne_eqb}
 use Rattle.std.proofs.lemmas.Option.{slice_get_past, slice_get_within}
@@ -11,7 +11,7 @@ use Rattle.run_trace.specs.declared.packet.Send.{Send}
 use Rattle.run_trace.specs.Cluster.{Net, fresh_net, after_or, sent, received}
 use Rattle.run_trace.specs.Console.{console_of, printed}
 use Rattle.run_trace.specs.Histories.{own_entries, seen}
-use Rattle.run_trace.specs.Legality.{boot_entry, boot_entries}
+use Rattle.run_trace.specs.Legality.{Legal, NoneAbove, boot_entry, boot_entries}
 use Rattle.run_trace.specs.Local.{Doing, fresh}
 use Rattle.run_trace.specs.Machine.{local_event, turn_event}
 use Rattle.run_trace.specs.Program.{Program, nodes_of, quantum_limit}
@@ -29,8 +29,10 @@ use Rattle.wires.proofs.Gets.{by_eq, by_less, same_some, some_at}
 use Rattle.wires.proofs.Rings.{stays_refl}
 use Rattle.node_loop.specs.View.{NodeView}
 use Rattle.cluster.specs.Between.{AllOf, AreNumbered, AreReady, HasBegun, HaveBegun, wires_in}
-use Rattle.cluster.specs.Standing.{StandsFor, IsNodeOf, entries_at, net_after, newest_stamp, newest_round}
-use Rattle.cluster.specs.View.{ClusterView, view_of, ends_of, console_at}
+use Rattle.cluster.specs.Standing.{StandsFor, AgreesWith, IsNodeOf, NoneLater, entries_at, net_after, turns_in}
+use Rattle.cluster.specs.View.{ClusterView, view_of, ends_of, console_at, greatest_clock, round_at, round_in}
+use Rattle.cluster.proofs.Clocks.{greatest_is}
+use Rattle.cluster.proofs.Runs.{carried_run}
 use Rattle.cluster.proofs.Lists.{wires-get, wires-length}
 use Rattle.run_trace.specs.Links.{packets_to}
 
@@ -126,13 +128,17 @@ own_one p m (suc k) l = by_eq k m
     (λ e. ap (λ b. cond b (boot_entry p k ∷ own_entries m (boot_entries p k)) (own_entries m (boot_entries p k))) (eq-eqb k m e) ∙ ap (λ xs. boot_entry p k ∷ xs) (own_none p m k (omega (arith, e))) ∙ ap (λ i. boot_entry p i ∷ []) e)
     (λ ne. ap (λ b. cond b (boot_entry p k ∷ own_entries m (boot_entries p k)) (own_entries m (boot_entries p k))) (ne_eqb k m ne) ∙ own_one p m k (omega (arith, ne)))
 
-first_stamp : (p : Program) (k : ℕ) → 0 < k → newest_stamp (boot_entries p k) ≡ 1
-first_stamp p zero l = absurd (omega arith)
-first_stamp p (suc k) l = refl
+first_stamps : (p : Program) (k : ℕ) → NoneLater 1 (boot_entries p k)
+first_stamps p zero = tt
+first_stamps p (suc k) = (omega arith, first_stamps p k)
 
-first_round : (p : Program) (k : ℕ) → newest_round (boot_entries p k) ≡ 0
-first_round p zero = refl
-first_round p (suc k) = refl
+first_rounds : (p : Program) (k : ℕ) → NoneAbove 0 (boot_entries p k)
+first_rounds p zero = tt
+first_rounds p (suc k) = (omega arith, first_rounds p k)
+
+no_turns : (p : Program) (k : ℕ) → turns_in (boot_entries p k) ≡ 0
+no_turns p zero = refl
+no_turns p (suc k) = omega (arith, no_turns p k)
 
 -- ## The ends
 
@@ -238,9 +244,24 @@ module _ (p : Program) (wires : List (Ends Packet)) (fr : AreFreshFor (length wi
         me = ap (λ (z : NodeView). z.me) k.is ∙ b.me;
         state = told.here n k.at_old.inside k.at_old.inside ∙ sym b.state ∙ ap (λ (z : NodeView). z.state) (sym k.is);
         booted = ap (λ (z : NodeView). z.state.booted) k.is ∙ b.booted;
-        clock = omega (arith, ap (λ (z : NodeView). z.clock) k.is, b.clock);
-        round = ap (λ (z : NodeView). z.round) k.is ∙ b.round;
+        few = omega (arith, ap (λ (z : NodeView). length z.entries) k.is, ap length b.entries);
       }
+
+  clock_is : (n : ℕ) (u : NodeView) → slice_get nodes n ≡ Some u → u.clock ≡ 1
+  clock_is n u e = let k = now_at n u e in ap (λ (z : NodeView). z.clock) k.is ∙ k.at_old.began.clock
+
+  pub ready_clock : greatest_clock nodes ≡ 1
+  ready_clock =
+      let u = some_at nodes 0 (omega (arith, count, p.setup.geometry.some_node)) in
+      greatest_is 1 nodes 0 u.0 u.1 (clock_is 0 u.0 u.1) (λ m w e. omega (arith, clock_is m w e))
+
+  round_is : (n : ℕ) (u : NodeView) → slice_get nodes n ≡ Some u → u.round ≡ 0
+  round_is n u e = let k = now_at n u e in ap (λ (z : NodeView). z.round) k.is ∙ k.at_old.began.round
+
+  pub ready_round : round_in now ≡ 0
+  ready_round =
+      let u = some_at nodes 0 (omega (arith, count, p.setup.geometry.some_node)) in
+      ap round_at u.1 ∙ round_is 0 u.0 u.1
 
   entries_are : (m : ℕ) → own_entries m lines ≡ reverse (entries_at (slice_get nodes m))
   entries_are m = by_less m (nodes_of p)
@@ -257,23 +278,39 @@ module _ (p : Program) (wires : List (Ends Packet)) (fr : AreFreshFor (length wi
       let k = now_at 0 u.0 u.1 in
       sym whole ∙ told.prints ∙ sym (ap console_at u.1 ∙ ap (λ (z : NodeView). z.console) k.is ∙ k.at_old.began.console)
 
-  pub begun_stands : StandsFor now lines
-  begun_stands = record {
-    legal = beginnings_legal p;
+  -- no part of the trace came before
+  whole : lines ≡ lines ++ []
+  whole = sym (append-nil lines)
+
+  agrees : AgreesWith now [] lines
+  agrees = record {
+    legal = subst (λ xs. Legal p xs) whole (beginnings_legal p);
     trace = record { order = (beginnings_legal p).order; entries = entries_are; wired = r.settled.wired };
     count = count;
-    node = node_is;
+    turns = sym (no_turns p (nodes_of p));
+    node = λ n u e. subst (λ xs. IsNodeOf now xs n u) whole (node_is n u e);
+    one_round = λ n u e. round_is n u e ∙ sym ready_round;
+    rounds = subst (λ k. NoneAbove k (lines ++ [])) (sym ready_round) (subst (λ xs. NoneAbove 0 xs) whole (first_rounds p (nodes_of p)));
+    stamps = subst (λ k. NoneLater k (lines ++ [])) (sym ready_clock) (subst (λ xs. NoneLater 1 xs) whole (first_stamps p (nodes_of p)));
+    clocks = λ n u e. omega (arith, clock_is n u e);
     carried = record {
       sends = λ i j. r.settled.same.same_sent i j ∙ none_sent p wires wide r.first rest r.begun fr i j ∙ sym (told.sends i j);
       takes = λ i j. r.settled.same.same_received i j ∙ none_received p wires wide r.first rest r.begun fr i j ∙ sym (told.takes i j);
     };
-    settled = λ i j x y li lj f g. r.settled.settled i j x y (omega (arith, li, first_many)) (omega (arith, lj, first_many)) f g;
-    console = console_is;
-    stamp = first_stamp p (nodes_of p) p.setup.geometry.some_node;
-    round = first_round p (nodes_of p);
+    under_way = λ i j.
+        ap (λ ps. ps ++ (net_after p (lines ++ [])).links i j) (r.settled.same.same_received i j ∙ none_received p wires wide r.first rest r.begun fr i j ∙ sym (told.takes i j))
+        ∙ ap (λ xs. received i j (events_of p (fresh_net p) lines) ++ (net_after p xs).links i j) (sym whole)
+        ∙ carried_run p lines i j ∙ told.sends i j ∙ sym (r.settled.same.same_sent i j ∙ none_sent p wires wide r.first rest r.begun fr i j);
+    console = ap (console_of p (at_first p)) (sym whole) ∙ console_is;
     some_quantum = some;
     bounded_quantum = few;
     aligned = aligned;
+  }
+
+  pub begun_stands : StandsFor now [] lines
+  begun_stands = record {
+    agrees = agrees;
+    settled = λ i j x y li lj f g. r.settled.settled i j x y (omega (arith, li, first_many)) (omega (arith, lj, first_many)) f g;
   }
 
   pub ready_all : AllOf p nodes

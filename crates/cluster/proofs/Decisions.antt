@@ -124,9 +124,12 @@ none_held : (ps : List Packet) → holds ps ≡ false → ps ≡ []
 none_held [] e = refl
 none_held (p ∷ ps) e = absurd (cc e)
 
-module _ (c : ClusterView) (lines : List Entry) (s : StandsFor c lines) where
+module _ (c : ClusterView) (before kept : List Entry) (s : StandsFor c before kept) where
   abbrev p : Program
   p = c.program
+
+  abbrev lines : List Entry
+  lines = kept ++ before
 
   abbrev net : Net
   net = net_after p lines
@@ -135,18 +138,18 @@ module _ (c : ClusterView) (lines : List Entry) (s : StandsFor c lines) where
   w = spots_of p (at_first p) lines
 
   stands : Stands p w net
-  stands = (run_whole p (at_first p) (fresh_net p) (starts p) lines s.legal.runs).stands
+  stands = (run_whole p (at_first p) (fresh_net p) (starts p) lines s.agrees.legal.runs).stands
 
   inside : Inside p w net
-  inside = run_inside p lines s.legal.runs
+  inside = run_inside p lines s.agrees.legal.runs
 
   below : (n : ℕ) (v : NodeView) → slice_get c.nodes n ≡ Some v → n < nodes_of p
-  below n v at = omega (arith, s.count, slice_get_within c.nodes n v at)
+  below n v at = omega (arith, s.agrees.count, slice_get_within c.nodes n v at)
 
   -- each node is one of the nodes, or as at first
   at_node : (P : Local → Type 0) (n : ℕ) → ((v : NodeView) → slice_get c.nodes n ≡ Some v → P v.state) → P (fresh p n) → P (net.nodes n)
   at_node P n here first = by_less n (nodes_of p)
-      (λ l. let v = some_at c.nodes n (omega (arith, l, s.count)) in subst (λ z. P z) (sym (s.node n v.0 v.1).state) (here v.0 v.1))
+      (λ l. let v = some_at c.nodes n (omega (arith, l, s.agrees.count)) in subst (λ z. P z) (sym (s.agrees.node n v.0 v.1).state) (here v.0 v.1))
       (λ past. subst (λ z. P z) (sym (inside.nodes n past)) first)
 
   no_rows : any_of has_row c.nodes ≡ false → (n : ℕ) → (net.nodes n).places.rows ≡ []
@@ -163,10 +166,10 @@ module _ (c : ClusterView) (lines : List Entry) (s : StandsFor c lines) where
     where
       both : i < nodes_of p → j < nodes_of p → net.links i j ≡ []
       both li lj =
-          let v = some_at c.nodes j (omega (arith, lj, s.count)) in
-          let within : i < nodes_of v.0.program = subst (λ (q : Program). i < nodes_of q) (sym (s.node j v.0 v.1).program) li in
+          let v = some_at c.nodes j (omega (arith, lj, s.agrees.count)) in
+          let within : i < nodes_of v.0.program = subst (λ (q : Program). i < nodes_of q) (sym (s.agrees.node j v.0 v.1).program) li in
           let unknown : can v.0 (Take i) ≡ false = knows_none v.0 0 (nodes_of v.0.program) (any_none knows_packet c.nodes e j v.0 v.1) i (omega arith) (omega (arith, within)) in
-          none_held (net.links i j) (sym (can_is c lines s j v.0 v.1 lj (Take i) li) ∙ unknown)
+          none_held (net.links i j) (sym (can_is c before kept s j v.0 v.1 lj (Take i) li) ∙ unknown)
 
   none_lives : any_of has_thread c.nodes ≡ false → AllLinksEmpty net → (t : Tid) → Lives (w.threads t).life → ⊥
   none_lives e empty t l =
@@ -182,10 +185,10 @@ module _ (c : ClusterView) (lines : List Entry) (s : StandsFor c lines) where
       by [] h l = absurd (cc l)
       by (e ∷ es) h l =
           let found : lookup (is_tid e.0) m.node.state.threads ≡ Some e.1 = ap (λ xs. lookup (is_tid e.0) xs) h ∙ ap (λ b. cond b (Some e.1) (lookup (is_tid e.0) es)) (is-refl e.0) in
-          (e.0, lives_there p w net stands e.0 m.place e.1 (ap (λ (z : Local). lookup (is_tid e.0) z.threads) (s.node m.place m.node m.at).state ∙ found))
+          (e.0, lives_there p w net stands e.0 m.place e.1 (ap (λ (z : Local). lookup (is_tid e.0) z.threads) (s.agrees.node m.place m.node m.at).state ∙ found))
 
   done_by_halt : Some_of has_halted c.nodes → IsDoneAt p lines
-  done_by_halt m = inl (m.place, sym (halts_are p w net stands m.place) ∙ ap (λ (z : Local). z.halted) (s.node m.place m.node m.at).state ∙ m.so)
+  done_by_halt m = inl (m.place, sym (halts_are p w net stands m.place) ∙ ap (λ (z : Local). z.halted) (s.agrees.node m.place m.node m.at).state ∙ m.so)
 
   not_done : ((n : ℕ) → (net.nodes n).halted ≡ false) → (AllLinksEmpty net → (t : Tid) × Lives (w.threads t).life) → IsDoneAt p lines → ⊥
   not_done h some d = elim d as (λ z. ⊥) [ inl k ↦ absurd (cc (h k.0, halts_are p w net stands k.0, k.1)) | inr k ↦ (let l = some k.1 in k.0 l.0 l.1) ]
@@ -196,8 +199,8 @@ module _ (c : ClusterView) (lines : List Entry) (s : StandsFor c lines) where
       let j : ℕ = m.place in
       let lj : j < nodes_of p = below j m.node m.at in
       let i : ℕ = known.sender in
-      let li : i < nodes_of p = subst (λ (q : Program). i < nodes_of q) (s.node j m.node m.at).program (omega (arith, known.below)) in
-      let held : holds (net.links i j) ≡ true = sym (can_is c lines s j m.node m.at lj (Take i) li) ∙ known.so in
+      let li : i < nodes_of p = subst (λ (q : Program). i < nodes_of q) (s.agrees.node j m.node m.at).program (omega (arith, known.below)) in
+      let held : holds (net.links i j) ≡ true = sym (can_is c before kept s j m.node m.at lj (Take i) li) ∙ known.so in
       let full : net.links i j ≡ [] → ⊥ = λ e. (let none : holds (net.links i j) ≡ false = ap holds e in cc (held, none)) in
       record {
         not_done = not_done h (λ none. absurd (full (none i j)));
@@ -216,7 +219,7 @@ module _ (c : ClusterView) (lines : List Entry) (s : StandsFor c lines) where
   goes_by_row h lives m =
       let n : ℕ = m.place in
       let ln : n < nodes_of p = below n m.node m.at in
-      let pick : has_pick net n ≡ true = ap (λ (z : Local). nat_lt 0 (length z.places.rows)) (s.node n m.node m.at).state ∙ m.so in
+      let pick : has_pick net n ≡ true = ap (λ (z : Local). nat_lt 0 (length z.places.rows)) (s.agrees.node n m.node m.at).state ∙ m.so in
       record {
         not_done = not_done h (λ none. lives);
         not_stuck = λ k. (let none : has_pick net n ≡ false = ap (λ (rs : List Row). nat_lt 0 (length rs)) (k.rows n) in cc (pick, none));

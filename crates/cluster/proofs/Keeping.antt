@@ -2,7 +2,7 @@
 use Rattle.std.proofs.Common.{◌≡◌, ◌≢◌, ℕ, suc, ◌-◌, ◌^◌, ◌<◌, ◌≤◌, List, [], ◌∷◌, ◌++◌, length, max, Option, Some, None, Bool, true, false, cond, refl, sym, ap, ◌∙◌, subst, arith, inl, inr}
 use Rattle.std.specs.Prelude.{⊤, nat_lt, slice_get}
 use Rattle.std.proofs.lemmas.Bool.{lt-ltb, eq-eqb, ne_eqb}
-use Rattle.std.proofs.Math.Nat.{le-max_left, max-le, min-eq_left, max-eq_right}
+use Rattle.std.proofs.Math.Nat.{le-max_left, max-le, max-eq_right}
 use Rattle.run_trace.specs.declared.entry.Act.{Act}
 use Rattle.run_trace.specs.declared.entry.Act.TheVariants.{Boot, Run, Take, Move}
 use Rattle.run_trace.specs.declared.entry.Entry.{Entry}
@@ -20,12 +20,13 @@ use Rattle.trace_laws.specs.Gathers.{AllWithin}
 use Rattle.trace_laws.proofs.Determined.{fits_exactly}
 use Rattle.trace_laws.proofs.Wholes.{starts, run_whole}
 use Rattle.wires.specs.Ends.{known_from}
-use Rattle.node_loop.specs.View.{NodeView, raised}
+use Rattle.node_loop.specs.View.{NodeView, next_round, raised}
 use Rattle.node_loop.specs.Turns.{IsActInRange, TakesKnown, Does, can}
-use Rattle.cluster.specs.Standing.{StandsFor, IsNodeOf, net_after, newest_stamp, turn_limit}
-use Rattle.cluster.specs.View.{ClusterView}
+use Rattle.cluster.specs.Standing.{StandsFor, IsNodeOf, NoneLater, net_after}
+use Rattle.cluster.specs.View.{ClusterView, greatest_clock, round_in}
+use Rattle.cluster.proofs.Clocks.{clock_within, clocks_low, next_not_below}
 use Rattle.cluster.proofs.Linking.{known_first}
-use Rattle.cluster.proofs.Runs.{NoneLater, above, links_within, newest_last, none_above}
+use Rattle.cluster.proofs.Runs.{above, later_front, links_within, higher}
 use Rattle.run_trace.specs.Links.{first_of}
 use Rattle.trace_laws.proofs.Legals.{whole}
 
@@ -64,9 +65,16 @@ known_taken : (ps : List Packet) (o o' : Option Packet) → nat_lt 0 (length ps)
 known_taken [] o o' l h e = absurd (cc l)
 known_taken (q ∷ qs) o o' l h e = h q qs refl ∙ e
 
-module _ (c : ClusterView) (lines : List Entry) (s : StandsFor c lines) (few : c.turns < turn_limit) (n : ℕ) (inside : n < nodes_of c.program)
+module _ (c : ClusterView) (before kept : List Entry) (s : StandsFor c before kept) (n : ℕ) (inside : n < nodes_of c.program)
     (v : NodeView) (at : slice_get c.nodes n ≡ Some v) (act : Act) (range : IsActInRange c.program n act) (able : can v act ≡ true)
-    (new : NodeView) (d : Does (raised (suc c.turns) v) act new) where
+    (new : NodeView) (d : Does (raised (greatest_clock c.nodes) v) act new) where
+  abbrev lines : List Entry
+  lines = kept ++ before
+
+  -- the greatest clock
+  abbrev g : ℕ
+  g = greatest_clock c.nodes
+
   abbrev p : Program
   p = c.program
 
@@ -74,10 +82,10 @@ module _ (c : ClusterView) (lines : List Entry) (s : StandsFor c lines) (few : c
   net = net_after p lines
 
   abbrev w : NodeView
-  w = raised (suc c.turns) v
+  w = raised g v
 
   is_node : IsNodeOf c lines n v
-  is_node = s.node n v at
+  is_node = s.agrees.node n v at
 
   pub took_is : d.took ≡ next_packet net n act
   took_is = by act range able d.shape d.known
@@ -86,43 +94,49 @@ module _ (c : ClusterView) (lines : List Entry) (s : StandsFor c lines) (few : c
       by Boot r b h k = h
       by (Run vp quantum) r b h k = h
       by (Move t to) r b h k = h
-      by (Take from) r b h k = known_taken (known_from v.ends from) d.took (first_of (net.links from n)) b k (known_first c lines s n v at inside from r)
+      by (Take from) r b h k = known_taken (known_from v.ends from) d.took (first_of (net.links from n)) b k (known_first c before kept s n v at inside from r)
 
-  stamps : NoneLater (suc c.turns) lines
-  stamps = subst (λ k. NoneLater k lines) s.stamp (newest_last lines s.trace.order)
+  stamps : NoneLater g lines
+  stamps = s.agrees.stamps
 
-  next_timely : IsTimely (suc c.turns) (next_packet net n act)
+  low : g < 2 ^ 62 - 1
+  low = clocks_low c before kept s.agrees
+
+  next_timely : IsTimely g (next_packet net n act)
   next_timely = by act
     where
-      by : (a : Act) → IsTimely (suc c.turns) (next_packet net n a)
+      by : (a : Act) → IsTimely g (next_packet net n a)
       by Boot = tt
       by (Run vp quantum) = tt
       by (Move t to) = tt
-      by (Take from) = timely (suc c.turns) (net.links from n) (links_within p (suc c.turns) lines stamps from n)
+      by (Take from) = timely g (net.links from n) (links_within p g lines stamps from n)
 
-  took_timely : IsTimely (suc c.turns) d.took
-  took_timely = subst (λ o. IsTimely (suc c.turns) o) (sym took_is) next_timely
+  took_timely : IsTimely g d.took
+  took_timely = subst (λ o. IsTimely g o) (sym took_is) next_timely
 
   abbrev pub stamp : ℕ
-  stamp = suc (suc c.turns)
+  stamp = suc g
 
-  clock_is : w.clock ≡ suc c.turns
-  clock_is = max-eq_right {n = v.clock} {m = suc c.turns} is_node.clock
+  clock_is : w.clock ≡ g
+  clock_is = max-eq_right {n = v.clock} {m = g} (clock_within c.nodes n v at)
 
   pub stamp_is : suc (max w.clock (seen d.took)) ≡ stamp
   stamp_is =
       let low : w.clock ≤ max w.clock (seen d.took) = le-max_left w.clock (seen d.took) in
-      let high : max w.clock (seen d.took) ≤ suc c.turns = max-le {a = w.clock} {b = seen d.took} {k = suc c.turns} (omega (arith, clock_is)) (seen_within (suc c.turns) d.took took_timely) in
+      let high : max w.clock (seen d.took) ≤ g = max-le {a = w.clock} {b = seen d.took} {k = g} (omega (arith, clock_is)) (seen_within g d.took took_timely) in
       omega (arith, low, high, clock_is)
 
-  round_is : w.round ≡ suc c.turns
-  round_is = min-eq_left {n = suc v.round} {m = 2 ^ 64 - 1} (omega (arith, is_node.round, few)) ∙ ap suc is_node.round
+  abbrev pub round : ℕ
+  round = next_round (round_in c)
+
+  round_is : w.round ≡ round
+  round_is = ap next_round (s.agrees.one_round n v at)
 
   abbrev pub x : Entry
-  x = record { stamp = stamp; node = n; round = suc c.turns; act = act; labels = d.done.labels }
+  x = record { stamp = stamp; node = n; round = round; act = act; labels = d.done.labels }
 
   event_is : turn_event p n v.state act d.took ≡ local_event p n v.state act d.took
-  event_is = rw (not_beyond (suc c.turns) d.took took_timely (omega (arith, few))) refl
+  event_is = rw (not_beyond g d.took took_timely (omega (arith, low))) refl
 
   did : turn_event p n v.state act d.took ≡ Some d.done
   did = subst (λ (q : Program). turn_event q n v.state act d.took ≡ Some d.done) is_node.program (subst (λ m. turn_event v.program m v.state act d.took ≡ Some d.done) is_node.me d.is)
@@ -133,7 +147,7 @@ module _ (c : ClusterView) (lines : List Entry) (s : StandsFor c lines) (few : c
   taken_in_time : IsTaken stamp act (next_packet net n act)
   taken_in_time = by act (next_packet net n act) next_timely refl (sym done_is)
     where
-      by : (a : Act) (o : Option Packet) → IsTimely (suc c.turns) o → o ≡ next_packet net n a → Some d.done ≡ local_event p n (net.nodes n) a (next_packet net n a) → IsTaken stamp a o
+      by : (a : Act) (o : Option Packet) → IsTimely g o → o ≡ next_packet net n a → Some d.done ≡ local_event p n (net.nodes n) a (next_packet net n a) → IsTaken stamp a o
       by Boot o h i e = i
       by (Run vp quantum) o h i e = i
       by (Move t to) o h i e = i
@@ -143,19 +157,25 @@ module _ (c : ClusterView) (lines : List Entry) (s : StandsFor c lines) (few : c
   -- ## The trace with the entry
 
   pub runs : IsRun p (fresh_net p) (x ∷ lines)
-  runs = (fits_exactly p (fresh_net p) x lines).1 (s.legal.runs, record { done = d.done; is = done_is; labels = refl; takes = taken_in_time })
+  runs = (fits_exactly p (fresh_net p) x lines).1 (s.agrees.legal.runs, record { done = d.done; is = done_is; labels = refl; takes = taken_in_time })
 
   pub order : IsInOrder (x ∷ lines)
-  order = (above (suc c.turns) x (omega arith) lines stamps, s.trace.order)
+  order = (above g x (omega arith) lines stamps, s.agrees.legal.order)
+
+  -- it is above the kept ones too
+  pub order_kept : IsInOrder (x ∷ kept)
+  order_kept = (above g x (omega arith) kept (later_front g kept before stamps), s.agrees.trace.order)
 
   begins : Begins p (x ∷ lines)
-  begins = elim s.legal.begins as (λ z. Begins p (x ∷ lines)) [ inl none ↦ absurd (nothing none) | inr h ↦ inr (x ∷ h.0, ap (λ (xs : List Entry). x ∷ xs) h.1) ]
+  begins = elim s.agrees.legal.begins as (λ z. Begins p (x ∷ lines)) [ inl none ↦ absurd (nothing none) | inr h ↦ inr (x ∷ h.0, ap (λ (xs : List Entry). x ∷ xs) h.1) ]
     where
       nothing : lines ≡ [] → ⊥
-      nothing none = let z : 0 ≡ suc c.turns = ap newest_stamp (sym none) ∙ s.stamp in omega (arith, z)
+      nothing none =
+          let unbooted : v.state.booted ≡ false = ap (λ (z : Local). z.booted) (sym is_node.state) ∙ ap (λ xs. ((net_after p xs).nodes n).booted) none in
+          cc (unbooted, is_node.booted)
 
   pub legal : Legal p (x ∷ lines)
-  legal = whole p (x ∷ lines) order begins (none_above (suc c.turns) lines (omega (arith, s.round)) s.legal.rounds, s.legal.rounds) runs
+  legal = whole p (x ∷ lines) order begins (higher (round_in c) round (next_not_below (round_in c)) lines s.agrees.rounds, s.agrees.legal.rounds) runs
 
   -- ## What it leaves
 
@@ -175,6 +195,6 @@ module _ (c : ClusterView) (lines : List Entry) (s : StandsFor c lines) (few : c
 
   pub console_is : console_of p (at_first p) (x ∷ lines) ≡ console_of p (at_first p) lines ++ d.done.prints
   console_is =
-      let old : printed (events_of p (fresh_net p) lines) ≡ console_of p (at_first p) lines = (run_whole p (at_first p) (fresh_net p) (starts p) lines s.legal.runs).console in
+      let old : printed (events_of p (fresh_net p) lines) ≡ console_of p (at_first p) lines = (run_whole p (at_first p) (fresh_net p) (starts p) lines s.agrees.legal.runs).console in
       let more : printed (events_of p (fresh_net p) (x ∷ lines)) ≡ console_of p (at_first p) (x ∷ lines) = (run_whole p (at_first p) (fresh_net p) (starts p) (x ∷ lines) runs).console in
       sym more ∙ ap (λ o. printed (events_of p (fresh_net p) lines) ++ prints_or o) done_is ∙ ap (λ bs. bs ++ d.done.prints) old

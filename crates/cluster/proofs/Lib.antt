@@ -1,5 +1,6 @@
 pub mod Lists
 pub mod Runs
+pub mod Clocks
 pub mod Settling
 pub mod Starting
 pub mod Linking
@@ -9,6 +10,7 @@ pub mod Acting
 pub mod OneMore
 pub mod Possible
 pub mod TheStep
+mod Resettling
 pub mod Decisions
 pub mod Listings
 pub mod Merging
@@ -17,3 +19,4 @@ mod Going
 pub mod ReadyNames
 pub mod Picks
 pub mod ByWord
+mod Gathered

@@ -24,7 +24,6 @@ use Rattle.cluster.specs.Acts.{is_possible}
 use Rattle.cluster.specs.Standing.{StandsFor, net_after}
 use Rattle.cluster.specs.View.{ClusterView, wires_of}
 use Rattle.cluster.proofs.Lists.{wires-get, wires-length}
-use Rattle.cluster.proofs.Runs.{carried_run}
 use Rattle.run_trace.specs.Links.{first_of}
 
 same_rest : {A : Type 0} (xs ys zs : List A) → xs ++ ys ≡ xs ++ zs → ys ≡ zs
@@ -47,27 +46,26 @@ pub held_is : (ps : List Packet) → nat_lt 0 (length ps) ≡ is_some (first_of 
 held_is [] = refl
 held_is (p ∷ ps) = lt-ltb 0 (length (p ∷ ps)) (omega arith)
 
-module _ (c : ClusterView) (lines : List Entry) (s : StandsFor c lines) where
+module _ (c : ClusterView) (before kept : List Entry) (s : StandsFor c before kept) where
   abbrev p : Program
   p = c.program
 
   abbrev net : Net
-  net = net_after p lines
+  net = net_after p (kept ++ before)
 
   pub as_many : (i : ℕ) → i < nodes_of p → i < length (wires_of c)
-  as_many i l = omega (arith, wires-length c.nodes c.rest, s.count, l)
+  as_many i l = omega (arith, wires-length c.nodes c.rest, s.agrees.count, l)
 
   -- what the receiver sees first is what the link has first
   pub link_known : (i j : ℕ) → i < nodes_of p → j < nodes_of p → first_of (known_on (wires_of c) i j) ≡ first_of (net.links i j)
   link_known i j li lj =
       let es : List (Ends Packet) = wires_of c in
-      let x = link_there es i j s.trace.wired (as_many i li) (as_many j lj) in
-      let y = link_there es j i s.trace.wired (as_many j lj) (as_many i li) in
+      let x = link_there es i j s.agrees.trace.wired (as_many i li) (as_many j lj) in
+      let y = link_there es j i s.agrees.trace.wired (as_many j lj) (as_many i li) in
       let settled : IsSettled x.0 y.0 = s.settled i j x.0 y.0 li lj x.1 y.1 in
       let got : received_on es i j ≡ link_received y.0 = ap (of_link link_received) y.1 in
       let gave : sent_on es i j ≡ link_sent x.0 = ap (of_link link_sent) x.1 in
-      let all : link_received y.0 ++ net.links i j ≡ link_sent x.0 =
-      ap (λ ps. ps ++ net.links i j) (sym got ∙ s.carried.takes i j) ∙ carried_run p lines i j ∙ sym (s.carried.sends i j) ∙ gave in
+      let all : link_received y.0 ++ net.links i j ≡ link_sent x.0 = ap (λ ps. ps ++ net.links i j) (sym got) ∙ s.agrees.under_way i j ∙ gave in
       ap (λ o. first_of (of_link link.link_known o)) y.1
       ∙ first_known (link_received y.0) (link.link_known y.0) (link_waiting x.0) (net.links i j) (link_sent x.0) settled.content all settled.shows
 
@@ -79,6 +77,6 @@ module _ (c : ClusterView) (lines : List Entry) (s : StandsFor c lines) where
     -- whether it can is told by the node itself
     pub can_is : (act : Act) → IsActInRange p n act → can v act ≡ is_possible net n act
     can_is Boot r = refl
-    can_is (Run vp quantum) r = ap (λ (z : Local). nat_lt 0 (length z.places.rows)) (sym (s.node n v at).state)
+    can_is (Run vp quantum) r = ap (λ (z : Local). nat_lt 0 (length z.places.rows)) (sym (s.agrees.node n v at).state)
     can_is (Take from) r = held_is (known_from v.ends from) ∙ ap is_some (known_first from r)
-    can_is (Move t to) r = ap (λ (z : Local). is_listed t z.places.rows) (sym (s.node n v at).state)
+    can_is (Move t to) r = ap (λ (z : Local). is_listed t z.places.rows) (sym (s.agrees.node n v at).state)

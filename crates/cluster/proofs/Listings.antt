@@ -92,9 +92,12 @@ runs_at : (p : Program) (net : Net) (n : ℕ) → runs_of p net n ≡ run_at n p
 unfolding run
 runs_at p net n = refl
 
-module _ (c : ClusterView) (lines : List Entry) (s : StandsFor c lines) where
+module _ (c : ClusterView) (before kept : List Entry) (s : StandsFor c before kept) where
   abbrev p : Program
   p = c.program
+
+  abbrev lines : List Entry
+  lines = kept ++ before
 
   abbrev net : Net
   net = net_after p lines
@@ -103,7 +106,7 @@ module _ (c : ClusterView) (lines : List Entry) (s : StandsFor c lines) where
   w = spots_of p (at_first p) lines
 
   pub stands : Stands p w net
-  stands = (run_whole p (at_first p) (fresh_net p) (starts p) lines s.legal.runs).stands
+  stands = (run_whole p (at_first p) (fresh_net p) (starts p) lines s.agrees.legal.runs).stands
 
   pub ready_names : (n : ℕ) → unwaiting (net.nodes n).threads ≡ ready_on (net.nodes n)
   ready_names n = same_names (net.nodes n).places.rows (net.nodes n).threads (net.nodes n).threads (found_all (net.nodes n).threads (stands.nodes n).threads.apart) (λ t x h. listed_is p w net stands n t x h)
@@ -115,16 +118,16 @@ module _ (c : ClusterView) (lines : List Entry) (s : StandsFor c lines) where
       ∙ ap (λ xs. runs_of p net n ++ (takes_of p net n ++ cond moves xs [])) move_same
     where
       ln : n < nodes_of p
-      ln = omega (arith, s.count, slice_get_within c.nodes n v at)
+      ln = omega (arith, s.agrees.count, slice_get_within c.nodes n v at)
 
       me : v.me ≡ n
-      me = (s.node n v at).me
+      me = (s.agrees.node n v at).me
 
       program : v.program ≡ p
-      program = (s.node n v at).program
+      program = (s.agrees.node n v at).program
 
       state : (net.nodes n) ≡ v.state
-      state = (s.node n v at).state
+      state = (s.agrees.node n v at).state
 
       run_same : run_by v ≡ runs_of p net n
       run_same = ap (λ m. run_at m v.program v.state) me ∙ ap (λ q. run_at n q v.state) program ∙ ap (λ l. run_at n p l) (sym state) ∙ sym (runs_at p net n)
@@ -133,7 +136,7 @@ module _ (c : ClusterView) (lines : List Entry) (s : StandsFor c lines) where
       take_same =
           ap (λ m. map {B = ℕ × Act} (λ i. (m, Take i)) (filter (λ i. can v (Take i)) (run 0 (nodes_of v.program)))) me
           ∙ ap (λ (q : Program). map {B = ℕ × Act} (λ i. (n, Take i)) (filter (λ i. can v (Take i)) (run 0 (nodes_of q)))) program
-          ∙ ap (λ is. map {B = ℕ × Act} (λ i. (n, Take i)) is) (filter_same (λ i. can v (Take i)) (λ i. holds (net.links i n)) 0 (nodes_of p) (λ i l. can_is c lines s n v at ln (Take i) (omega (arith, l))))
+          ∙ ap (λ is. map {B = ℕ × Act} (λ i. (n, Take i)) is) (filter_same (λ i. can v (Take i)) (λ i. holds (net.links i n)) 0 (nodes_of p) (λ i l. can_is c before kept s n v at ln (Take i) (omega (arith, l))))
 
       move_same : moves_by v ≡ flat_map (λ t. moves_to p n t) (ready_on (net.nodes n))
       move_same =
@@ -145,4 +148,4 @@ module _ (c : ClusterView) (lines : List Entry) (s : StandsFor c lines) where
   pub all_acts : (moves : Bool) → flat_map (λ v. acts_by moves v) c.nodes ≡ possible_acts moves p net
   all_acts moves =
       flat_same (λ v. acts_by moves v) (acts_of moves p net) c.nodes 0 (λ k v e. let z : 0 + k ≡ k = omega arith in acts_same moves k v e ∙ ap (acts_of moves p net) (sym z))
-      ∙ ap (λ k. flat_map (acts_of moves p net) (run 0 k)) s.count
+      ∙ ap (λ k. flat_map (acts_of moves p net) (run 0 k)) s.agrees.count

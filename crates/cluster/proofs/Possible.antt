@@ -1,5 +1,5 @@
 -- An act that a node can do is done.
-use Rattle.std.proofs.Common.{◌≡◌, ℕ, ◌<◌, List, [], ◌∷◌, length, Option, Some, None, true, false, cond, eqb, refl, sym, ap, ◌∙◌, subst}
+use Rattle.std.proofs.Common.{◌≡◌, ℕ, ◌<◌, List, [], ◌∷◌, ◌++◌, length, Option, Some, None, true, false, cond, eqb, refl, sym, ap, ◌∙◌, subst}
 use Rattle.std.specs.Prelude.{nat_lt, nat_le, ◌&&◌, not, slice_get}
 use Rattle.std.specs.Map.{lookup}
 use Rattle.std.proofs.lemmas.Bool.{lt-ltb, le-leb, ne_eqb}
@@ -35,21 +35,24 @@ some_rows rows l e = let none : nat_lt 0 (length rows) ≡ false = ap (λ (xs : 
 none_known : (ps : List Packet) → nat_lt 0 (length ps) ≡ true → ps ≡ [] → ⊥
 none_known ps l e = let none : nat_lt 0 (length ps) ≡ false = ap (λ (qs : List Packet). nat_lt 0 (length qs)) e in cc (l, none)
 
-module _ (c : ClusterView) (lines : List Entry) (s : StandsFor c lines) (n : ℕ) (inside : n < nodes_of c.program) (v : NodeView) (at : slice_get c.nodes n ≡ Some v) where
+module _ (c : ClusterView) (before kept : List Entry) (s : StandsFor c before kept) (n : ℕ) (inside : n < nodes_of c.program) (v : NodeView) (at : slice_get c.nodes n ≡ Some v) where
   abbrev p : Program
   p = c.program
+
+  abbrev lines : List Entry
+  lines = kept ++ before
 
   abbrev net : Net
   net = net_after p lines
 
   is_node : IsNodeOf c lines n v
-  is_node = s.node n v at
+  is_node = s.agrees.node n v at
 
   abbrev w : Spots
   w = spots_of p (at_first p) lines
 
   stands : Stands p w net
-  stands = (run_whole p (at_first p) (fresh_net p) (starts p) lines s.legal.runs).stands
+  stands = (run_whole p (at_first p) (fresh_net p) (starts p) lines s.agrees.legal.runs).stands
 
   -- the event that isn't there, in the words of the trace
   as_told : (act : Act) → turn_event v.program v.me v.state act None ≡ None → local_event p n (net.nodes n) act None ≡ None

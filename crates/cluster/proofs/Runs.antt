@@ -1,19 +1,22 @@
 -- What a run leaves on the links, how great its stamps are, and how many entries a node has.
-use Rattle.std.proofs.Common.{◌≡◌, ℕ, suc, ◌<◌, ◌≤◌, inl, inr, List, [], ◌∷◌, ◌++◌, length, Bool, true, false, cond, eqb, refl, sym, ap, ◌∙◌, arith, append_assoc}
-use Rattle.std.specs.Prelude.{⊤}
-use Rattle.std.proofs.lemmas.Bool.{eqb-true}
+use Rattle.std.proofs.Common.{◌≡◌, ◌≢◌, ℕ, zero, suc, ◌+◌, ◌*◌, ◌<◌, ◌≤◌, inl, inr, List, [], ◌∷◌, ◌++◌, length, Bool, true, false, cond, eqb, refl, sym, ap, ◌∙◌, subst, arith, append_assoc}
+use Rattle.std.specs.Prelude.{⊤, filter, not, ◌==◌}
+use Rattle.std.proofs.lemmas.Bool.{eqb-true, eq-eqb, ne_eqb}
+use Rattle.std.proofs.lemmas.List.Filters.{length-filter_both}
 use Rattle.run_trace.specs.declared.entry.Act.{Act}
 use Rattle.run_trace.specs.declared.entry.Act.TheVariants.{Boot, Run, Take, Move}
 use Rattle.run_trace.specs.declared.entry.Entry.{Entry}
 use Rattle.run_trace.specs.declared.packet.Packet.{Packet}
 use Rattle.run_trace.specs.declared.packet.Send.{Send}
 use Rattle.run_trace.specs.Program.{Program}
+use Rattle.run_trace.specs.Cluster as cluster
 use Rattle.run_trace.specs.Cluster.{Net, fresh_net, taken_of, next_packet, received, sent}
 use Rattle.run_trace.specs.Histories.{IsInOrder, IsEntryAbove, own_entries}
-use Rattle.run_trace.specs.Legality.{AreRising, NoneAbove}
-use Rattle.run_trace.specs.Trace.{done_for, events_of, sends_or}
+use Rattle.run_trace.specs.Legality.{NoneAbove}
+use Rattle.run_trace.specs.Trace.{done_for, event_of, events_of, net_after_trace, sends_or}
 use Rattle.trace_laws.specs.Gathers.{AllWithin}
-use Rattle.cluster.specs.Standing.{net_after, newest_stamp, newest_round}
+use Rattle.wires.proofs.Gets.{by_eq}
+use Rattle.cluster.specs.Standing.{NoneLater, net_after, turn_in, turns_in}
 use Rattle.run_trace.specs.Links.{first_of, rest_of, left_after, packets_to}
 
 -- ## What was received, and what the link holds, is what was sent
@@ -38,17 +41,12 @@ taken_left net i j (Take from) = by (eqb from i) refl (net.links from j) refl
 regroup : (a b c d : List Packet) → (a ++ b) ++ (c ++ d) ≡ (a ++ (b ++ c)) ++ d
 regroup a b c d = append_assoc a b (c ++ d) ∙ ap (λ z. a ++ z) (sym (append_assoc b c d)) ∙ sym (append_assoc a (b ++ c) d)
 
-pub carried_run : (p : Program) (lines : List Entry) (i j : ℕ) → received i j (events_of p (fresh_net p) lines) ++ (net_after p lines).links i j ≡ sent i j (events_of p (fresh_net p) lines)
-carried_run p [] i j = refl
-carried_run p (x ∷ xs) i j =
-    regroup r t l s ∙ ap (λ z. (r ++ z) ++ s) same ∙ ap (λ z. z ++ s) (carried_run p xs i j)
+-- an entry takes off the link what it takes, and puts onto it what it sends
+pub carried_one : (p : Program) (net : Net) (x : Entry) (i j : ℕ) (got gave : List Packet) → got ++ net.links i j ≡ gave
+    → (got ++ cond (eqb x.node j) (taken_of i x.act (next_packet net x.node x.act)) []) ++ (cluster.net_after p net (event_of p net x)).links i j
+    ≡ gave ++ cond (eqb x.node i) (packets_to j x.stamp (sends_or (done_for p net x))) []
+carried_one p net x i j got gave h = regroup got t l s ∙ ap (λ z. (got ++ z) ++ s) same ∙ ap (λ z. z ++ s) h
   where
-    net : Net
-    net = net_after p xs
-
-    r : List Packet
-    r = received i j (events_of p (fresh_net p) xs)
-
     t : List Packet
     t = cond (eqb x.node j) (taken_of i x.act (next_packet net x.node x.act)) []
 
@@ -65,24 +63,28 @@ carried_run p (x ∷ xs) i j =
     same : t ++ l ≡ net.links i j
     same = by (eqb x.node j) refl
 
+pub carried_run : (p : Program) (lines : List Entry) (i j : ℕ) → received i j (events_of p (fresh_net p) lines) ++ (net_after p lines).links i j ≡ sent i j (events_of p (fresh_net p) lines)
+carried_run p [] i j = refl
+carried_run p (x ∷ xs) i j = carried_one p (net_after p xs) x i j (received i j (events_of p (fresh_net p) xs)) (sent i j (events_of p (fresh_net p) xs)) (carried_run p xs i j)
+
+-- a trace in two parts leaves what the second leaves after the first
+pub net_joined : (p : Program) (base : Net) (before kept : List Entry) → net_after_trace p (net_after_trace p base before) kept ≡ net_after_trace p base (kept ++ before)
+net_joined p base before [] = refl
+net_joined p base before (x ∷ kept) = ap (λ net. cluster.net_after p net (event_of p net x)) (net_joined p base before kept)
+
 -- ## Stamps
 
--- no stamp is above this
-abbrev pub NoneLater : ℕ → List Entry → Type 0
-NoneLater clock [] = ⊤
-NoneLater clock (x ∷ xs) = (x.stamp ≤ clock) × NoneLater clock xs
+pub later_all : (c d : ℕ) → c ≤ d → (lines : List Entry) → NoneLater c lines → NoneLater d lines
+later_all c d l [] h = tt
+later_all c d l (x ∷ xs) h = (omega (arith, l, h.0), later_all c d l xs h.1)
+
+pub later_front : (c : ℕ) (xs ys : List Entry) → NoneLater c (xs ++ ys) → NoneLater c xs
+later_front c [] ys h = tt
+later_front c (x ∷ xs) ys h = (h.0, later_front c xs ys h.1)
 
 pub above : (c : ℕ) (e : Entry) → c < e.stamp → (lines : List Entry) → NoneLater c lines → IsEntryAbove e lines
 above c e l [] h = tt
 above c e l (x ∷ xs) h = (inl (omega (arith, l, h.0)), above c e l xs h.1)
-
-none_later : (e : Entry) (xs : List Entry) → IsEntryAbove e xs → NoneLater e.stamp xs
-none_later e [] h = tt
-none_later e (x ∷ xs) h = (elim h.0 as (λ z. x.stamp ≤ e.stamp) [ inl l ↦ omega (arith, l) | inr k ↦ omega (arith, k.0) ], none_later e xs h.1)
-
-pub newest_last : (lines : List Entry) → IsInOrder lines → NoneLater (newest_stamp lines) lines
-newest_last [] h = tt
-newest_last (x ∷ xs) h = (omega arith, none_later x xs h.0)
 
 within_all : (c : ℕ) (xs ys : List Packet) → AllWithin c xs → AllWithin c ys → AllWithin c (xs ++ ys)
 within_all c [] ys h k = k
@@ -150,15 +152,60 @@ all_below : (k n : ℕ) (lines : List Entry) → NoneLater k lines → OwnBelow 
 all_below k n [] h = tt
 all_below k n (x ∷ xs) h = (λ e. omega (arith, h.0), all_below k n xs h.1)
 
-pub few_own : (n : ℕ) (lines : List Entry) → IsInOrder lines → length (own_entries n lines) ≤ suc (newest_stamp lines)
-few_own n lines o = own_few n (suc (newest_stamp lines)) lines o (all_below (newest_stamp lines) n lines (newest_last lines o))
+pub few_own : (n clock : ℕ) (lines : List Entry) → IsInOrder lines → NoneLater clock lines → length (own_entries n lines) ≤ suc clock
+few_own n clock lines o h = own_few n (suc clock) lines o (all_below clock n lines h)
+
+-- ## All entries of the nodes together
+
+abbrev others : ℕ → List Entry → List Entry
+others n xs = filter (λ x. not (x.node == n)) xs
+
+own_gone : (n : ℕ) (xs : List Entry) → own_entries n (others n xs) ≡ []
+own_gone n [] = refl
+own_gone n (x ∷ xs) = by (eqb x.node n) refl (own_gone n xs)
+  where
+    by : (b : Bool) → eqb x.node n ≡ b → own_entries n (others n xs) ≡ [] → own_entries n (cond (not b) (x ∷ others n xs) (others n xs)) ≡ []
+    by true e rest = rest
+    by false e rest = ap (λ b. cond b (x ∷ own_entries n (others n xs)) (own_entries n (others n xs))) e ∙ rest
+
+own_others : (n m : ℕ) → m ≢ n → (xs : List Entry) → own_entries m (others n xs) ≡ own_entries m xs
+own_others n m ne [] = refl
+own_others n m ne (x ∷ xs) = by (eqb x.node n) refl (own_others n m ne xs)
+  where
+    by : (b : Bool) → eqb x.node n ≡ b → own_entries m (others n xs) ≡ own_entries m xs → own_entries m (cond (not b) (x ∷ others n xs) (others n xs)) ≡ own_entries m (x ∷ xs)
+    by true e rest =
+        let apart : eqb x.node m ≡ false = ne_eqb x.node m (λ k. ne (sym k ∙ eqb-true x.node n e)) in
+        rest ∙ sym (ap (λ b. cond b (x ∷ own_entries m xs) (own_entries m xs)) apart)
+    by false e rest = ap (λ ys. cond (eqb x.node m) (x ∷ ys) ys) rest
+
+none_own : (xs : List Entry) → ((n : ℕ) → own_entries n xs ≡ []) → xs ≡ []
+none_own [] h = refl
+none_own (x ∷ xs) h =
+    let one : own_entries x.node (x ∷ xs) ≡ x ∷ own_entries x.node xs = ap (λ b. cond b (x ∷ own_entries x.node xs) (own_entries x.node xs)) (eq-eqb x.node x.node refl) in
+    absurd (cc (one, h x.node))
+
+-- so many nodes with at most so many entries each
+pub few_all : (count most : ℕ) (xs : List Entry) → ((n : ℕ) → count ≤ n → own_entries n xs ≡ []) → ((n : ℕ) → n < count → length (own_entries n xs) ≤ most) → length xs ≤ count * most
+few_all zero most xs none few = let empty : length xs ≡ 0 = ap length (none_own xs (λ n. none n (omega arith))) in omega (arith, empty)
+few_all (suc count) most xs none few =
+    let all : length (own_entries count xs) + length (others count xs) ≡ length xs = length-filter_both (λ x. x.node == count) (λ x. not (x.node == count)) (λ x. refl) xs in
+    let rest : length (others count xs) ≤ count * most = few_all count most (others count xs)
+    (λ n l. by_eq n count (λ e. subst (λ k. own_entries k (others count xs) ≡ []) (sym e) (own_gone count xs)) (λ ne. own_others count n ne xs ∙ none n (omega (arith, l, ne))))
+    (λ n l. subst (λ k. k ≤ most) (sym (ap length (own_others count n (λ e. omega (arith, e, l)) xs))) (few n (omega (arith, l)))) in
+    omega (arith, all, rest, few count (omega arith))
+
+pub few_turns : (xs : List Entry) → turns_in xs ≤ length xs
+few_turns [] = omega arith
+few_turns (x ∷ xs) = omega (arith, few_turns xs, at_most_one x.act)
+  where
+    at_most_one : (a : Act) → turn_in a ≤ 1
+    at_most_one Boot = omega arith
+    at_most_one (Run vp quantum) = omega arith
+    at_most_one (Take from) = omega arith
+    at_most_one (Move t to) = omega arith
 
 -- ## Rounds
 
-higher : (round more : ℕ) → round ≤ more → (lines : List Entry) → NoneAbove round lines → NoneAbove more lines
+pub higher : (round more : ℕ) → round ≤ more → (lines : List Entry) → NoneAbove round lines → NoneAbove more lines
 higher round more l [] h = tt
 higher round more l (x ∷ xs) h = (omega (arith, l, h.0), higher round more l xs h.1)
-
-pub none_above : (round : ℕ) (lines : List Entry) → newest_round lines ≤ round → AreRising lines → NoneAbove round lines
-none_above round [] l h = tt
-none_above round (x ∷ xs) l h = (l, higher x.round round l xs h.0)

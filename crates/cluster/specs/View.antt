@@ -1,5 +1,5 @@
 -- All nodes as their callers see them.
-use Rattle.std.specs.Prelude.{ℕ, List, [], ◌++◌, map, Option, Some, None, slice_get}
+use Rattle.std.specs.Prelude.{ℕ, max, List, [], ◌∷◌, ◌++◌, map, Option, Some, None, slice_get}
 use Rattle.run_trace.specs.declared.packet.Packet.{Packet}
 use Rattle.run_trace.specs.Program.{Program}
 use Rattle.wires.specs.declared.ends.Ends.{Ends}
@@ -7,7 +7,7 @@ use Rattle.node_loop.specs.View.{NodeView}
 
 pub record ClusterView : Type 0 where
   pub program : Program
-  pub turns : ℕ  -- how many acts were done
+  pub turns : ℕ  -- how many of the kept entries are no beginnings
   pub nodes : List NodeView  -- node 0, node 1 and so on
   pub rest : List (Ends Packet)  -- the ends of the wires' further nodes
 
@@ -28,3 +28,16 @@ console_at (Some v) = v.console
 -- the lines that were shown: those of node 0
 abbrev pub console_in : ClusterView → List ℕ
 console_in c = console_at (slice_get c.nodes 0)
+
+-- the greatest of the nodes' clocks
+abbrev pub greatest_clock : List NodeView → ℕ
+greatest_clock [] = 0
+greatest_clock (v ∷ vs) = max v.clock (greatest_clock vs)
+
+abbrev pub round_at : Option NodeView → ℕ
+round_at None = 0
+round_at (Some v) = v.round
+
+-- the round of the nodes: that of node 0
+abbrev pub round_in : ClusterView → ℕ
+round_in c = round_at (slice_get c.nodes 0)

@@ -1,23 +1,26 @@
 //! The cluster.
 
-ghost use Rattle.std.specs.Prelude.{◌≡◌, ◌<◌, ◌≤◌, ◌↔◌, ◌%◌, [], List, length, reverse, Bool, false, IfOk, OnErr, slice_get};
+ghost use Rattle.std.specs.Prelude.{◌≡◌, ◌<◌, ◌≤◌, ◌↔◌, ◌%◌, ◌++◌, [], List, length, reverse, Bool, false, IfOk, IsOk, OnErr, slice_get};
 ghost use Rattle.run_trace.specs.declared.entry.Entry.{Entry};
+ghost use Rattle.run_trace.specs.Console.{console_of};
 ghost use Rattle.run_trace.specs.Legality.{boot_entries};
 ghost use Rattle.run_trace.specs.Program.{nodes_of, quantum_limit};
+ghost use Rattle.run_trace.specs.Spots.{at_first};
 ghost use Rattle.node_state.specs.Events.{program, StartsAligned};
 ghost use Rattle.node_loop.specs.Turns.{IsActInRange};
 ghost use Rattle.wires.specs.Wires.{AreFreshFor};
 ghost use Rattle.cluster.specs.Acts.{possible_acts, is_possible};
+ghost use Rattle.cluster.specs.Between.{KeepNodes};
 ghost use Rattle.cluster.specs.Outcomes.{IsAt};
-ghost use Rattle.cluster.specs.Standing.{StandsFor, IsStanding, HasTrace, Steps, Loses, net_after, turn_limit};
-ghost use Rattle.cluster.specs.View.{console_in, wires_of};
+ghost use Rattle.cluster.specs.Standing.{StandsFor, AgreesWith, IsStanding, HasRoom, HasTrace, Steps, Loses, net_after, turns_in};
+ghost use Rattle.cluster.specs.View.{console_in, greatest_clock, round_in, wires_of};
 
 use crate::beginning::begun;
 use crate::choosing::{act_at, count_all};
 use crate::deciding::{State, any_halted, any_packet, any_ready, any_thread, decided};
 use crate::ending::taken_apart;
 use crate::listing::push_acts;
-use crate::stepping::carry_out;
+use crate::stepping::{carry_out, next_clock, settle_all};
 use basics::{Items, NoMemory};
 use node_loop::{Node, Turned};
 use run_trace::{Act, Entry, Packet, Setup};
@@ -65,7 +68,8 @@ impl Cluster {
         requires image { StartsAligned image }
         requires fresh { AreFreshFor (length wires) wires }
         requires wide { setup.now.geometry.nodes ≤ length wires }
-        ensures stands { IfOk result (λ c. StandsFor c (boot_entries (program setup.now image) setup.now.geometry.nodes)) }
+        ensures stands { IfOk result (λ c. StandsFor c [] (boot_entries (program setup.now image) setup.now.geometry.nodes)) }
+        ensures first { IfOk result (λ c. (greatest_clock c.nodes ≡ 1) × (round_in c ≡ 0)) }
         ensures program { IfOk result (λ c. c.program ≡ program setup.now image) }
         ensures wires { IfOk result (λ c. length (wires_of c) ≡ length wires) }
     {
@@ -80,29 +84,40 @@ impl Cluster {
         })
     }
 
-    /// An act of a node, in a round of its own: its entry is one stamp above all others. Idle exactly where the act isn't
-    /// possible, and then nothing changes, the round included.
+    /// An act of a node, in the next round: all clocks are raised to the greatest, and its entry is one stamp above it. Idle
+    /// exactly where the act isn't possible, and then nothing changes, the round included.
     pub fn step(&mut self, node: NodeNo, act: Act) -> Result<Turned, NoMemory>
         requires stands { IsStanding self.old }
-        requires turns { self.old.turns < turn_limit }
         requires node { node < nodes_of self.old.program }
         requires range { IsActInRange self.old.program node act }
-        ensures steps { (lines : List Entry) → StandsFor self.old lines → IfOk result (λ turned. Steps self.old lines node act self.new turned) }
-        ensures idle { (lines : List Entry) → StandsFor self.old lines → IfOk result (λ turned. (turned ≡ Turned.Idle) ↔ (is_possible (net_after self.old.program lines) node act ≡ false)) }
-        ensures err { (lines : List Entry) → StandsFor self.old lines → OnErr result (Loses self.old self.new lines) }
+        requires room { HasRoom self.old node }
+        ensures steps { (before kept : List Entry) → StandsFor self.old before kept → IfOk result (λ turned. Steps self.old before kept node act self.new turned) }
+        ensures idle { (before kept : List Entry) → StandsFor self.old before kept → IfOk result (λ turned. (turned ≡ Turned.Idle) ↔ (is_possible (net_after self.old.program (kept ++ before)) node act ≡ false)) }
+        ensures err { (before kept : List Entry) → StandsFor self.old before kept → OnErr result (Loses self.old self.new kept) }
     {
         let at = usize::from(node.0);
         if !self.nodes[at].possible(&act) {
             return Ok(Turned::Idle);
         }
-        let turned = carry_out(&mut self.nodes, &self.rest, self.turns + 1, at, act)?;
+        let clock = next_clock(&self.nodes);
+        let turned = carry_out(&mut self.nodes, &self.rest, clock, at, act)?;
         self.turns += 1;
         Ok(turned)
     }
 
+    /// Settles all links: what is under way is known to those to whom it goes. It takes no memory and always succeeds.
+    pub fn settle(&mut self) -> Result<(), NoMemory>
+        requires agrees { (before kept : List Entry) × AgreesWith self.old before kept }
+        ensures ok { IsOk result }
+        ensures stands { (before kept : List Entry) → AgreesWith self.old before kept → StandsFor self.new before kept }
+        ensures same { (self.new.program ≡ self.old.program) × (self.new.turns ≡ self.old.turns) × KeepNodes self.old.nodes self.new.nodes }
+    {
+        settle_all(&mut self.nodes, &self.rest)
+    }
+
     /// The possible acts, in their order; moves only where they are asked for.
     pub fn acts(&self, moves: bool) -> Result<Vec<(NodeNo, Act)>, NoMemory>
-        ensures { (lines : List Entry) → StandsFor self.now lines → IfOk result (λ acts. acts.items ≡ possible_acts moves self.now.program (net_after self.now.program lines)) }
+        ensures { (before kept : List Entry) → StandsFor self.now before kept → IfOk result (λ acts. acts.items ≡ possible_acts moves self.now.program (net_after self.now.program (kept ++ before))) }
     {
         let mut acts = Vec::new(self.alloc);
         for node in &self.nodes {
@@ -114,7 +129,7 @@ impl Cluster {
     /// The possible act at the word's place, counted round and round, or None where no act is possible; moves only where they
     /// are asked for.
     pub fn choose(&self, moves: bool, word: u32) -> Option<(NodeNo, Act)>
-        ensures { (lines : List Entry) → StandsFor self.now lines → (let acts = possible_acts moves self.now.program (net_after self.now.program lines) in result ≡ slice_get acts (word % length acts)) }
+        ensures { (before kept : List Entry) → StandsFor self.now before kept → (let acts = possible_acts moves self.now.program (net_after self.now.program (kept ++ before)) in result ≡ slice_get acts (word % length acts)) }
     {
         let count = self.setup.geometry.nodes();
         let total = count_all(&self.nodes, count, moves);
@@ -126,7 +141,7 @@ impl Cluster {
 
     /// Whether the program goes on.
     pub fn verdict(&self) -> State
-        ensures { (lines : List Entry) → StandsFor self.now lines → IsAt self.now.program lines result }
+        ensures { (before kept : List Entry) → StandsFor self.now before kept → IsAt self.now.program (kept ++ before) result }
     {
         let count = self.setup.geometry.nodes();
         decided(
@@ -137,16 +152,18 @@ impl Cluster {
         )
     }
 
-    /// How many acts were done.
+    /// How many acts were done: its entries that are no beginnings.
     pub fn turns(&self) -> u64
-        ensures { result ≡ self.now.turns }
+        ensures value { result ≡ self.now.turns }
+        ensures counts { (before kept : List Entry) → StandsFor self.now before kept → result ≡ turns_in kept }
     {
         self.turns
     }
 
-    /// The lines that were shown.
+    /// The lines that its entries have shown: what the part of the trace before them has shown comes first on the console.
     pub fn console(&self) -> &[u8]
-        ensures { result.now ≡ console_in self.now }
+        ensures value { result.now ≡ console_in self.now }
+        ensures shows { (before kept : List Entry) → StandsFor self.now before kept → console_of self.now.program (at_first self.now.program) (kept ++ before) ≡ console_of self.now.program (at_first self.now.program) before ++ result.now }
     {
         match self.nodes.first() {
             None => &[],
@@ -154,10 +171,10 @@ impl Cluster {
         }
     }
 
-    /// Its trace, oldest entry first, and its wires, when it is done with.
+    /// The entries that it has kept, oldest first, and its wires, when it is done with.
     pub fn finish(self) -> Result<(Items<Entry>, Wires<Packet>), NoMemory>
-        requires { (lines : List Entry) × HasTrace self lines }
-        ensures trace { (lines : List Entry) → HasTrace self lines → IfOk result (λ done. done.0 ≡ reverse lines) }
+        requires { (kept : List Entry) × HasTrace self kept }
+        ensures trace { (kept : List Entry) → HasTrace self kept → IfOk result (λ done. done.0 ≡ reverse kept) }
         ensures wires { IfOk result (λ done. done.1 ≡ wires_of self) }
     {
         let (parts, ends) = taken_apart(self.alloc, self.nodes, self.rest)?;

@@ -7,8 +7,10 @@ mod choosing;
 mod cluster;
 mod deciding;
 mod ending;
+mod laws;
 mod listing;
 mod stepping;
 
 pub use cluster::Cluster;
 pub use deciding::State;
+pub use laws::{rounds_gather, runs_join};

@@ -1,16 +1,32 @@
 //! The parts of a step.
 
-ghost use Rattle.std.specs.Prelude.{◌≡◌, ◌<◌, ◌^◌, Some, IfOk, IsOk, OnErr, length, map, slice_get};
+ghost use Rattle.std.specs.Prelude.{◌≡◌, ◌<◌, ◌^◌, ◌-◌, Some, IfOk, IsOk, OnErr, length, map, min, slice_get};
 ghost use Rattle.wires.specs.Link.{IsSettled, BothBecome, OwnBecomes};
 ghost use Rattle.wires.specs.Pairs.{PairChanged, SelfChanged};
 ghost use Rattle.wires.specs.Wires.{AreWired};
 ghost use Rattle.node_loop.specs.View.{NodeView, raised};
 ghost use Rattle.cluster.specs.Between.{AreNumbered, HasActed, HasFailed, IsReady, KeepNodes, SettlesAll, SettlesOf, wires_in};
+ghost use Rattle.cluster.specs.View.{greatest_clock};
 
 use basics::NoMemory;
 use node_loop::{Node, Turned};
 use run_trace::{Act, Packet};
 use wires::Ends;
+
+/// The greatest clock to which clocks are raised; above it come the stamps of strays.
+const LAST_CLOCK: u64 = (1 << 62) - 1;
+
+// The clock to which all are raised: the greatest.
+pub(crate) fn next_clock(nodes: &[Node]) -> u64
+    ensures value { result ≡ min (greatest_clock nodes.now) (2 ^ 62 - 1) }
+    ensures below { result < 2 ^ 62 }
+{
+    let mut greatest = 0;
+    for node in nodes {
+        greatest = greatest.max(node.clock());
+    }
+    greatest.min(LAST_CLOCK)
+}
 
 // An act of a node, which is ready for it: the clocks are raised before it, and the node's links are settled after it.
 pub(crate) fn carry_out(

@@ -26,7 +26,7 @@ struct Known {
 type Wrong = (&'static str, &'static str, usize);
 
 /// It prints hi and returns.
-const HI: [u32; 7] = [
+pub(crate) const HI: [u32; 7] = [
     0x0000_0517,
     0x0185_0513,
     0x0020_0593,
@@ -250,7 +250,7 @@ ran 0.0 0 1000 quantum
 ];
 
 /// The stub and the words.
-fn image(alloc: Global, words: &[u32]) -> Result<Image, NoMemory>
+pub(crate) fn image(alloc: Global, words: &[u32]) -> Result<Image, NoMemory>
     ensures { IfOk result StartsAligned }
 {
     let mut bytes = Vec::new(alloc);

@@ -2,3 +2,4 @@ mod Booted
 mod Wiring
 mod Stepping
 mod Locally
+mod ManyTurns

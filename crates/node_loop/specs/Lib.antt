@@ -1,3 +1,4 @@
 pub mod View
 pub mod Turns
 pub mod Links
+pub mod Histories

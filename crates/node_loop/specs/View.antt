@@ -1,5 +1,5 @@
 -- A node as its callers see it.
-use Rattle.std.specs.Prelude.{ℕ, suc, ◌-◌, ◌^◌, List, [], max, min}
+use Rattle.std.specs.Prelude.{ℕ, suc, ◌-◌, ◌^◌, List, [], max, nat_lt, if◌then◌else◌}
 use Rattle.run_trace.specs.declared.entry.Entry.{Entry}
 use Rattle.run_trace.specs.declared.packet.Packet.{Packet}
 use Rattle.run_trace.specs.Program.{Program}
@@ -44,6 +44,10 @@ view_of p me state clock round entries console ends = record {
 abbrev pub with_ends : Ends Packet → NodeView → NodeView
 with_ends ends v = record v { ends = ends }
 
--- the clock is at least this, and the next round begins; rounds stand still at their type's end
+-- the round after a round; rounds stand still at their type's end
+abbrev pub next_round : ℕ → ℕ
+next_round round = if nat_lt round (2 ^ 64 - 1) then suc round else round
+
+-- the clock is at least this, and the next round begins
 abbrev pub raised : ℕ → NodeView → NodeView
-raised clock v = record v { clock = max v.clock clock; round = min (suc v.round) (2 ^ 64 - 1) }
+raised clock v = record v { clock = max v.clock clock; round = next_round v.round }

@@ -7,5 +7,5 @@ mod laws;
 mod links;
 mod node;
 
-pub use laws::turns_are_local;
+pub use laws::{turns_are_a_history, turns_are_local};
 pub use node::{Node, Turned};

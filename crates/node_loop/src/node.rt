@@ -5,7 +5,7 @@ ghost use Rattle.run_trace.specs.Guests.{unwaiting};
 ghost use Rattle.run_trace.specs.Histories.{seen};
 ghost use Rattle.run_trace.specs.Machine.{turn_event, is_beyond};
 ghost use Rattle.wires.specs.Ends.{node_of, width, ArePaired, BothChanged, LinkChanged};
-ghost use Rattle.wires.specs.Link.{IsSettled, BothBecome, OwnBecomes};
+ghost use Rattle.wires.specs.Link.{IsInOrder, IsSettled, BothBecome, OwnBecomes};
 ghost use Rattle.wires.specs.Wires.{StaysWired};
 ghost use Rattle.run_list.specs.Names.{names_of};
 ghost use Rattle.node_state.specs.Views.{AreInOrder};
@@ -190,7 +190,9 @@ impl Node {
         ensures { self.new ≡ raised clock self.old }
     {
         self.clock = self.clock.max(clock);
-        self.round = self.round.saturating_add(1);
+        if self.round < u64::MAX {
+            self.round += 1;
+        }
     }
 
     /// Whether a thread can be picked, the packet of the link is known, or the thread is on the run list.
@@ -308,6 +310,28 @@ impl Node {
         ensures same { self.new ≡ with_ends self.new.ends self.old }
     {
         self.ends.settle_own()
+    }
+
+    /// Looks at both links with another node, as `look` of the wires does.
+    pub fn look_with(&mut self, other: &mut Node)
+        requires { ArePaired self.old.ends other.old.ends }
+        ensures looked { BothChanged (BothBecome IsInOrder) self.old.ends other.old.ends self.new.ends other.new.ends }
+        ensures paired { ArePaired self.new.ends other.new.ends }
+        ensures wired { StaysWired self.old.ends self.new.ends × StaysWired other.old.ends other.new.ends }
+        ensures same { (self.new ≡ with_ends self.new.ends self.old) × (other.new ≡ with_ends other.new.ends other.old) }
+    {
+        wires::look(&mut self.ends, &mut other.ends);
+    }
+
+    /// Looks at the link with itself, as `look_own` of the wires does.
+    pub fn look_own(&mut self)
+        requires { ArePaired self.old.ends self.old.ends }
+        ensures looked { LinkChanged self.old.me (OwnBecomes IsInOrder) self.old.ends self.new.ends }
+        ensures paired { ArePaired self.new.ends self.new.ends }
+        ensures wired { StaysWired self.old.ends self.new.ends }
+        ensures same { self.new ≡ with_ends self.new.ends self.old }
+    {
+        self.ends.look_own();
     }
 
     /// Its entries and its ends, when it is done with.

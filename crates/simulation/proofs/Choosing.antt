@@ -1,6 +1,7 @@
 -- The chosen act is one of the possible ones, and each of those can be done.
 use Rattle.std.proofs.Common.{◌≡◌, ℕ, zero, suc, ◌+◌, ◌%◌, ◌<◌, ◌≤◌, List, [], ◌∷◌, ◌++◌, map, length, Option, Some, None, Bool, true, false, eqb, cond, refl, sym, ap, ◌∙◌, subst, arith}
 use Rattle.std.specs.Prelude.{◌↔◌, ◌≢◌, ⊤, filter, flat_map, slice_get, not, ◌==◌}
+use Rattle.std.proofs.lemmas.List.{append-nil}
 use Rattle.std.proofs.lemmas.Option.{slice_get-get_or}
 use Rattle.std.proofs.lemmas.Bool.{eq-eqb}
 use Rattle.slot_space.specs.Sets.{run}
@@ -107,11 +108,11 @@ item_passes {A = A} P [] i a all e = absurd (let none : slice_get {X = A} [] i �
 item_passes P (x ∷ xs) zero a all e = let same : x ≡ a = cc e in subst P same all.0
 item_passes P (x ∷ xs) (suc i) a all e = item_passes P xs i a all.1 e
 
-pub chosen_possible : (moves : Bool) (c : ClusterView) (lines : List Entry) (o : Option (ℕ × Act)) (word : ℕ) (a : ℕ × Act) → StandsFor c lines
+pub chosen_possible : (moves : Bool) (c : ClusterView) (lines : List Entry) (o : Option (ℕ × Act)) (word : ℕ) (a : ℕ × Act) → StandsFor c [] lines
     → o ≡ chosen word (possible_after moves c.program lines) → o ≡ Some a → IsPossible c.program (net_after c.program lines) a
 chosen_possible moves c lines o word a s is some =
     item_passes (IsPossible c.program (net_after c.program lines)) (possible_after moves c.program lines) (word % length (possible_after moves c.program lines)) a
-    (each_possible c.program (net_after c.program lines) s.some_quantum s.bounded_quantum moves) (sym is ∙ some)
+    (each_possible c.program (net_after c.program lines) s.agrees.some_quantum s.agrees.bounded_quantum moves) (sym is ∙ some)
 
 pub some_chosen : (all : List (ℕ × Act)) (o : Option (ℕ × Act)) (word : ℕ) → (all ≡ [] → ⊥) → o ≡ chosen word all → o ≡ None → ⊥
 some_chosen [] o word some is none = some refl
@@ -120,8 +121,15 @@ some_chosen (x ∷ xs) o word some is none =
     cc (is, none, slice_get-get_or (x ∷ xs) (word % length (x ∷ xs)) x inside)
 
 -- an act that can be done is done
-pub draws : (moves : Bool) (old new : ClusterView) (lines : List Entry) (o : Option (ℕ × Act)) (word n : ℕ) (act : Act) (t : Turned) → StandsFor old lines
-    → o ≡ chosen word (possible_after moves old.program lines) → o ≡ Some (n, act) → Steps old lines n act new t
-    → (t ≡ Idle) ↔ (is_possible (net_after old.program lines) n act ≡ false) → Draws moves word lines old new
-draws moves old new lines o word n act Idle s is some h i = absurd (cc (i.0 refl, (chosen_possible moves old lines o word (n, act) s is some).possible))
+pub draws : (moves : Bool) (old new : ClusterView) (lines : List Entry) (o : Option (ℕ × Act)) (word n : ℕ) (act : Act) (t : Turned) → StandsFor old [] lines
+    → o ≡ chosen word (possible_after moves old.program lines) → o ≡ Some (n, act) → Steps old [] lines n act new t
+    → (t ≡ Idle) ↔ (is_possible (net_after old.program (lines ++ [])) n act ≡ false) → Draws moves word lines old new
+draws moves old new lines o word n act Idle s is some h i =
+    absurd (cc (i.0 refl, ap (λ ls. is_possible (net_after old.program ls) n act) (append-nil lines), (chosen_possible moves old lines o word (n, act) s is some).possible))
 draws moves old new lines o word n act Did s is some h i = record { node = n; act = act; chosen_is = sym is ∙ some; adds = h }
+
+-- ## No part of the trace came before
+
+pub chosen_whole : (moves : Bool) (p : Program) (kept : List Entry) (word : ℕ) (o : Option (ℕ × Act)) → o ≡ chosen word (possible_acts moves p (net_after p (kept ++ [])))
+    → o ≡ chosen word (possible_after moves p kept)
+chosen_whole moves p kept word o e = e ∙ ap (λ ls. chosen word (possible_acts moves p (net_after p ls))) (append-nil kept)

@@ -1,5 +1,5 @@
 -- A run under way, from act to act, and how it ends.
-use Rattle.std.proofs.Common.{◌≡◌, ℕ, zero, suc, ◌+◌, ◌<◌, ◌≤◌, Bool, List, [], ◌∷◌, ◌++◌, length, take, drop, reverse, Option, Some, None, refl, sym, ap, ◌∙◌, subst, arith, inl}
+use Rattle.std.proofs.Common.{◌≡◌, ℕ, zero, suc, ◌+◌, ◌-◌, ◌^◌, ◌<◌, ◌≤◌, Bool, List, [], ◌∷◌, ◌++◌, length, take, drop, reverse, Option, Some, None, refl, sym, ap, ◌∙◌, subst, arith, inl}
 use Rattle.std.specs.Prelude.{◌≢◌, option_map}
 use Rattle.std.proofs.lemmas.List.{length-append, append_assoc, append-nil, reverse-reverse}
 use Rattle.std.proofs.Math.Seq.{drop-append_seam, take-append_seam, take-append-add}
@@ -15,9 +15,13 @@ use Rattle.run_trace.specs.Legality.{Legal, boot_entries}
 use Rattle.run_trace.specs.Program.{Program, nodes_of}
 use Rattle.run_trace.specs.Spots.{at_first}
 use Rattle.cluster.specs.Outcomes.{GoesOn, IsDoneAt, IsStuckAt, IsAt}
+use Rattle.cluster.specs.declared.deciding.State.{State}
 use Rattle.cluster.specs.declared.deciding.State.TheVariants.{Going, Done, Stalled}
-use Rattle.cluster.specs.Standing.{StandsFor, HaveCarried, Loses, newest_round, turn_limit}
-use Rattle.cluster.specs.View.{ClusterView, console_in, wires_of}
+use Rattle.cluster.proofs.Clocks.{next_is}
+use Rattle.node_loop.specs.Turns.{entry_limit}
+use Rattle.node_loop.specs.View.{next_round}
+use Rattle.cluster.specs.Standing.{StandsFor, HaveCarried, Loses}
+use Rattle.cluster.specs.View.{ClusterView, console_in, greatest_clock, round_in, wires_of}
 use Rattle.simulation.specs.Drawn.{AreDrawn, IsDrawn, chosen, generator, possible_after, word_at}
 use Rattle.simulation.specs.Ends.{WentOn, before_last, EndsAt, Runs, ShowsAt, Simulates, Shows, CarriesAt}
 use Rattle.outside.specs.declared.outside.WriteRefusal.{WriteRefusal}
@@ -44,29 +48,44 @@ pub prefixed : (written : Option (List ℕ)) (xs ys : List ℕ) (mid now : Optio
 prefixed written xs ys mid now h k =
     (length xs + k.0, subst (λ zs. Appends written zs now) (sym (take-append-add xs ys k.0)) (appended written xs (take k.0 ys) mid now h k.1))
 
+-- ## No part of the trace came before
+
+pub legal_whole : (c : ClusterView) (kept : List Entry) → StandsFor c [] kept → Legal c.program kept
+legal_whole c kept s = subst (λ ls. Legal c.program ls) (append-nil kept) s.agrees.legal
+
+pub console_whole : (c : ClusterView) (kept : List Entry) → StandsFor c [] kept → console_of c.program (at_first c.program) kept ≡ console_in c
+console_whole c kept s = ap (console_of c.program (at_first c.program)) (sym (append-nil kept)) ∙ s.agrees.console
+
+-- what a verdict says of it
+pub at_whole : (p : Program) (kept : List Entry) (state : State) → IsAt p (kept ++ []) state → IsAt p kept state
+at_whole p kept state h = subst (λ ls. IsAt p ls state) (append-nil kept) h
+
 -- ## The beginning
 
 -- the trace of a run under way
 abbrev pub trace_of : {moves : Bool} {seed : ℕ} {old : ClusterView} {written : Option (List ℕ)} {done : ℕ} {c : ClusterView} {words : Lcg} {now : Option (List ℕ)} → IsUnderway moves seed old written done c words now → List Entry
 trace_of {old = old} u = u.later ++ boot_entries old.program (nodes_of old.program)
 
-pub begins : (moves : Bool) (seed : ℕ) (old : ClusterView) (words : Lcg) (written : Option (List ℕ)) → StandsFor old (boot_entries old.program (nodes_of old.program)) → words ≡ generator seed
+pub begins : (moves : Bool) (seed : ℕ) (old : ClusterView) (words : Lcg) (written : Option (List ℕ)) → StandsFor old [] (boot_entries old.program (nodes_of old.program))
+    → greatest_clock old.nodes ≡ 1 → round_in old ≡ 0 → words ≡ generator seed
     → IsUnderway moves seed old written 0 old words written
-begins moves seed old words written s w = record {
+begins moves seed old words written s clock round w = record {
   program = refl;
   later = [];
   stands = s;
+  clock = clock;
+  round = round;
   count = refl;
   drawn = tt;
   went_on = tt;
-  possible = begins_possible moves old.program s.legal;
+  possible = begins_possible moves old.program (legal_whole old (boot_entries old.program (nodes_of old.program)) s);
   generator = w;
   shown = subst (λ xs. Appends written xs written) (sym empty) (nothing written);
   wide = refl;
 }
   where
     empty : console_in old ≡ []
-    empty = sym s.console ∙ nothing_shown old.program (nodes_of old.program)
+    empty = sym (console_whole old (boot_entries old.program (nodes_of old.program)) s) ∙ nothing_shown old.program (nodes_of old.program)
 
     nothing : (o : Option (List ℕ)) → Appends o [] o
     nothing None = refl
@@ -79,26 +98,15 @@ module _ (moves : Bool) (seed : ℕ) (old : ClusterView) (written : Option (List
   abbrev first : List Entry
   first = boot_entries p (nodes_of p)
 
-  turns_are : c.turns ≡ length u.later
-  turns_are = sym u.stands.round ∙ by u.later u.drawn
-    where
-      at_first_round : (n : ℕ) → newest_round (boot_entries p n) ≡ 0
-      at_first_round zero = refl
-      at_first_round (suc n) = refl
-
-      by : (later : List Entry) → AreDrawn moves p seed first later → newest_round (later ++ first) ≡ length later
-      by [] d = at_first_round (nodes_of p)
-      by (x ∷ later) d = d.1.round ∙ omega arith
-
-  pub few_turns : (turns : ℕ) → done < turns → turns ≤ 1000000 → c.turns < turn_limit
-  few_turns turns l few = omega (arith, turns_are, u.count, l, few)
+  pub few_stamps : (turns : ℕ) → done < turns → turns ≤ 1000000 → greatest_clock c.nodes + 1 < entry_limit
+  few_stamps turns l few = omega (arith, u.clock, l, few)
 
   pub some_act : possible_after moves c.program (u.later ++ first) ≢ []
   some_act = subst (λ q. possible_after moves q (u.later ++ first) ≢ []) (sym u.program) u.possible
 
   -- ## One act more
 
-  module _ (word : ℕ) (c2 : ClusterView) (d : Draws moves word (u.later ++ first) c c2) (w : word ≡ (pcg32 words).0) where
+  module _ (word : ℕ) (c2 : ClusterView) (d : Draws moves word (u.later ++ first) c c2) (w : word ≡ (pcg32 words).0) (few : done < 2 ^ 64 - 1) where
     abbrev x : Entry
     x = d.adds.entry
 
@@ -108,13 +116,16 @@ module _ (moves : Bool) (seed : ℕ) (old : ClusterView) (written : Option (List
     word_is : word ≡ word_at seed (length u.later)
     word_is = w ∙ ap (λ g. (pcg32 g).0) u.generator ∙ ap (λ k. word_at seed k) (sym u.count)
 
+    round_is : x.round ≡ suc done
+    round_is = d.adds.next.round ∙ ap next_round u.round ∙ next_is done few
+
     is_drawn : IsDrawn moves p (word_at seed (length u.later)) (suc (length u.later)) (u.later ++ first) x
     is_drawn = record {
       act = ap (λ k. chosen k (possible_after moves p (u.later ++ first))) (sym word_is)
           ∙ ap (λ q. chosen word (possible_after moves q (u.later ++ first))) (sym u.program)
           ∙ d.chosen_is ∙ ap (λ n. Some (n, d.act)) (sym d.adds.next.node) ∙ ap (λ (a : Act). Some (x.node, a)) (sym d.adds.next.act);
-      stamp = d.adds.next.stamp ∙ ap suc (u.stands.stamp ∙ ap suc turns_are);
-      round = d.adds.next.round ∙ ap suc (u.stands.round ∙ turns_are);
+      stamp = d.adds.next.stamp ∙ ap suc (u.clock ∙ ap suc (sym u.count));
+      round = round_is ∙ ap suc (sym u.count);
     }
 
     drawn_now : AreDrawn moves p seed first (x ∷ u.later)
@@ -135,7 +146,7 @@ module _ (moves : Bool) (seed : ℕ) (old : ClusterView) (written : Option (List
         (prefixed written (console_in c) d.adds.shown now now2 u.shown (subst (λ xs. AppendsPrefix now xs now2) new_lines h))
 
     console_is : console_of p (at_first p) (x ∷ u.later ++ first) ≡ console_in c2
-    console_is = subst (λ q. console_of q (at_first q) (x ∷ u.later ++ first) ≡ console_in c2) program_is d.adds.stands.console
+    console_is = subst (λ q. console_of q (at_first q) (x ∷ u.later ++ first) ≡ console_in c2) program_is (console_whole c2 (x ∷ u.later ++ first) d.adds.stands)
 
     pub goes_on : (words2 : Lcg) (now2 : Option (List ℕ)) → words2 ≡ (pcg32 words).1 → Appends now (drop (length (console_in c)) (console_in c2)) now2 → IsAt c2.program (x ∷ u.later ++ first) Going
         → IsUnderway moves seed old written (done + 1) c2 words2 now2
@@ -143,6 +154,8 @@ module _ (moves : Bool) (seed : ℕ) (old : ClusterView) (written : Option (List
       program = program_is;
       later = x ∷ u.later;
       stands = d.adds.stands;
+      clock = d.adds.clock ∙ d.adds.next.stamp ∙ ap suc u.clock;
+      round = d.adds.round ∙ round_is;
       count = ap suc u.count;
       drawn = drawn_now;
       went_on = (u.went_on, going.not_done, going.not_stuck);
@@ -162,9 +175,9 @@ module _ (moves : Bool) (seed : ℕ) (old : ClusterView) (written : Option (List
     ended : (turns : ℕ) (now2 : Option (List ℕ)) (end : End) → done < turns → EndsAt p turns first (x ∷ u.later) end → ShowsAt p written now2 (x ∷ u.later ++ first) end → HasRun moves turns seed old c2 written now2 end
     ended turns now2 end l e s = record {
       lines = x ∷ u.later ++ first;
-      trace = d.adds.stands.trace;
+      trace = d.adds.stands.agrees.trace;
       runs = record {
-        legal = subst (λ q. Legal q (x ∷ u.later ++ first)) program_is d.adds.stands.legal;
+        legal = subst (λ q. Legal q (x ∷ u.later ++ first)) program_is (legal_whole c2 (x ∷ u.later ++ first) d.adds.stands);
         later = x ∷ u.later;
         begins = refl;
         drawn = drawn_now;
@@ -172,7 +185,7 @@ module _ (moves : Bool) (seed : ℕ) (old : ClusterView) (written : Option (List
         ends = e;
       };
       shows = s;
-      leaves = λ enough. (d.adds.wide ∙ u.wide, subst (λ q. HaveCarried q (x ∷ u.later ++ first) (wires_of c2)) program_is d.adds.stands.carried);
+      leaves = λ enough. (d.adds.wide ∙ u.wide, subst (λ q. HaveCarried q (x ∷ u.later ++ first) (wires_of c2)) program_is d.adds.stands.agrees.carried);
     }
 
     pub refused : (turns : ℕ) (now2 : Option (List ℕ)) (refusal : WriteRefusal) (end : End) → done < turns → AppendsPrefix now (drop (length (console_in c)) (console_in c2)) now2 → end ≡ refusal_end refusal
@@ -205,7 +218,7 @@ module _ (moves : Bool) (seed : ℕ) (old : ClusterView) (written : Option (List
 
   stops : (turns : ℕ) (end : End) → done ≤ turns → EndsAt p turns first u.later end → Runs moves p turns seed (u.later ++ first) end
   stops turns end l e = record {
-    legal = subst (λ q. Legal q (u.later ++ first)) u.program u.stands.legal;
+    legal = subst (λ q. Legal q (u.later ++ first)) u.program (legal_whole c (u.later ++ first) u.stands);
     later = u.later;
     begins = refl;
     drawn = u.drawn;
@@ -214,15 +227,15 @@ module _ (moves : Bool) (seed : ℕ) (old : ClusterView) (written : Option (List
   }
 
   all_written : Appends written (console_of p (at_first p) (u.later ++ first)) now
-  all_written = subst (λ q. Appends written (console_of q (at_first q) (u.later ++ first)) now) u.program (subst (λ xs. Appends written xs now) (sym u.stands.console) u.shown)
+  all_written = subst (λ q. Appends written (console_of q (at_first q) (u.later ++ first)) now) u.program (subst (λ xs. Appends written xs now) (sym (console_whole c (u.later ++ first) u.stands)) u.shown)
 
   pub out_of_turns : (turns : ℕ) → done ≡ turns → HasRun moves turns seed old c written now ends.OutOfTurns
   out_of_turns turns e = record {
     lines = u.later ++ first;
-    trace = u.stands.trace;
+    trace = u.stands.agrees.trace;
     runs = stops turns ends.OutOfTurns (omega (arith, e)) (u.went_on, u.count ∙ e);
     shows = all_written;
-    leaves = λ enough. (u.wide, subst (λ q. HaveCarried q (u.later ++ first) (wires_of c)) u.program u.stands.carried);
+    leaves = λ enough. (u.wide, subst (λ q. HaveCarried q (u.later ++ first) (wires_of c)) u.program u.stands.agrees.carried);
   }
 
   pub lost : (turns : ℕ) (c2 : ClusterView) → done < turns → Loses c c2 (u.later ++ first) → HasRun moves turns seed old c2 written now ends.NoMemory

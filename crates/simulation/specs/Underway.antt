@@ -1,5 +1,5 @@
 -- A run under way.
-use Rattle.std.specs.Prelude.{◌≡◌, ◌≢◌, ℕ, Bool, List, [], ◌++◌, length, Option, Some}
+use Rattle.std.specs.Prelude.{◌≡◌, ◌≢◌, ℕ, suc, Bool, List, [], ◌++◌, length, Option, Some}
 use Rattle.outside.specs.Outside.{Appends}
 use Rattle.outside.specs.declared.outside.WriteRefusal.{WriteRefusal}
 use Rattle.outside.specs.declared.outside.WriteRefusal.TheVariants as refusals
@@ -8,7 +8,7 @@ use Rattle.run_trace.specs.declared.entry.Act.{Act}
 use Rattle.run_trace.specs.declared.entry.Entry.{Entry}
 use Rattle.run_trace.specs.Legality.{boot_entries}
 use Rattle.run_trace.specs.Program.{Program, nodes_of}
-use Rattle.cluster.specs.View.{ClusterView, console_in, wires_of}
+use Rattle.cluster.specs.View.{ClusterView, console_in, greatest_clock, round_in, wires_of}
 use Rattle.cluster.specs.Standing.{StandsFor, HasTrace, HaveCarried, Adds}
 use Rattle.simulation.specs.Drawn.{AreDrawn, chosen, generator_after, possible_after}
 use Rattle.simulation.specs.Ends.{WentOn, Runs, ShowsAt}
@@ -24,13 +24,15 @@ pub record Draws (moves : Bool) (word : ℕ) (lines : List Entry) (old new : Clu
   pub node : ℕ
   pub act : Act
   pub chosen_is : chosen word (possible_after moves old.program lines) ≡ Some (node, act)
-  pub adds : Adds old lines node act new
+  pub adds : Adds old [] lines node act new
 
 -- after so many acts of a run that began as old: it goes on
 pub record IsUnderway (moves : Bool) (seed : ℕ) (old : ClusterView) (written : Option (List ℕ)) (done : ℕ) (c : ClusterView) (words : Lcg) (now : Option (List ℕ)) : Type 0 where
   pub program : c.program ≡ old.program
   pub later : List Entry
-  pub stands : StandsFor c (later ++ boot_entries old.program (nodes_of old.program))
+  pub stands : StandsFor c [] (later ++ boot_entries old.program (nodes_of old.program))
+  pub clock : greatest_clock c.nodes ≡ suc done
+  pub round : round_in c ≡ done
   pub count : length later ≡ done
   pub drawn : AreDrawn moves old.program seed (boot_entries old.program (nodes_of old.program)) later
   pub went_on : WentOn old.program (boot_entries old.program (nodes_of old.program)) later

@@ -1,14 +1,15 @@
 //! Runs by drawn acts.
 
-ghost use Rattle.std.specs.Prelude.{◌≡◌, ◌≢◌, ◌<◌, ◌≤◌, ◌++◌, [], List, drop, length, OnOk, OnErr, IsErrOf};
+ghost use Rattle.std.specs.Prelude.{◌≡◌, ◌≢◌, ◌<◌, ◌≤◌, ◌+◌, ◌++◌, [], List, drop, length, OnOk, OnErr, IsErrOf};
 ghost use Rattle.outside.specs.Outside.{Rose, Appends, AppendsPrefix};
 ghost use Rattle.run_trace.specs.declared.entry.Entry.{Entry};
 ghost use Rattle.run_trace.specs.Legality.{boot_entries};
 ghost use Rattle.run_trace.specs.Program.{nodes_of, quantum_limit};
 ghost use Rattle.node_state.specs.Events.{program, StartsAligned};
 ghost use Rattle.wires.specs.Wires.{AreFreshFor};
-ghost use Rattle.cluster.specs.Standing.{StandsFor, Loses, turn_limit};
-ghost use Rattle.cluster.specs.View.{console_in};
+ghost use Rattle.cluster.specs.Standing.{StandsFor, Loses};
+ghost use Rattle.cluster.specs.View.{console_in, greatest_clock, round_in};
+ghost use Rattle.node_loop.specs.Turns.{entry_limit};
 ghost use Rattle.simulation.specs.Drawn.{generator, possible_after};
 ghost use Rattle.simulation.specs.Ends.{Simulates, Shows, CarriesAt};
 ghost use Rattle.simulation.specs.Underway.{Draws, HasRun};
@@ -114,7 +115,8 @@ pub(crate) fn none(alloc: Global) -> Simulated
 
 // Draws act after act.
 fn run<K: Sink>(cluster: &mut Cluster, turns: u64, seed: u64, moves: bool, out: &mut K) -> End
-    requires begun { StandsFor cluster.old (boot_entries cluster.old.program (nodes_of cluster.old.program)) }
+    requires begun { StandsFor cluster.old [] (boot_entries cluster.old.program (nodes_of cluster.old.program)) }
+    requires first { (greatest_clock cluster.old.nodes ≡ 1) × (round_in cluster.old ≡ 0) }
     requires turns { (0 < turns) × (turns ≤ 1000000) }
     ensures ran { HasRun moves turns seed cluster.old cluster.new (K.written out.old) (K.written out.new) result }
     ensures failed { result ≡ End.WriteFault → Rose (K.faults out.old) (K.faults out.new) }
@@ -150,10 +152,10 @@ fn generator(seed: u64) -> Lcg64Xsh32
 
 // Does the possible act that the word chooses.
 fn draw(cluster: &mut Cluster, word: u32, moves: bool) -> Result<(), NoMemory>
-    requires some { (lines : List Entry) × StandsFor cluster.old lines × (possible_after moves cluster.old.program lines ≢ []) }
-    requires turns { cluster.old.turns < turn_limit }
-    ensures ok { (lines : List Entry) → StandsFor cluster.old lines → OnOk result (Draws moves word lines cluster.old cluster.new) }
-    ensures err { (lines : List Entry) → StandsFor cluster.old lines → OnErr result (Loses cluster.old cluster.new lines) }
+    requires some { (kept : List Entry) × StandsFor cluster.old [] kept × (possible_after moves cluster.old.program kept ≢ []) }
+    requires few { greatest_clock cluster.old.nodes + 1 < entry_limit }
+    ensures ok { (kept : List Entry) → StandsFor cluster.old [] kept → OnOk result (Draws moves word kept cluster.old cluster.new) }
+    ensures err { (kept : List Entry) → StandsFor cluster.old [] kept → OnErr result (Loses cluster.old cluster.new kept) }
 {
     match cluster.choose(moves, word) {
         None => unreachable!(),

@@ -8,9 +8,9 @@ use Rattle.cluster.proofs.Listings.{all_acts}
 use Rattle.cluster.proofs.cluster.Cluster.acts.Goals as goal
 
 pub returns : goal.returns
-returns c = λ lines s.
+returns c = λ before kept s.
     let past = subst (λ vs. length vs ≤ c.loop-node.node-index) (c.deref-node-items.ensures.value ∙ ap (λ (z : ClusterView). z.nodes) c.self.view_is) c.loop-node-test.false in
-    c.loop-node.invariant ∙ ap (λ vs. flat_map (λ v. acts_by c.args.moves v) vs) (take_all c.args.self.now.nodes c.loop-node.node-index past) ∙ all_acts c.args.self.now lines s c.args.moves
+    c.loop-node.invariant ∙ ap (λ vs. flat_map (λ v. acts_by c.args.moves v) vs) (take_all c.args.self.now.nodes c.loop-node.node-index past) ∙ all_acts c.args.self.now before kept s c.args.moves
 
 pub loop-node-preserved : goal.loop-node-preserved
 loop-node-preserved c =

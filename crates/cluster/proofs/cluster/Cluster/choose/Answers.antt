@@ -7,15 +7,15 @@ use Rattle.cluster.proofs.ByWord.{AreSorted, nothing_chosen, chosen_by}
 use Rattle.cluster.proofs.cluster.Cluster.choose.Goals as goal
 
 pub returns-then-total-eq0 : goal.returns-then-total-eq0
-returns-then-total-eq0 c = λ lines s.
+returns-then-total-eq0 c = λ before kept s.
     let now = c.deref.ensures.value ∙ ap (λ (z : ClusterView). z.nodes) c.self.view_is in
-    nothing_chosen c.args.self.now lines s (subst (λ vs. AreSorted vs) now c.count_all-total.ensures.ordered) c.args.moves c.count_all-total.result c.args.word
+    nothing_chosen c.args.self.now before kept s (subst (λ vs. AreSorted vs) now c.count_all-total.ensures.ordered) c.args.moves c.count_all-total.result c.args.word
     (subst (λ vs. IsCapped c.count_all-total.result (length (flat_map (acts_in c.args.moves) vs))) now c.count_all-total.ensures.count) c.if-total-eq0.true
 
 pub returns : goal.returns
-returns c = λ lines s.
+returns c = λ before kept s.
     let now = c.deref.ensures.value ∙ ap (λ (z : ClusterView). z.nodes) c.self.view_is in
     let then = c.deref-2.ensures.value ∙ ap (λ (z : ClusterView). z.nodes) c.self.view_is in
-    chosen_by c.args.self.now lines s (subst (λ vs. AreSorted vs) now c.count_all-total.ensures.ordered) c.args.moves c.count_all-total.result c.args.word c.act_at.result
+    chosen_by c.args.self.now before kept s (subst (λ vs. AreSorted vs) now c.count_all-total.ensures.ordered) c.args.moves c.count_all-total.result c.args.word c.act_at.result
     (subst (λ vs. IsCapped c.count_all-total.result (length (flat_map (acts_in c.args.moves) vs))) now c.count_all-total.ensures.count) c.ranges.word.fits
     (c.act_at.ensures ∙ ap (λ vs. slice_get (flat_map (acts_in c.args.moves) vs) (c.args.word % c.count_all-total.result)) then)
