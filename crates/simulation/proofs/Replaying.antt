@@ -1,5 +1,5 @@
 -- A run by a schedule, from act to act, and how it ends.
-use Rattle.std.proofs.Common.{◌≡◌, ℕ, zero, suc, ◌+◌, ◌<◌, ◌≤◌, List, [], ◌∷◌, ◌++◌, length, drop, get_or, reverse, Option, Some, None, true, false, refl, sym, ap, ◌∙◌, subst, arith, inl, inr}
+use Rattle.std.proofs.Common.{◌≡◌, ℕ, zero, suc, ◌+◌, ◌-◌, ◌^◌, ◌<◌, ◌≤◌, List, [], ◌∷◌, ◌++◌, length, drop, get_or, reverse, Option, Some, None, true, false, refl, sym, ap, ◌∙◌, subst, arith, inl, inr}
 use Rattle.std.specs.Prelude.{◌≢◌, ◌↔◌, slice_get}
 use Rattle.std.proofs.lemmas.List.{length-append, append-nil, reverse-reverse}
 use Rattle.std.proofs.lemmas.Option.{slice_get-get_or}
@@ -13,14 +13,16 @@ use Rattle.run_trace.specs.Console.{console_of}
 use Rattle.run_trace.specs.Legality.{Legal, boot_entries}
 use Rattle.run_trace.specs.Program.{Program, nodes_of}
 use Rattle.run_trace.specs.Spots.{at_first}
-use Rattle.node_loop.specs.Turns.{IsActInRange}
+use Rattle.node_loop.specs.Turns.{IsActInRange, entry_limit}
+use Rattle.node_loop.specs.View.{next_round}
+use Rattle.cluster.proofs.Clocks.{next_is}
 use Rattle.wires.specs.declared.ends.Ends.{Ends}
 use Rattle.cluster.specs.Acts.{is_possible}
 use Rattle.cluster.specs.Outcomes.{GoesOn, IsDoneAt, IsStuckAt, IsAt}
 use Rattle.cluster.specs.declared.deciding.State.{State}
 use Rattle.cluster.specs.declared.deciding.State.TheVariants as states
-use Rattle.cluster.specs.Standing.{StandsFor, HaveCarried, Adds, Loses, net_after, newest_round, turn_limit}
-use Rattle.cluster.specs.View.{ClusterView, console_in, wires_of}
+use Rattle.cluster.specs.Standing.{StandsFor, HaveCarried, Adds, Loses, net_after}
+use Rattle.cluster.specs.View.{ClusterView, console_in, greatest_clock, round_in, wires_of}
 use Rattle.simulation.specs.Ends.{ShowsAt, Shows, CarriesAt}
 use Rattle.simulation.specs.Schedules.{AreInRange, AreFirstOf, IsOf, StopsAt, RunsBy, Follows}
 use Rattle.simulation.specs.Replayed.{IsReplaying, HasReplayed}
@@ -30,7 +32,7 @@ use Rattle.simulation.specs.declared.simulation.End.{End}
 use Rattle.simulation.specs.declared.simulation.End.TheVariants as ends
 use Rattle.simulation.specs.declared.simulation.Simulated.{Simulated}
 use Rattle.simulation.proofs.Beginning.{nothing_shown}
-use Rattle.simulation.proofs.Running.{appended, prefixed, whole_prefix}
+use Rattle.simulation.proofs.Running.{appended, prefixed, whole_prefix, legal_whole, console_whole}
 
 -- the act at this place of a schedule is in range
 pub in_range : (p : Program) (schedule : List Scheduled) (i : ℕ) (s : Scheduled) → AreInRange p schedule → slice_get schedule i ≡ Some s
@@ -47,24 +49,22 @@ item_at schedule i s l is = slice_get-get_or schedule i s l ∙ ap (λ (y : Sche
 abbrev pub trace_by : {schedule : List Scheduled} {old : ClusterView} {written : Option (List ℕ)} {done : ℕ} {c : ClusterView} {now : Option (List ℕ)} → IsReplaying schedule old written done c now → List Entry
 trace_by {old = old} u = u.later ++ boot_entries old.program (nodes_of old.program)
 
-pub begins_by : (schedule : List Scheduled) (old : ClusterView) (written : Option (List ℕ)) → StandsFor old (boot_entries old.program (nodes_of old.program)) → IsReplaying schedule old written 0 old written
-begins_by schedule old written s = record {
+pub begins_by : (schedule : List Scheduled) (old : ClusterView) (written : Option (List ℕ)) → StandsFor old [] (boot_entries old.program (nodes_of old.program))
+    → greatest_clock old.nodes ≡ 1 → round_in old ≡ 0 → IsReplaying schedule old written 0 old written
+begins_by schedule old written s clock round = record {
   program = refl;
   later = [];
   stands = s;
+  clock = clock;
+  round = round;
   count = refl;
-  turns = sym s.round ∙ at_first_round (nodes_of old.program);
   acts = tt;
   shown = subst (λ xs. Appends written xs written) (sym empty) (nothing written);
   wide = refl;
 }
   where
-    at_first_round : (n : ℕ) → newest_round (boot_entries old.program n) ≡ 0
-    at_first_round zero = refl
-    at_first_round (suc n) = refl
-
     empty : console_in old ≡ []
-    empty = sym s.console ∙ nothing_shown old.program (nodes_of old.program)
+    empty = sym (console_whole old (boot_entries old.program (nodes_of old.program)) s) ∙ nothing_shown old.program (nodes_of old.program)
 
     nothing : (o : Option (List ℕ)) → Appends o [] o
     nothing None = refl
@@ -77,21 +77,21 @@ module _ (schedule : List Scheduled) (old : ClusterView) (written : Option (List
   abbrev first : List Entry
   first = boot_entries p (nodes_of p)
 
-  pub few_acts : done < length schedule → length schedule ≤ 1000000 → c.turns < turn_limit
-  few_acts l few = omega (arith, u.turns, l, few)
+  pub low_clock : done < length schedule → length schedule ≤ 1000000 → greatest_clock c.nodes + 1 < entry_limit
+  low_clock l few = omega (arith, u.clock, l, few)
 
   all_written : Appends written (console_of p (at_first p) (u.later ++ first)) now
-  all_written = subst (λ q. Appends written (console_of q (at_first q) (u.later ++ first)) now) u.program (subst (λ xs. Appends written xs now) (sym u.stands.console) u.shown)
+  all_written = subst (λ q. Appends written (console_of q (at_first q) (u.later ++ first)) now) u.program (subst (λ xs. Appends written xs now) (sym (console_whole c (u.later ++ first) u.stands)) u.shown)
 
   -- ## It ends where it stands
 
   stopped : (end : End) → StopsAt p schedule (length u.later) (u.later ++ first) end → ShowsAt p written now (u.later ++ first) end → HasReplayed schedule old c written now end
   stopped end e s = record {
     lines = u.later ++ first;
-    trace = u.stands.trace;
-    runs = record { legal = subst (λ q. Legal q (u.later ++ first)) u.program u.stands.legal; later = u.later; begins = refl; acts = u.acts; stops = e };
+    trace = u.stands.agrees.trace;
+    runs = record { legal = subst (λ q. Legal q (u.later ++ first)) u.program (legal_whole c (u.later ++ first) u.stands); later = u.later; begins = refl; acts = u.acts; stops = e };
     shows = s;
-    leaves = λ enough. (u.wide, subst (λ q. HaveCarried q (u.later ++ first) (wires_of c)) u.program u.stands.carried);
+    leaves = λ enough. (u.wide, subst (λ q. HaveCarried q (u.later ++ first) (wires_of c)) u.program u.stands.agrees.carried);
   }
 
   pub impossible : (s : Scheduled) (line : ℕ) → slice_get schedule done ≡ Some s → s.line ≡ line → is_possible (net_after c.program (u.later ++ first)) s.node s.act ≡ false
@@ -113,19 +113,22 @@ module _ (schedule : List Scheduled) (old : ClusterView) (written : Option (List
   lost_by c2 h = record {
     lines = u.later ++ first;
     trace = h.trace;
-    runs = record { legal = subst (λ q. Legal q (u.later ++ first)) u.program u.stands.legal; later = u.later; begins = refl; acts = u.acts; stops = tt };
+    runs = record { legal = subst (λ q. Legal q (u.later ++ first)) u.program (legal_whole c (u.later ++ first) u.stands); later = u.later; begins = refl; acts = u.acts; stops = tt };
     shows = λ some. whole_prefix written _ now all_written;
     leaves = λ enough. absurd (enough refl);
   }
 
   -- ## One act more
 
-  module _ (s : Scheduled) (c2 : ClusterView) (at : slice_get schedule done ≡ Some s) (d : Adds c (u.later ++ first) s.node s.act c2) where
+  module _ (s : Scheduled) (c2 : ClusterView) (at : slice_get schedule done ≡ Some s) (d : Adds c [] (u.later ++ first) s.node s.act c2) (few : done < 2 ^ 64 - 1) where
     abbrev x : Entry
     x = d.entry
 
     program_is : c2.program ≡ old.program
     program_is = d.program ∙ u.program
+
+    round_is : x.round ≡ suc done
+    round_is = d.next.round ∙ ap next_round u.round ∙ next_is done few
 
     acts_now : AreFirstOf schedule (x ∷ u.later)
     acts_now = (
@@ -136,8 +139,8 @@ module _ (schedule : List Scheduled) (old : ClusterView) (written : Option (List
         record {
           node = d.next.node;
           act = d.next.act;
-          stamp = d.next.stamp ∙ ap suc (u.stands.stamp ∙ ap suc (u.turns ∙ sym u.count));
-          round = d.next.round ∙ ap suc (u.stands.round ∙ (u.turns ∙ sym u.count));
+          stamp = d.next.stamp ∙ ap suc (u.clock ∙ ap suc (sym u.count));
+          round = round_is ∙ ap suc (sym u.count);
         },
       ),
     )
@@ -157,7 +160,7 @@ module _ (schedule : List Scheduled) (old : ClusterView) (written : Option (List
         (prefixed written (console_in c) d.shown now now2 u.shown (subst (λ xs. AppendsPrefix now xs now2) new_lines h))
 
     console_is : console_of p (at_first p) (x ∷ u.later ++ first) ≡ console_in c2
-    console_is = subst (λ q. console_of q (at_first q) (x ∷ u.later ++ first) ≡ console_in c2) program_is d.stands.console
+    console_is = subst (λ q. console_of q (at_first q) (x ∷ u.later ++ first) ≡ console_in c2) program_is (console_whole c2 (x ∷ u.later ++ first) d.stands)
 
     pub goes_on_by : (now2 : Option (List ℕ)) → Appends now (drop (length (console_in c)) (console_in c2)) now2 → IsReplaying schedule old written (done + 1) c2 now2
     goes_on_by now2 h = subst (λ k. IsReplaying schedule old written k c2 now2) later_is (record {
@@ -165,7 +168,8 @@ module _ (schedule : List Scheduled) (old : ClusterView) (written : Option (List
       later = x ∷ u.later;
       stands = d.stands;
       count = ap suc u.count;
-      turns = d.turns ∙ ap suc u.turns;
+      clock = d.clock ∙ d.next.stamp ∙ ap suc u.clock;
+      round = d.round ∙ round_is;
       acts = acts_now;
       shown = shown_now now2 h;
       wide = d.wide ∙ u.wide;
@@ -184,10 +188,10 @@ module _ (schedule : List Scheduled) (old : ClusterView) (written : Option (List
         ended : (end : End) → StopsAt p schedule (suc (length u.later)) (x ∷ u.later ++ first) end → ShowsAt p written now2 (x ∷ u.later ++ first) end → HasReplayed schedule old c2 written now2 end
         ended end e s = record {
           lines = x ∷ u.later ++ first;
-          trace = d.stands.trace;
-          runs = record { legal = subst (λ q. Legal q (x ∷ u.later ++ first)) program_is d.stands.legal; later = x ∷ u.later; begins = refl; acts = acts_now; stops = e };
+          trace = d.stands.agrees.trace;
+          runs = record { legal = subst (λ q. Legal q (x ∷ u.later ++ first)) program_is (legal_whole c2 (x ∷ u.later ++ first) d.stands); later = x ∷ u.later; begins = refl; acts = acts_now; stops = e };
           shows = s;
-          leaves = λ enough. (d.wide ∙ u.wide, subst (λ q. HaveCarried q (x ∷ u.later ++ first) (wires_of c2)) program_is d.stands.carried);
+          leaves = λ enough. (d.wide ∙ u.wide, subst (λ q. HaveCarried q (x ∷ u.later ++ first) (wires_of c2)) program_is d.stands.agrees.carried);
         }
 
         by : (r : WriteRefusal) → HasReplayed schedule old c2 written now2 (refusal_end r)

@@ -1,10 +1,10 @@
 -- A run by a schedule, under way and ended.
-use Rattle.std.specs.Prelude.{◌≡◌, ℕ, List, ◌++◌, length, Option}
+use Rattle.std.specs.Prelude.{◌≡◌, ℕ, suc, List, [], ◌++◌, length, Option}
 use Rattle.outside.specs.Outside.{Appends}
 use Rattle.run_trace.specs.declared.entry.Entry.{Entry}
 use Rattle.run_trace.specs.Legality.{boot_entries}
 use Rattle.run_trace.specs.Program.{nodes_of}
-use Rattle.cluster.specs.View.{ClusterView, console_in, wires_of}
+use Rattle.cluster.specs.View.{ClusterView, console_in, greatest_clock, round_in, wires_of}
 use Rattle.cluster.specs.Standing.{StandsFor, HasTrace}
 use Rattle.simulation.specs.Ends.{ShowsAt}
 use Rattle.simulation.specs.Schedules.{AreFirstOf, RunsBy}
@@ -16,9 +16,10 @@ use Rattle.simulation.specs.declared.simulation.End.{End}
 pub record IsReplaying (schedule : List Scheduled) (old : ClusterView) (written : Option (List ℕ)) (done : ℕ) (c : ClusterView) (now : Option (List ℕ)) : Type 0 where
   pub program : c.program ≡ old.program
   pub later : List Entry
-  pub stands : StandsFor c (later ++ boot_entries old.program (nodes_of old.program))
+  pub stands : StandsFor c [] (later ++ boot_entries old.program (nodes_of old.program))
+  pub clock : greatest_clock c.nodes ≡ suc done
+  pub round : round_in c ≡ done
   pub count : length later ≡ done
-  pub turns : c.turns ≡ done
   pub acts : AreFirstOf schedule later
   pub shown : Appends written (console_in c) now
   pub wide : length (wires_of c) ≡ length (wires_of old)

@@ -1,12 +1,13 @@
 //! Runs by a schedule.
 
-ghost use Rattle.std.specs.Prelude.{◌≡◌, ◌<◌, ◌≤◌, length};
+ghost use Rattle.std.specs.Prelude.{◌≡◌, ◌<◌, ◌≤◌, [], length};
 ghost use Rattle.outside.specs.Outside.{Rose};
 ghost use Rattle.run_trace.specs.Legality.{boot_entries};
 ghost use Rattle.run_trace.specs.Program.{nodes_of, quantum_limit};
 ghost use Rattle.node_state.specs.Events.{program, StartsAligned};
 ghost use Rattle.wires.specs.Wires.{AreFreshFor};
 ghost use Rattle.cluster.specs.Standing.{StandsFor};
+ghost use Rattle.cluster.specs.View.{greatest_clock, round_in};
 ghost use Rattle.simulation.specs.Ends.{Shows, CarriesAt};
 ghost use Rattle.simulation.specs.Schedules.{AreInRange, Follows};
 ghost use Rattle.simulation.specs.Replayed.{HasReplayed};
@@ -65,7 +66,8 @@ pub fn replay<K: Sink>(
 
 // Does act after act.
 fn do_acts<K: Sink>(cluster: &mut Cluster, schedule: &[Scheduled], out: &mut K) -> End
-    requires begun { StandsFor cluster.old (boot_entries cluster.old.program (nodes_of cluster.old.program)) }
+    requires begun { StandsFor cluster.old [] (boot_entries cluster.old.program (nodes_of cluster.old.program)) }
+    requires first { (greatest_clock cluster.old.nodes ≡ 1) × (round_in cluster.old ≡ 0) }
     requires few { length schedule.now ≤ 1000000 }
     requires range { AreInRange cluster.old.program schedule.now }
     ensures ran { HasReplayed schedule.now cluster.old cluster.new (K.written out.old) (K.written out.new) result }

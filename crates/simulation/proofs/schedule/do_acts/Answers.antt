@@ -1,17 +1,22 @@
-use Rattle.std.proofs.Common.{◌≡◌, ℕ, ◌<◌, List, drop, length, subst, refl, sym, arith, ◌∷◌}
+use Rattle.std.proofs.Common.{◌≡◌, ℕ, ◌<◌, ◌-◌, ◌^◌, ◌++◌, List, [], drop, length, subst, refl, sym, ap, ◌∙◌, arith, ◌∷◌}
+use Rattle.std.proofs.lemmas.List.{append-nil}
 use Rattle.outside.specs.Outside.{Appends, AppendsPrefix}
 use Rattle.run_trace.specs.Program.{nodes_of}
 use Rattle.node_loop.specs.Turns.{IsActInRange}
-use Rattle.cluster.specs.Standing.{Steps}
+use Rattle.cluster.specs.Acts.{is_possible}
+use Rattle.cluster.specs.Standing.{Steps, net_after}
+use Rattle.cluster.specs.declared.deciding.State.TheVariants as states
+use Rattle.cluster.proofs.Clocks.{has_room}
+use Rattle.simulation.proofs.Running.{at_whole}
 use Rattle.cluster.specs.View.{console_in}
 use Rattle.simulation.specs.Replayed.{HasReplayed}
 use Rattle.simulation.specs.declared.simulation.End.TheVariants.{NotPossible}
-use Rattle.simulation.proofs.Replaying.{in_range, item_at, trace_by, begins_by, few_acts, impossible, is_done_by, is_stalled_by, goes_on_after, lost_by, room_by, goes_on_by, refused_by}
+use Rattle.simulation.proofs.Replaying.{in_range, item_at, trace_by, begins_by, low_clock, impossible, is_done_by, is_stalled_by, goes_on_after, lost_by, room_by, goes_on_by, refused_by}
 use Rattle.simulation.proofs.schedule.do_acts.Goals as goal
 
 pub loop-next-init : goal.loop-next-init
 loop-next-init g c = record {
-  underway = begins_by c.args.schedule.now c.args.cluster.now (g.K.Sink.written c.args.out.now) c.requires.begun;
+  underway = begins_by c.args.schedule.now c.args.cluster.now (g.K.Sink.written c.args.out.now) c.requires.begun c.requires.first.0 c.requires.first.1;
   later = omega arith;
 }
 
@@ -27,50 +32,60 @@ step-requires-clause-range g c =
     subst (λ q. IsActInRange q s.node s.act) (sym c.loop-next.invariant.underway.program)
     (in_range c.args.cluster.now.program _ _ s c.requires.range (item_at _ _ s c.loop-next-test.true c.next-item.is)).1
 
+pub step-requires-clause-room : goal.step-requires-clause-room
+step-requires-clause-room g c =
+    let u = c.loop-next.invariant.underway in
+    has_room c.loop-next.cluster [] (trace_by u) u.stands.agrees (low_clock _ _ _ _ _ _ u c.loop-next-test.true c.requires.few) _
+
+pub step-requires-clause-stands : goal.step-requires-clause-stands
+step-requires-clause-stands g c = let u = c.loop-next.invariant.underway in ([], trace_by u, u.stands)
+
 pub returns-in-Ok-Idle-clause-ran : goal.returns-in-Ok-Idle-clause-ran
 returns-in-Ok-Idle-clause-ran g c =
     let u = c.loop-next.invariant.underway in
     let s = c.next-item.result in
     let same : c.step.new.self ≡ c.loop-next.cluster =
-    subst (λ t. Steps c.loop-next.cluster (trace_by u) s.node s.act c.step.new.self t) c.in-Ok-Idle.field-0-is (c.in-Ok-Idle.ensures.steps (trace_by u) u.stands) in
+    subst (λ t. Steps c.loop-next.cluster [] (trace_by u) s.node s.act c.step.new.self t) c.in-Ok-Idle.field-0-is (c.in-Ok-Idle.ensures.steps [] (trace_by u) u.stands) in
     subst (λ z. HasReplayed c.args.schedule.now c.args.cluster.now z (g.K.Sink.written c.args.out.now) (g.K.Sink.written c.loop-next.out) (NotPossible s.line)) (sym same)
-    (impossible _ _ _ _ _ _ u s s.line (item_at _ _ s c.loop-next-test.true c.next-item.is) refl ((c.in-Ok-Idle.ensures.idle (trace_by u) u.stands).0 c.in-Ok-Idle.field-0-is))
+    (impossible _ _ _ _ _ _ u s s.line (item_at _ _ s c.loop-next-test.true c.next-item.is) refl (ap (λ ls. is_possible (net_after c.loop-next.cluster.program ls) s.node s.act) (sym (append-nil (trace_by u))) ∙ (c.in-Ok-Idle.ensures.idle [] (trace_by u) u.stands).0 c.in-Ok-Idle.field-0-is))
 
 pub returns-in-Err-clause-ran : goal.returns-in-Err-clause-ran
 returns-in-Err-clause-ran g c =
     let u = c.loop-next.invariant.underway in
-    lost_by _ _ _ _ _ _ u c.step.new.self (c.in-Err.ensures.err (trace_by u) u.stands)
+    lost_by _ _ _ _ _ _ u c.step.new.self (c.in-Err.ensures.err [] (trace_by u) u.stands)
 
 pub returns-in-Err-show-clause-ran : goal.returns-in-Err-show-clause-ran
 returns-in-Err-show-clause-ran g c =
     let u = c.loop-next.invariant.underway in
     let s = c.next-item.result in
-    let d = subst (λ t. Steps c.loop-next.cluster (trace_by u) s.node s.act c.step.new.self t) c.in-Ok-Did.field-0-is (c.in-Ok-Did.ensures.steps (trace_by u) u.stands) in
-    refused_by _ _ _ _ _ _ u s c.step.new.self (item_at _ _ s c.loop-next-test.true c.next-item.is) d (g.K.Sink.written c.show.new.out) c.in-Err-show.refusal c.from.result
-    (subst (λ (xs : List ℕ). AppendsPrefix (g.K.Sink.written c.loop-next.out) (drop (length xs) (console_in c.step.new.self)) (g.K.Sink.written c.show.new.out)) c.console-shown.ensures c.in-Err-show.ensures.err) c.from.ensures
+    let below : c.loop-next.next-index < 2 ^ 64 - 1 = omega (arith, c.loop-next-test.true, c.requires.few) in
+    let d = subst (λ t. Steps c.loop-next.cluster [] (trace_by u) s.node s.act c.step.new.self t) c.in-Ok-Did.field-0-is (c.in-Ok-Did.ensures.steps [] (trace_by u) u.stands) in
+    refused_by _ _ _ _ _ _ u s c.step.new.self (item_at _ _ s c.loop-next-test.true c.next-item.is) d below (g.K.Sink.written c.show.new.out) c.in-Err-show.refusal c.from.result
+    (subst (λ (xs : List ℕ). AppendsPrefix (g.K.Sink.written c.loop-next.out) (drop (length xs) (console_in c.step.new.self)) (g.K.Sink.written c.show.new.out)) c.console-shown.ensures.value c.in-Err-show.ensures.err) c.from.ensures
 
 pub loop-next-preserved : goal.loop-next-preserved
 loop-next-preserved g c =
     let u = c.loop-next.invariant.underway in
     let s = c.next-item.result in
-    let d = subst (λ t. Steps c.loop-next.cluster (trace_by u) s.node s.act c.step.new.self t) c.in-Ok-Did.field-0-is (c.in-Ok-Did.ensures.steps (trace_by u) u.stands) in
+    let below : c.loop-next.next-index < 2 ^ 64 - 1 = omega (arith, c.loop-next-test.true, c.requires.few) in
+    let d = subst (λ t. Steps c.loop-next.cluster [] (trace_by u) s.node s.act c.step.new.self t) c.in-Ok-Did.field-0-is (c.in-Ok-Did.ensures.steps [] (trace_by u) u.stands) in
     record {
-      underway = goes_on_by _ _ _ _ _ _ u s c.step.new.self (item_at _ _ s c.loop-next-test.true c.next-item.is) d (g.K.Sink.written c.show.new.out)
-          (subst (λ (xs : List ℕ). Appends (g.K.Sink.written c.loop-next.out) (drop (length xs) (console_in c.step.new.self)) (g.K.Sink.written c.show.new.out)) c.console-shown.ensures c.in-Ok.ensures.ok);
+      underway = goes_on_by _ _ _ _ _ _ u s c.step.new.self (item_at _ _ s c.loop-next-test.true c.next-item.is) d below (g.K.Sink.written c.show.new.out)
+          (subst (λ (xs : List ℕ). Appends (g.K.Sink.written c.loop-next.out) (drop (length xs) (console_in c.step.new.self)) (g.K.Sink.written c.show.new.out)) c.console-shown.ensures.value c.in-Ok.ensures.ok);
       later = omega (arith, c.loop-next.invariant.later, c.show.ensures.later);
     }
 
 pub returns-in-Done-clause-ran : goal.returns-in-Done-clause-ran
 returns-in-Done-clause-ran g c =
     let u = c.loop-next.invariant.underway in
-    is_done_by _ _ _ _ _ _ u (omega (arith, c.loop-next-test.false, c.loop-next.auto.next-index-end)) (c.in-Done.ensures (trace_by u) u.stands)
+    is_done_by _ _ _ _ _ _ u (omega (arith, c.loop-next-test.false, c.loop-next.auto.next-index-end)) (at_whole c.loop-next.cluster.program (trace_by u) states.Done (c.in-Done.ensures [] (trace_by u) u.stands))
 
 pub returns-in-Stalled-clause-ran : goal.returns-in-Stalled-clause-ran
 returns-in-Stalled-clause-ran g c =
     let u = c.loop-next.invariant.underway in
-    is_stalled_by _ _ _ _ _ _ u (omega (arith, c.loop-next-test.false, c.loop-next.auto.next-index-end)) (c.in-Stalled.ensures (trace_by u) u.stands)
+    is_stalled_by _ _ _ _ _ _ u (omega (arith, c.loop-next-test.false, c.loop-next.auto.next-index-end)) (at_whole c.loop-next.cluster.program (trace_by u) states.Stalled (c.in-Stalled.ensures [] (trace_by u) u.stands))
 
 pub returns-in-Going-clause-ran : goal.returns-in-Going-clause-ran
 returns-in-Going-clause-ran g c =
     let u = c.loop-next.invariant.underway in
-    goes_on_after _ _ _ _ _ _ u (omega (arith, c.loop-next-test.false, c.loop-next.auto.next-index-end)) (c.in-Going.ensures (trace_by u) u.stands)
+    goes_on_after _ _ _ _ _ _ u (omega (arith, c.loop-next-test.false, c.loop-next.auto.next-index-end)) (at_whole c.loop-next.cluster.program (trace_by u) states.Going (c.in-Going.ensures [] (trace_by u) u.stands))
