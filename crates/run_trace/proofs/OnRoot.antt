@@ -1,11 +1,11 @@
 -- Where all rows stand on the root list, a processor's choice is that among rows of one list.
-use Rattle.std.proofs.Common.{◌≡◌, ℕ, List, [], ◌∷◌, ◌++◌, Option, Some, None, Bool, true, false, eqb, ltb, cond, ◌&&◌, refl, sym, ap, ◌∙◌, subst}
+use Rattle.std.proofs.Common.{◌≡◌, ℕ, List, [], ◌∷◌, ◌++◌, Option, Some, None, Bool, true, false, eqb, ltb, cond, ◌&&◌, refl, ap, ◌∙◌}
 use Rattle.std.specs.Prelude.{⊤}
 use Rattle.slot_space.specs.declared.names.Tid.{Tid}
 use Rattle.run_trace.specs.declared.node.Row.{Row}
 use Rattle.run_trace.specs.Names.{is_tid}
-use Rattle.run_trace.specs.Trees.{Tree, depth_of, covers}
-use Rattle.run_trace.specs.Places.{Places, arrived, without_row, better, better_on, best, best_of, best_on, best_with, is_deeper, AreOnRoot}
+use Rattle.run_trace.specs.Trees.{Tree, covers}
+use Rattle.run_trace.specs.Places.{without_row, better, better_on, best, best_of, best_on, best_with, is_deeper, AreOnRoot}
 
 -- neither list is the deeper one
 none_deeper : (tree : Tree) (a b : Row) → a.list ≡ 0 → b.list ≡ 0 → is_deeper tree a b ≡ false

@@ -9,7 +9,7 @@ use Rattle.rv_step.specs.Run.{after, StopsBy}
 use Rattle.marcel_core.specs.Homes.{joiner}
 use Rattle.rv_step.specs.Step.{State}
 use Rattle.run_trace.specs.declared.entry.Act.{Act}
-use Rattle.run_trace.specs.declared.entry.Act.TheVariants.{Boot, Run, Take, Move}
+use Rattle.run_trace.specs.declared.entry.Act.TheVariants.{Run}
 use Rattle.run_trace.specs.declared.entry.Entry.{Entry}
 use Rattle.run_trace.specs.declared.label.Label.{Label}
 use Rattle.run_trace.specs.declared.label.Label.TheVariants.{Born, Ran, Asked, Heard, Judged, Told, Took, Gave, Ended, Known, Left, Came, Shown, Halted}

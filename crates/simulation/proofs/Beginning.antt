@@ -38,7 +38,7 @@ nothing_shown p (suc (suc n)) =
 
 listed_somewhere : (w : Spots) (s : Local) → Here 0 w s [] → (w.threads (tid 0 0)).life ≡ On 0 Ready → s.places.rows ≡ [] → ⊥
 listed_somewhere w s h life none =
-    let shown : item_of is_tid listed_name (map listed s.places.rows) (tid 0 0) ≡ Some (record { tid = tid 0 0; priority = (w.threads (tid 0 0)).guest.priority }) =
+    let shown : item_of is_tid listed_name (map listed s.places.rows) (tid 0 0) ≡ Some (record { tid = tid 0 0; list = 0; priority = (w.threads (tid 0 0)).guest.priority }) =
     h.rows.shows (tid 0 0) ∙ ap (λ z. row_in_life 0 (tid 0 0) z (w.threads (tid 0 0)).guest.priority) life in
     let nothing : item_of is_tid listed_name (map listed s.places.rows) (tid 0 0) ≡ None = ap (λ (rs : List Row). item_of is_tid listed_name (map listed rs) (tid 0 0)) none in
     cc (shown, nothing)

@@ -35,3 +35,4 @@ pub mod OwnLabels
 pub mod SameLives
 pub mod Unexpected
 pub mod ListTrees
+pub mod Strangers

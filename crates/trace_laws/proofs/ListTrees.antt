@@ -55,8 +55,7 @@ down_in first (Some second) vp list h c l = elim (in_list list (1 + vp / second)
       let g : vp / second < first = group_below first second vp h in
       let tree : Tree = tree_with first (Some second) in
       let one : depth_of tree list ≡ 1 = subst (λ z. depth_of tree z ≡ 1) (sym e) (depth_one tree (1 + vp / second) (omega arith) (omega (arith, g))) in
-      let next : next_towards tree vp list ≡ 1 + first + vp = ap (λ d. unwrap_or (slice_get (path tree vp) (suc d)) 0) one in
-      (
+      let next : next_towards tree vp list ≡ 1 + first + vp = ap (λ d. unwrap_or (slice_get (path tree vp) (suc d)) 0) one in (
         ap (covers tree vp) next ∙ has_later (1 + first + vp) 0 ((1 + vp / second) ∷ (1 + first + vp) ∷ []) (has_later (1 + first + vp) (1 + vp / second) ((1 + first + vp) ∷ []) (has_first (1 + first + vp) [])),
         ap (depth_of tree) next ∙ depth_two tree (1 + first + vp) (omega arith) (omega arith) ∙ ap suc (sym one),
       )

@@ -14,7 +14,7 @@ ghost use Rattle.run_trace.specs.declared.node.Row.{Row};
 ghost use Rattle.run_trace.specs.Program.{Program, code_of, nodes_of, tree_of};
 ghost use Rattle.trace_laws.specs.Beginnings.{BeginsSo};
 ghost use Rattle.trace_laws.specs.Gathers.{events_in, Gathers};
-ghost use Rattle.trace_laws.specs.Strays.{AllExpected};
+ghost use Rattle.trace_laws.specs.Strays.{AllExpected, IsHeldOnce};
 ghost use Rattle.run_trace.specs.Alone.{EachRunsAlone};
 ghost use Rattle.run_trace.specs.Cluster.{Event, Net, Merges, Runs, fresh_net, state};
 ghost use Rattle.run_trace.specs.Console.{console_of, printed};
@@ -24,8 +24,9 @@ ghost use Rattle.run_trace.specs.Holding.{EachHeldOnce, IsAt, IsOn, Place};
 ghost use Rattle.trace_laws.specs.Obeys.{ObeysFrom};
 ghost use Rattle.run_trace.specs.Legality.{AreRising, Begins, boot_entries, IsTold, Legal};
 ghost use Rattle.run_trace.specs.Local.{Local, fresh, nothing};
-ghost use Rattle.run_trace.specs.Machine.{is_range, is_stray, local_event, stamp_limit, turn_event};
+ghost use Rattle.run_trace.specs.Machine.{is_range, is_stray, local_event, stamp_limit, takes, turn_event};
 ghost use Rattle.run_trace.specs.declared.packet.Packet.{Packet};
+ghost use Rattle.run_trace.specs.declared.packet.Body.{Body};
 ghost use Rattle.run_trace.specs.declared.entry.Act.TheVariants.{Take};
 ghost use Rattle.run_trace.specs.Outcome.{AllLinksEmpty, IsStuck, Lives};
 ghost use Rattle.run_trace.specs.Places.{best_on, is_listed};
@@ -146,6 +147,12 @@ pub fn expected()
 pub fn ignored()
     ensures stray { (p : Program) (me from : ℕ) (s : Local) (packet : Packet) → is_range p me s (Take from) ≡ true → is_stray p me s packet.body ≡ true → local_event p me s (Take from) (Some packet) ≡ Some (nothing s) }
     ensures beyond { (p : Program) (me : ℕ) (s : Local) (act : Act) (packet : Packet) → stamp_limit ≤ packet.stamp → turn_event p me s act (Some packet) ≡ Some (nothing s) }
+{}
+
+/// No packet, whatever it says and whoever sent it, gives a node a slot twice: where none was the node's and a thread's, or of two
+/// threads, none is so after it is taken.
+pub fn unforged()
+    ensures { (p : Program) (me from : ℕ) (s : Local) (body : Body) → IsHeldOnce s → IsHeldOnce (takes p me from body s).node }
 {}
 
 /// Where no thread is on a run list, nothing is under way and no node has halted, a thread that lives makes the trace stuck:
