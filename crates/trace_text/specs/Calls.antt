@@ -1,5 +1,6 @@
 -- The names of the calls in a trace's text.
 use Rattle.std.specs.Prelude.{ℕ, List, [], ◌∷◌, Bool, true, false, Option, Some, None, ◌==◌, if◌then◌else◌, codes}
+use Rattle.std.specs.Str.{bytes_eq}
 use Rattle.trace_text.specs.declared.rows.Row.{Row}
 
 -- a call: its name, its number, how many arguments are told of it, and whether the bytes that it names are told
@@ -36,6 +37,14 @@ calls =
 abbrev pub numbered : List CallRow → ℕ → Option CallRow
 numbered [] number = None
 numbered (r ∷ rs) number = if r.number == number then Some r else numbered rs number
+
+abbrev pub named : List CallRow → List ℕ → Option CallRow
+named [] name = None
+named (r ∷ rs) name = if bytes_eq name r.name then Some r else named rs name
+
+-- the call of this name
+abbrev pub call_named : List ℕ → Option CallRow
+call_named name = named calls name
 
 -- the call of this number
 abbrev pub call_numbered : ℕ → Option CallRow

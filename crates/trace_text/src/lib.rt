@@ -3,8 +3,13 @@
 #![tactic(auto)]
 
 mod error;
+mod labels;
+mod lines;
+mod one_word;
 mod rows;
+mod several;
 mod writing;
 
 pub use error::TextError;
+pub use lines::read_trace;
 pub use writing::{push_number, push_tid, trace_text};

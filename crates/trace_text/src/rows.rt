@@ -2,7 +2,7 @@
 
 ghost use Rattle.std.specs.Prelude.{◌≡◌, map};
 ghost use Rattle.std.specs.Option.{option_map};
-ghost use Rattle.trace_text.specs.Calls.{calls, row_of, numbered, call_numbered};
+ghost use Rattle.trace_text.specs.Calls.{calls, row_of, named, call_named, numbered, call_numbered};
 
 /// A call: its name, its number, how many arguments are told of it, and whether the bytes that it names are told.
 #[derive(Clone, Copy)]
@@ -56,6 +56,24 @@ fn numbered(rows: &[Row], number: u64) -> Option<Row>
         }
     }
     None
+}
+
+fn named(rows: &[Row], name: &[u8]) -> Option<Row>
+    ensures { option_map row_of result ≡ named (map row_of rows.now) name.now }
+{
+    for row in rows {
+        if name == row.name {
+            return Some(*row);
+        }
+    }
+    None
+}
+
+/// The call of this name.
+pub(crate) fn call_named(name: &[u8]) -> Option<Row>
+    ensures { option_map row_of result ≡ call_named name.now }
+{
+    named(rows(), name)
 }
 
 /// The call of this number.

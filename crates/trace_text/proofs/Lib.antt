@@ -1,0 +1,5 @@
+pub mod Digits
+pub mod LineFacts
+pub mod OneWord
+pub mod Sound
+pub mod Steps
