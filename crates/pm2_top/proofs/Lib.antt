@@ -1,3 +1,4 @@
+pub mod Given
+pub mod Acts
 pub mod Ran
 pub mod Traced
-pub mod Carried

@@ -1,245 +1,302 @@
 -- What the end of a command says of its status.
-use Rattle.std.proofs.Common.{◌≡◌, ◌<◌, ℕ, List, length, Option, Some, None, Result, Ok, Err, true, inl, inr, refl, sym, ap, ◌∙◌, subst, arith}
-use Rattle.std.specs.Prelude.{◌⊎◌, IfSome, IsSomeAnd, nat_lt}
+use Rattle.std.proofs.Common.{◌≡◌, ℕ, List, [], length, take, Option, Some, None, Result, Ok, Err, true, false, inl, inr, refl, sym, ap, ◌∙◌, subst}
+use Rattle.std.specs.Prelude.{◌⊎◌, Bool, IfSome, OnErr, ⊤}
 use Rattle.std.proofs.lemmas.List.{append-nil}
-use Rattle.std.proofs.lemmas.Bool.Decides.{nat_tests}
-use Rattle.outside.specs.Outside.{Content, AppendsPrefix, file_at, Holds, Lacks}
+use Rattle.std.proofs.Math.Seq.{take-append_seam}
+use Rattle.outside.specs.Outside.{Content, Appends, AppendsPrefix, file_at}
+use Rattle.outside.specs.declared.outside.WriteRefusal.TheVariants as refusals
 use Rattle.rv_inst.specs.declared.image.Image.{Image}
 use Rattle.rv_asm.specs.declared.error.AsmError.{AsmError}
-use Rattle.rv_asm.specs.declared.error.AsmError.TheVariants as errors
 use Rattle.rv_asm.specs.Images.{image_of}
 use Rattle.asm_list.specs.Listing.{listing}
 use Rattle.run_trace.specs.declared.packet.Packet.{Packet}
+use Rattle.run_trace.specs.Legality.{boot_entries}
+use Rattle.run_trace.specs.Program.{Program, nodes_of}
+use Rattle.run_texts.specs.declared.schedule.Scheduled.{Scheduled}
 use Rattle.wires.specs.declared.ends.Ends.{Ends}
 use Rattle.settings.specs.Settings.{Chosen}
 use Rattle.settings.specs.declared.command.Command.{Command}
-use Rattle.settings.specs.declared.command.Command.TheVariants.{Asm, Sim}
+use Rattle.settings.specs.declared.command.Command.TheVariants.{Asm, Sim, Replay, Stress}
+use Rattle.simulation.specs.Ends.{EndsAt}
 use Rattle.simulation.specs.declared.simulation.End.{End}
 use Rattle.simulation.specs.declared.simulation.End.TheVariants as end
-use Rattle.pm2_top.specs.Asked.{file_of}
+use Rattle.simulation.specs.declared.simulation.Simulated.{Simulated}
+use Rattle.pm2_top.specs.Asked.{LacksAny, MayBeSuch, MayBeGiven, acts_in, acts_of, image_in, schedule_in, source_in}
+use Rattle.pm2_top.specs.Delivery.{is_told, Tells, Nothing, All, Refused}
 use Rattle.pm2_top.specs.Number.{end_status}
-use Rattle.pm2_top.specs.Outcome.{IsUnlessMemory, IsUsual, Lists, MayBeNoSource, HasSource, DoneWith, HasSourceEnded, HasRun, NotRead, TooLarge, Read, HasEnded, NoSettings, NotSettled, Settled, plainly, source_limit}
+use Rattle.pm2_top.specs.Outcome.{IsUnlessMemory, IsUsual, IsRunsEnd, Lists, HasSource, HasSchedule, EndsPlainly, HasRunAs, DrawnBy, HasReplayed, DoneWith, HasSourceEnded, HasRun, NotRead, Read, HasObeyed, HasEnded, NoSettings, NotSettled, Settled, plainly}
 use Rattle.pm2_top.specs.declared.status.Status.{Status}
-use Rattle.pm2_top.specs.declared.status.Status.TheVariants.{Done, Usage, BadSource, Stalled, OutOfTurns, ReadFault, WriteFault, NoMemory}
+use Rattle.pm2_top.specs.declared.status.Status.TheVariants.{Done, Usage, BadSource, Stalled, OutOfTurns, ReadFault, WriteFault, NoMemory, NotPossible, BadScheduleText}
 use Rattle.pm2_top.specs.declared.report.Report.{Report}
 use Rattle.pm2_top.specs.Texts.{StatusTold}
+use Rattle.pm2_top.proofs.Given.{at_told, source_such, no_source, no_schedule, schedule_such}
+
+-- ## What is written
 
 -- nothing is written yet
 pub none_yet : (w : Option (List ℕ)) (text : List ℕ) → AppendsPrefix w text w
 none_yet None text = (0, refl)
 none_yet (Some b) text = (0, ap Some (sym (append-nil b)))
 
--- no run ends with this status
-abbrev NoEnd : Status → Type 0
-NoEnd s = (e : End) → end_status e ≡ s → ⊥
-
-no_bad_end : (error : AsmError) → NoEnd (BadSource error)
-no_bad_end error end.Done h = cc
-no_bad_end error end.Stalled h = cc
-no_bad_end error end.OutOfTurns h = cc
-no_bad_end error end.WriteFault h = cc
-no_bad_end error end.NoMemory h = cc
-
-no_usage_end : NoEnd Usage
-no_usage_end end.Done h = cc
-no_usage_end end.Stalled h = cc
-no_usage_end end.OutOfTurns h = cc
-no_usage_end end.WriteFault h = cc
-no_usage_end end.NoMemory h = cc
-
--- what is listed or run ends with no status that neither a listing nor a run has
-used : (command : Command) (asked : Chosen) (image : Image) (given : List (Ends Packet)) (w now : Option (List ℕ)) (ended : Report) (s : Status) → NoEnd s
-    → (Lists (listing image) w now s → ⊥) → DoneWith command asked image given w now ended → ended.status ≡ s → ⊥
-used (Asm name) asked image given w now ended s no_end no_listing d is = no_listing (subst (λ t. Lists (listing image) w now t) is d.0)
-used (Sim name) asked image given w now ended s no_end no_listing d is = no_end d.run.end (sym d.status ∙ is)
-
-same_error : {given : List (Ends Packet)} (ended : Report) (e error : AsmError) → ended ≡ plainly (BadSource e) given → ended.status ≡ BadSource error → e ≡ error
-same_error ended e error is status = inside e error (sym (ap (λ (x : Report). x.status) is) ∙ status)
+-- what was written whole is a first part of itself
+pub whole_part : (written : Option (List ℕ)) (xs : List ℕ) (now : Option (List ℕ)) → Appends written xs now → AppendsPrefix written xs now
+whole_part written xs now h = (length xs, subst (λ ys. Appends written ys now) (sym (take_all xs)) h)
   where
-    inside : (a b : AsmError) → BadSource a ≡ BadSource b → a ≡ b
-    inside a b h = cc
+    take_all : (xs : List ℕ) → take (length xs) xs ≡ xs
+    take_all xs = ap (take (length xs)) (sym (append-nil xs)) ∙ take-append_seam xs []
 
-no_error : {given : List (Ends Packet)} (ended : Report) (s : Status) (error : AsmError) → ended ≡ plainly s given → ended.status ≡ BadSource error → s ≡ BadSource error
-no_error ended s error is status = sym (ap (λ (x : Report). x.status) is) ∙ status
+pub on_err : {A E : Type 0} (r : Result A E) (P : Type 0) → P → OnErr r P
+on_err (Ok a) P p = tt
+on_err (Err e) P p = p
 
--- a source without an image
-abbrev fails : AsmError → Result Image AsmError
-fails error = Err error
-
--- the reason why a source has no image, where that is the status
-reason : (asked : Chosen) (r : Result Image AsmError) (given : List (Ends Packet)) (w now : Option (List ℕ)) (ended : Report) (error : AsmError)
-    → HasSourceEnded asked r given w now ended → ended.status ≡ BadSource error → r ≡ fails error
-reason asked (Ok image) given w now ended error (inl none) is =
-    let bad : NoMemory ≡ BadSource error = no_error ended NoMemory error none.1 is in cc
-reason asked (Ok image) given w now ended error (inr d) is =
-    absurd (used asked.command asked image given w now ended (BadSource error) (no_bad_end error) (λ l. l) d is)
-reason asked (Err e) given w now ended error d is = by d.1
-  where
-    by : (ended ≡ plainly (BadSource e) given) ⊎ (ended ≡ plainly NoMemory given) → fails e ≡ fails error
-    by (inl h) = ap fails (same_error ended e error h is)
-    by (inr h) = let bad : NoMemory ≡ BadSource error = no_error ended NoMemory error h is in cc
-
-too_long : (bytes : List ℕ) → source_limit < length bytes → image_of bytes ≡ Err errors.TooLong
-too_long bytes more = let is : nat_lt source_limit (length bytes) ≡ true = grind (arith, nat_tests) in rw is refl
-
--- a file that is too long has no image
-no_image : (file : Option (Option (List ℕ))) → IfSome file (λ f. IsSomeAnd f (λ bytes. source_limit < length bytes))
-    → IfSome file (λ f. IsSomeAnd f (λ bytes. image_of bytes ≡ Err errors.TooLong))
-no_image None h = h
-no_image (Some None) h = h
-no_image (Some (Some bytes)) h = too_long bytes h
-
--- nor has one whose bytes have none
-of_bytes : (file : Option (Option (List ℕ))) (bytes : List ℕ) (error : AsmError) → image_of bytes ≡ Err error
-    → IfSome file (λ f. f ≡ Some bytes) → IfSome file (λ f. IsSomeAnd f (λ b. image_of b ≡ Err error))
-of_bytes None bytes error is h = h
-of_bytes (Some f) bytes error is h = subst (λ o. IsSomeAnd o (λ b. image_of b ≡ Err error)) (sym h) is
-
-reason_of : (files : Content) (asked : Chosen) (given : List (Ends Packet)) (w now : Option (List ℕ)) (ended : Report) (error : AsmError)
-    → HasRun files asked given w now ended → ended.status ≡ BadSource error → MayBeNoSource files (file_of asked) error
-reason_of files asked given w now ended error (NotRead same (inl h)) is = let bad : ReadFault ≡ BadSource error = no_error ended ReadFault error h is in cc
-reason_of files asked given w now ended error (NotRead same (inr h)) is = let bad : NoMemory ≡ BadSource error = no_error ended NoMemory error h is in cc
-reason_of files asked given w now ended error (TooLarge same big h) is =
-    subst (λ e. MayBeNoSource files (file_of asked) e) (same_error ended errors.TooLong error h is) (no_image (file_at files (file_of asked)) big)
-reason_of files asked given w now ended error (Read bytes holds d) is =
-    of_bytes (file_at files (file_of asked)) bytes error (reason asked (image_of bytes) given w now ended error d is) holds
+-- ## The status of a command's end
 
 status_is : {given : List (Ends Packet)} (ended : Report) (s : Status) → ended ≡ plainly s given → ended.status ≡ s
 status_is ended s is = ap (λ (x : Report). x.status) is
 
--- these are the bytes of the file
-same_bytes : (file : Option (Option (List ℕ))) (bytes others : List ℕ) → file ≡ Some (Some bytes) → IfSome file (λ f. f ≡ Some others) → others ≡ bytes
-same_bytes None bytes others is h = cc
-same_bytes (Some f) bytes others is h = let e : Some (Some bytes) ≡ Some (Some others) = sym is ∙ ap Some h in cc
+plain : (s : Status) (given : List (Ends Packet)) (w now : Option (List ℕ)) (ended : Report) → EndsPlainly s given w now ended → IsUnlessMemory ended.status s
+plain s given w now ended (same, inl h) = inl (status_is ended s h)
+plain s given w now ended (same, inr h) = inr (status_is ended NoMemory h)
 
-longer : (file : Option (Option (List ℕ))) (bytes : List ℕ) → file ≡ Some (Some bytes)
-    → IfSome file (λ f. IsSomeAnd f (λ b. source_limit < length b)) → source_limit < length bytes
-longer file bytes is h = subst (λ o. IfSome o (λ f. IsSomeAnd f (λ b. source_limit < length b))) is h
+ran_status : (R : Program → Simulated → Type 0) (asked : Chosen) (image : Image) (given : List (Ends Packet)) (w now : Option (List ℕ)) (ended : Report) → (d : HasRunAs R asked image given w now ended)
+    → ended.status ≡ end_status d.run.end
+ran_status R asked image given w now ended d = ap (λ (x : Report). x.status) d.reported
 
-same_reason : (a b : AsmError) (r : Result Image AsmError) → r ≡ fails a → r ≡ fails b → a ≡ b
-same_reason a b r first second = inside a b (sym first ∙ second)
+-- why a command may end with this status
+abbrev pub Cause : Content → Command → ℕ → Status → Type 0
+Cause files command nodes Done = ⊤
+Cause files command nodes Usage = ⊥
+Cause files command nodes (BadSource error) = MayBeSuch (source_in files command) (λ bytes. image_of bytes ≡ Err error)
+Cause files command nodes Stalled = ⊤
+Cause files command nodes OutOfTurns = ⊤
+Cause files command nodes ReadFault = ⊤
+Cause files command nodes WriteFault = ⊤
+Cause files command nodes NoMemory = ⊤
+Cause files command nodes (NotPossible line) = ⊤
+Cause files command nodes (BadScheduleText line) = MayBeSuch (schedule_in files command) (λ bytes. acts_of nodes bytes ≡ Err line)
+
+module _ (files : Content) (command : Command) (nodes : ℕ) where
+  unless : (s t : Status) → Cause files command nodes s → IsUnlessMemory t s → Cause files command nodes t
+  unless s t c (inl e) = subst (λ x. Cause files command nodes x) (sym e) c
+  unless s t c (inr e) = subst (λ x. Cause files command nodes x) (sym e) tt
+
+  run_cause : (e : End) → Cause files command nodes (end_status e)
+  run_cause end.Done = tt
+  run_cause end.Stalled = tt
+  run_cause end.OutOfTurns = tt
+  run_cause (end.NotPossible line) = tt
+  run_cause end.WriteFault = tt
+  run_cause end.NoMemory = tt
+
+  listing_cause : (text : List ℕ) (w now : Option (List ℕ)) (s : Status) → Lists text w now s → Cause files command nodes s
+  listing_cause text w now Done d = tt
+  listing_cause text w now WriteFault d = tt
+  listing_cause text w now NoMemory d = tt
+  listing_cause text w now Usage d = absurd d
+  listing_cause text w now (BadSource error) d = absurd d
+  listing_cause text w now Stalled d = absurd d
+  listing_cause text w now OutOfTurns d = absurd d
+  listing_cause text w now ReadFault d = absurd d
+  listing_cause text w now (NotPossible line) d = absurd d
+  listing_cause text w now (BadScheduleText line) d = absurd d
+
+  ran_cause : (R : Program → Simulated → Type 0) (asked : Chosen) (image : Image) (given : List (Ends Packet)) (w now : Option (List ℕ)) (ended : Report) → HasRunAs R asked image given w now ended
+      → Cause files command nodes ended.status
+  ran_cause R asked image given w now ended d = subst (λ x. Cause files command nodes x) (sym (ran_status R asked image given w now ended d)) (run_cause d.run.end)
+
+done_cause : (files : Content) (command : Command) (asked : Chosen) (source schedule : Option (List ℕ)) (image : Image) (given : List (Ends Packet)) (w now : Option (List ℕ)) (ended : Report)
+    → MayBeGiven files command source schedule → DoneWith command asked (acts_in asked.nodes schedule) image given w now ended → Cause files command asked.nodes ended.status
+done_cause files (Asm name) asked source schedule image given w now ended may d = listing_cause files (Asm name) asked.nodes (listing image) w now ended.status d.0
+done_cause files (Sim name) asked source schedule image given w now ended may d = ran_cause files (Sim name) asked.nodes _ asked image given w now ended d
+done_cause files (Stress jobs) asked source schedule image given w now ended may d = ran_cause files (Stress jobs) asked.nodes _ asked image given w now ended d
+done_cause files (Replay name acts) asked source schedule image given w now ended may d = by (acts_in asked.nodes schedule) refl d
   where
-    inside : (a b : AsmError) → fails a ≡ fails b → a ≡ b
-    inside a b h = cc
+    by : (r : Result (List Scheduled) ℕ) → acts_in asked.nodes schedule ≡ r → HasReplayed asked r image given w now ended → Cause files (Replay name acts) asked.nodes ended.status
+    by (Ok items) is (inl none) = unless files (Replay name acts) asked.nodes NoMemory ended.status tt (plain NoMemory given w now ended none)
+    by (Ok items) is (inr ran) = ran_cause files (Replay name acts) asked.nodes _ asked image given w now ended ran
+    by (Err line) is none =
+        unless files (Replay name acts) asked.nodes (BadScheduleText line) ended.status (no_schedule asked.nodes line (file_at files acts) schedule may.1 is) (plain (BadScheduleText line) given w now ended none)
 
-bad_of : (files : Content) (asked : Chosen) (given : List (Ends Packet)) (w now : Option (List ℕ)) (ended : Report) (bytes : List ℕ) (error : AsmError)
-    → HasRun files asked given w now ended → Holds files (file_of asked) bytes → image_of bytes ≡ Err error
-    → IsUnlessMemory ended.status (BadSource error) ⊎ (ended.status ≡ ReadFault)
-bad_of files asked given w now ended bytes error (NotRead same (inl h)) holds is = inr (status_is ended ReadFault h)
-bad_of files asked given w now ended bytes error (NotRead same (inr h)) holds is = inl (inr (status_is ended NoMemory h))
-bad_of files asked given w now ended bytes error (TooLarge same big h) holds is =
-    let reason : errors.TooLong ≡ error = same_reason errors.TooLong error (image_of bytes) (too_long bytes (longer (file_at files (file_of asked)) bytes holds big)) is in
-    inl (inl (status_is ended (BadSource errors.TooLong) h ∙ ap BadSource reason))
-bad_of files asked given w now ended bytes error (Read others may d) holds is =
-    let same : others ≡ bytes = same_bytes (file_at files (file_of asked)) bytes others holds may in
-    by (subst (λ r. HasSourceEnded asked r given w now ended) (ap image_of same ∙ is) d)
+cause : (files : Content) (asked : Chosen) (given : List (Ends Packet)) (w now : Option (List ℕ)) (ended : Report) → HasRun files asked given w now ended → Cause files asked.command asked.nodes ended.status
+cause files asked given w now ended (NotRead h) = unless files asked.command asked.nodes ReadFault ended.status tt (plain ReadFault given w now ended h)
+cause files asked given w now ended (Read source schedule may d) = by (image_in source) refl d
   where
-    by : (now ≡ w) × ((ended ≡ plainly (BadSource error) given) ⊎ (ended ≡ plainly NoMemory given)) → IsUnlessMemory ended.status (BadSource error) ⊎ (ended.status ≡ ReadFault)
-    by (same, inl h) = inl (inl (status_is ended (BadSource error) h))
-    by (same, inr h) = inl (inr (status_is ended NoMemory h))
+    by : (r : Result Image AsmError) → image_in source ≡ r → HasSourceEnded asked r (acts_in asked.nodes schedule) given w now ended → Cause files asked.command asked.nodes ended.status
+    by (Ok image) is (inl none) = unless files asked.command asked.nodes NoMemory ended.status tt (plain NoMemory given w now ended none)
+    by (Ok image) is (inr d) = done_cause files asked.command asked source schedule image given w now ended may d
+    by (Err error) is none =
+        unless files asked.command asked.nodes (BadSource error) ended.status (no_source files asked.command source schedule error may is) (plain (BadSource error) given w now ended none)
 
--- ---- what comes where the source has an image
+-- ## Where the files are told
 
--- the status of a run's end is a usual one, or that of a refused write or of want of memory
-run_usual : (name : List ℕ) (s : Status) (e : End) (R : Type 0) → s ≡ end_status e → (s ≡ WriteFault → R)
-    → IsUsual (Sim name) s ⊎ ((s ≡ NoMemory) ⊎ R)
-run_usual name s end.Done R is write = inl (inl is)
-run_usual name s end.Stalled R is write = inl (inr (inl is))
-run_usual name s end.OutOfTurns R is write = inl (inr (inr is))
-run_usual name s end.WriteFault R is write = inr (inr (write is))
-run_usual name s end.NoMemory R is write = inr (inl is)
+-- it was no read that failed, and nothing else that has no cause in the program
+abbrev IsFault : Status → Type 0
+IsFault status = (status ≡ NoMemory) ⊎ ((status ≡ ReadFault) ⊎ (status ≡ WriteFault))
 
-listing_usual : (name : List ℕ) (text : List ℕ) (w now : Option (List ℕ)) (s : Status) (R : Type 0) → Lists text w now s → (s ≡ WriteFault → R)
-    → IsUsual (Asm name) s ⊎ ((s ≡ NoMemory) ⊎ R)
-listing_usual name text w now Done R d write = inl refl
-listing_usual name text w now WriteFault R d write = inr (inr (write refl))
-listing_usual name text w now NoMemory R d write = inr (inl refl)
-listing_usual name text w now Usage R d write = absurd d
-listing_usual name text w now (BadSource error) R d write = absurd d
-listing_usual name text w now Stalled R d write = absurd d
-listing_usual name text w now OutOfTurns R d write = absurd d
-listing_usual name text w now ReadFault R d write = absurd d
+-- no run has an act that isn't possible
+abbrev NeverIdle : End → Type 0
+NeverIdle e = (line : ℕ) → e ≡ end.NotPossible line → ⊥
 
-done_usual : (command : Command) (asked : Chosen) (image : Image) (given : List (Ends Packet)) (w now : Option (List ℕ)) (ended : Report) (R : Type 0)
-    → DoneWith command asked image given w now ended → (ended.status ≡ WriteFault → R) → IsUsual command ended.status ⊎ ((ended.status ≡ NoMemory) ⊎ R)
-done_usual (Asm name) asked image given w now ended R d write = listing_usual name (listing image) w now ended.status R d.0 write
-done_usual (Sim name) asked image given w now ended R d write = run_usual name ended.status d.run.end R d.status write
+drawn_never_idle : (moves : Bool) (turns seed : ℕ) (p : Program) (s : Simulated) → DrawnBy moves turns seed p s → NeverIdle s.end
+drawn_never_idle moves turns seed p s (inl r) line is = subst (λ e. EndsAt p turns (boot_entries p (nodes_of p)) r.later e) is r.ends
+drawn_never_idle moves turns seed p s (inr none) line is = let bad : end.NoMemory ≡ end.NotPossible line = sym none.1 ∙ is in cc
+
+end_usual : (e : End) → NeverIdle e → IsRunsEnd (end_status e) ⊎ IsFault (end_status e)
+end_usual end.Done f = inl (inl refl)
+end_usual end.Stalled f = inl (inr (inl refl))
+end_usual end.OutOfTurns f = inl (inr (inr refl))
+end_usual (end.NotPossible line) f = absurd (f line refl)
+end_usual end.WriteFault f = inr (inr (inr refl))
+end_usual end.NoMemory f = inr (inl refl)
+
+drawn_usual : (moves : Bool) (turns seed : ℕ) (asked : Chosen) (image : Image) (given : List (Ends Packet)) (w now : Option (List ℕ)) (ended : Report)
+    → HasRunAs (DrawnBy moves turns seed) asked image given w now ended → IsRunsEnd ended.status ⊎ IsFault ended.status
+drawn_usual moves turns seed asked image given w now ended d =
+    subst (λ s. IsRunsEnd s ⊎ IsFault s) (sym (ran_status _ asked image given w now ended d)) (end_usual d.run.end (drawn_never_idle moves turns seed _ d.run d.ran))
+
+listing_usual : (name text : List ℕ) (w now : Option (List ℕ)) (s : Status) → Lists text w now s → IsUsual (Asm name) s ⊎ IsFault s
+listing_usual name text w now Done d = inl refl
+listing_usual name text w now WriteFault d = inr (inr (inr refl))
+listing_usual name text w now NoMemory d = inr (inl refl)
+listing_usual name text w now Usage d = absurd d
+listing_usual name text w now (BadSource error) d = absurd d
+listing_usual name text w now Stalled d = absurd d
+listing_usual name text w now OutOfTurns d = absurd d
+listing_usual name text w now ReadFault d = absurd d
+listing_usual name text w now (NotPossible line) d = absurd d
+listing_usual name text w now (BadScheduleText line) d = absurd d
+
+replay_usual : (name acts : List ℕ) (e : End) → IsUsual (Replay name acts) (end_status e) ⊎ IsFault (end_status e)
+replay_usual name acts end.Done = inl (inl (inl refl))
+replay_usual name acts end.Stalled = inl (inl (inr (inl refl)))
+replay_usual name acts end.OutOfTurns = inl (inl (inr (inr refl)))
+replay_usual name acts (end.NotPossible line) = inl (inr (line, inl refl))
+replay_usual name acts end.WriteFault = inr (inr (inr refl))
+replay_usual name acts end.NoMemory = inr (inl refl)
+
+-- want of memory, or what it is else
+or_else : (U : Status → Type 0) (s t : Status) → U s ⊎ IsFault s → IsUnlessMemory t s → U t ⊎ IsFault t
+or_else U s t u (inl e) = subst (λ x. U x ⊎ IsFault x) (sym e) u
+or_else U s t u (inr e) = inr (inl e)
+
+done_usual : (command : Command) (asked : Chosen) (acts : Result (List Scheduled) ℕ) (image : Image) (given : List (Ends Packet)) (w now : Option (List ℕ)) (ended : Report)
+    → DoneWith command asked acts image given w now ended → IsUsual command ended.status ⊎ IsFault ended.status
+done_usual (Asm name) asked acts image given w now ended d = listing_usual name (listing image) w now ended.status d.0
+done_usual (Sim name) asked acts image given w now ended d = drawn_usual asked.moves asked.turns asked.seed asked image given w now ended d
+done_usual (Stress jobs) asked acts image given w now ended d = drawn_usual false asked.turns 0 asked image given w now ended d
+done_usual (Replay name file) asked (Ok acts) image given w now ended (inl none) = or_else (IsUsual (Replay name file)) NoMemory ended.status (inr (inl refl)) (plain NoMemory given w now ended none)
+done_usual (Replay name file) asked (Ok acts) image given w now ended (inr d) =
+    subst (λ s. IsUsual (Replay name file) s ⊎ IsFault s) (sym (ran_status _ asked image given w now ended d)) (replay_usual name file d.run.end)
+done_usual (Replay name file) asked (Err line) image given w now ended none =
+    or_else (IsUsual (Replay name file)) (BadScheduleText line) ended.status (inl (inr (line, inr refl))) (plain (BadScheduleText line) given w now ended none)
 
 -- a source with an image
 abbrev has : Image → Result Image AsmError
 has image = Ok image
 
-no_reason : (image : Image) (error : AsmError) (r : Result Image AsmError) → r ≡ has image → r ≡ fails error → ⊥
-no_reason image error r first second = let bad : has image ≡ fails error = sym first ∙ second in cc
+abbrev fails : AsmError → Result Image AsmError
+fails error = Err error
 
-not_lacking : (file : Option (Option (List ℕ))) (bytes : List ℕ) → file ≡ Some (Some bytes) → file ≡ Some None → ⊥
-not_lacking file bytes has lacks = let bad : Some (Some bytes) ≡ Some None = sym has ∙ lacks in cc
-
-usual_of : (files : Content) (asked : Chosen) (given : List (Ends Packet)) (w now : Option (List ℕ)) (ended : Report) (R : Type 0) → HasRun files asked given w now ended
-    → HasSource files asked → (ended.status ≡ ReadFault → Lacks files (file_of asked) ⊎ R) → (ended.status ≡ WriteFault → R)
-    → IsUsual asked.command ended.status ⊎ ((ended.status ≡ NoMemory) ⊎ R)
-usual_of files asked given w now ended R (NotRead same (inl h)) source read write = by (read (status_is ended ReadFault h))
+usual_of : (files : Content) (asked : Chosen) (given : List (Ends Packet)) (w now : Option (List ℕ)) (ended : Report) → HasRun files asked given w now ended → HasSource files asked
+    → IsUsual asked.command ended.status ⊎ IsFault ended.status
+usual_of files asked given w now ended (NotRead h) source = or_else (IsUsual asked.command) ReadFault ended.status (inr (inr (inl refl))) (plain ReadFault given w now ended h)
+usual_of files asked given w now ended (Read text schedule may d) source =
+    by (subst (λ r. HasSourceEnded asked r (acts_in asked.nodes schedule) given w now ended) image_is d)
   where
-    by : Lacks files (file_of asked) ⊎ R → IsUsual asked.command ended.status ⊎ ((ended.status ≡ NoMemory) ⊎ R)
-    by (inl lacks) = absurd (not_lacking (file_at files (file_of asked)) source.0 source.2 lacks)
-    by (inr rose) = inr (inr rose)
-usual_of files asked given w now ended R (NotRead same (inr h)) source read write = inr (inl (status_is ended NoMemory h))
-usual_of files asked given w now ended R (TooLarge same big h) source read write =
-    absurd (no_reason source.1 errors.TooLong (image_of source.0) source.3
-    (too_long source.0 (longer (file_at files (file_of asked)) source.0 source.2 big)))
-usual_of files asked given w now ended R (Read others may d) source read write =
-    let same : others ≡ source.0 = same_bytes (file_at files (file_of asked)) source.0 others source.2 may in
-    by (subst (λ r. HasSourceEnded asked r given w now ended) (ap image_of same ∙ source.3) d)
-  where
-    by : HasSourceEnded asked (has source.1) given w now ended → IsUsual asked.command ended.status ⊎ ((ended.status ≡ NoMemory) ⊎ R)
-    by (inl none) = inr (inl (status_is ended NoMemory none.1))
-    by (inr d) = done_usual asked.command asked source.1 given w now ended R d write
+    image_is : image_in text ≡ has source.image
+    image_is = sym (at_told (source_in files asked.command) source.bytes (λ b. image_of b ≡ image_in text) source.told (source_such files asked.command text schedule may)) ∙ source.assembled
 
--- ---- the same of the status that is told
+    by : HasSourceEnded asked (has source.image) (acts_in asked.nodes schedule) given w now ended → IsUsual asked.command ended.status ⊎ IsFault ended.status
+    by (inl none) = or_else (IsUsual asked.command) NoMemory ended.status (inr (inl refl)) (plain NoMemory given w now ended none)
+    by (inr d) = done_usual asked.command asked (acts_in asked.nodes schedule) source.image given w now ended d
+
+-- a status, or a file wasn't read, or there was no memory
+abbrev IsUnlessRead : Status → Status → Type 0
+IsUnlessRead status s = IsUnlessMemory status s ⊎ (status ≡ ReadFault)
+
+bad_of : (files : Content) (asked : Chosen) (given : List (Ends Packet)) (w now : Option (List ℕ)) (ended : Report) (bytes : List ℕ) (error : AsmError) → HasRun files asked given w now ended
+    → source_in files asked.command ≡ Some (Some bytes) → image_of bytes ≡ Err error → IsUnlessRead ended.status (BadSource error)
+bad_of files asked given w now ended bytes error (NotRead (same, inl h)) told is = inr (status_is ended ReadFault h)
+bad_of files asked given w now ended bytes error (NotRead (same, inr h)) told is = inl (inr (status_is ended NoMemory h))
+bad_of files asked given w now ended bytes error (Read text schedule may d) told is =
+    inl (plain (BadSource error) given w now ended (subst (λ r. HasSourceEnded asked r (acts_in asked.nodes schedule) given w now ended) reason d))
+  where
+    reason : image_in text ≡ fails error
+    reason = sym (at_told (source_in files asked.command) bytes (λ b. image_of b ≡ image_in text) told (source_such files asked.command text schedule may)) ∙ is
+
+-- a schedule that has a bad line
+abbrev spoilt : ℕ → Result (List Scheduled) ℕ
+spoilt line = Err line
+
+bad_done : (files : Content) (command : Command) (asked : Chosen) (text schedule : Option (List ℕ)) (image : Image) (given : List (Ends Packet)) (w now : Option (List ℕ)) (ended : Report) (bytes : List ℕ) (line : ℕ)
+    → MayBeGiven files command text schedule → DoneWith command asked (acts_in asked.nodes schedule) image given w now ended → schedule_in files command ≡ Some (Some bytes) → acts_of asked.nodes bytes ≡ Err line
+    → IsUnlessMemory ended.status (BadScheduleText line)
+bad_done files (Asm name) asked text schedule image given w now ended bytes line may d told is = let bad : Some None ≡ Some (Some bytes) = told in cc
+bad_done files (Sim name) asked text schedule image given w now ended bytes line may d told is = let bad : Some None ≡ Some (Some bytes) = told in cc
+bad_done files (Stress jobs) asked text schedule image given w now ended bytes line may d told is = let bad : Some None ≡ Some (Some bytes) = told in cc
+bad_done files (Replay name acts) asked text schedule image given w now ended bytes line may d told is =
+    plain (BadScheduleText line) given w now ended (subst (λ r. HasReplayed asked r image given w now ended) reason d)
+  where
+    reason : acts_in asked.nodes schedule ≡ spoilt line
+    reason = sym (at_told (file_at files acts) bytes (λ b. acts_of asked.nodes b ≡ acts_in asked.nodes schedule) told (schedule_such asked.nodes (file_at files acts) schedule may.1)) ∙ is
+
+bad_schedule_of : (files : Content) (asked : Chosen) (given : List (Ends Packet)) (w now : Option (List ℕ)) (ended : Report) (bytes : List ℕ) (line : ℕ) → HasRun files asked given w now ended
+    → HasSource files asked → schedule_in files asked.command ≡ Some (Some bytes) → acts_of asked.nodes bytes ≡ Err line → IsUnlessRead ended.status (BadScheduleText line)
+bad_schedule_of files asked given w now ended bytes line (NotRead (same, inl h)) source told is = inr (status_is ended ReadFault h)
+bad_schedule_of files asked given w now ended bytes line (NotRead (same, inr h)) source told is = inl (inr (status_is ended NoMemory h))
+bad_schedule_of files asked given w now ended bytes line (Read text schedule may d) source told is =
+    by (subst (λ r. HasSourceEnded asked r (acts_in asked.nodes schedule) given w now ended) image_is d)
+  where
+    image_is : image_in text ≡ has source.image
+    image_is = sym (at_told (source_in files asked.command) source.bytes (λ b. image_of b ≡ image_in text) source.told (source_such files asked.command text schedule may)) ∙ source.assembled
+
+    memory : IsUnlessMemory ended.status NoMemory → ended.status ≡ NoMemory
+    memory (inl e) = e
+    memory (inr e) = e
+
+    by : HasSourceEnded asked (has source.image) (acts_in asked.nodes schedule) given w now ended → IsUnlessRead ended.status (BadScheduleText line)
+    by (inl none) = inl (inr (memory (plain NoMemory given w now ended none)))
+    by (inr d) = inl (bad_done files asked.command asked text schedule source.image given w now ended bytes line may d told is)
+
+-- ## The status that is told
+
+-- a status stays, but for want of memory; where something is told at the end, writing it may have been refused
+abbrev pub Becomes : Status → Status → Type 0
+Becomes first last = (last ≡ first) ⊎ ((last ≡ NoMemory) ⊎ ((last ≡ WriteFault) × (is_told first ≡ true)))
+
+becomes : (asked : Chosen) (ran : Report) (w now : Option (List ℕ)) (ended : Report) → Tells asked ran w now ended → Becomes ran.status ended.status
+becomes asked ran w now ended (Nothing none same is) = inl (ap (λ (x : Report). x.status) is)
+becomes asked ran w now ended (All some same is) = inl (ap (λ (x : Report). x.status) is)
+becomes asked ran w now ended (Refused some part refusals.Failed is) = inr (inr (ap (λ (x : Report). x.status) is, some))
+becomes asked ran w now ended (Refused some part refusals.NoMemory is) = inr (inl (ap (λ (x : Report). x.status) is))
 
 -- the status of a command's end, or want of memory for its text
 abbrev pub IsTold : Report → Status → Type 0
 IsTold ended status = (status ≡ ended.status) ⊎ (status ≡ NoMemory)
 
-pub is_told : (ended : Report) (status : Status) (w now : Option (List ℕ)) (before after : ℕ) → StatusTold ended status w now before after → IsTold ended status
-is_told ended status w now before after (inl h) = inl h.0
-is_told ended status w now before after (inr h) = inr h
+pub is_told_as : (ended : Report) (status : Status) (w now : Option (List ℕ)) (before after : ℕ) → StatusTold ended status w now before after → IsTold ended status
+is_told_as ended status w now before after (inl h) = inl h.0
+is_told_as ended status w now before after (inr h) = inr h
 
--- no status of a file's end is that of words that have no settings
-not_usage : (files : Content) (asked : Chosen) (given : List (Ends Packet)) (w now : Option (List ℕ)) (ended : Report) → HasRun files asked given w now ended → ended.status ≡ Usage → ⊥
-not_usage files asked given w now ended (NotRead same (inl h)) is = let bad : ReadFault ≡ Usage = sym (status_is ended ReadFault h) ∙ is in cc
-not_usage files asked given w now ended (NotRead same (inr h)) is = let bad : NoMemory ≡ Usage = sym (status_is ended NoMemory h) ∙ is in cc
-not_usage files asked given w now ended (TooLarge same big h) is = let bad : BadSource errors.TooLong ≡ Usage = sym (status_is ended (BadSource errors.TooLong) h) ∙ is in cc
-not_usage files asked given w now ended (Read bytes holds d) is = by (image_of bytes) d
-  where
-    by : (r : Result Image AsmError) → HasSourceEnded asked r given w now ended → ⊥
-    by (Ok image) (inl none) = let bad : NoMemory ≡ Usage = sym (status_is ended NoMemory none.1) ∙ is in cc
-    by (Ok image) (inr d) = used asked.command asked image given w now ended Usage no_usage_end (λ l. l) d is
-    by (Err e) (same, inl h) = let bad : BadSource e ≡ Usage = sym (status_is ended (BadSource e) h) ∙ is in cc
-    by (Err e) (same, inr h) = let bad : NoMemory ≡ Usage = sym (status_is ended NoMemory h) ∙ is in cc
+pub as_read : (ended : Report) (status : Status) → IsTold ended status → status ≡ ReadFault → ended.status ≡ ReadFault
+as_read ended status (inl told) is = sym told ∙ is
+as_read ended status (inr told) is = let bad : NoMemory ≡ ReadFault = sym told ∙ is in cc
 
-pub usage : (files : Content) (settings : Option Chosen) (given : List (Ends Packet)) (w now : Option (List ℕ)) (ended : Report) (status : Status)
-    → HasEnded files settings given w now ended → IsTold ended status → status ≡ Usage → settings ≡ None
-usage files settings given w now ended status (NoSettings none same h) told is = none
-usage files settings given w now ended status (NotSettled same h) (inl told) is = let bad : NoMemory ≡ Usage = sym (status_is ended NoMemory h) ∙ (sym told ∙ is) in cc
-usage files settings given w now ended status (NotSettled same h) (inr told) is = let bad : NoMemory ≡ Usage = sym told ∙ is in cc
-usage files settings given w now ended status (Settled asked some ran) (inl told) is = absurd (not_usage files asked given w now ended ran (sym told ∙ is))
-usage files settings given w now ended status (Settled asked some ran) (inr told) is = let bad : NoMemory ≡ Usage = sym told ∙ is in cc
+pub as_written : (ended : Report) (status : Status) → IsTold ended status → status ≡ WriteFault → ended.status ≡ WriteFault
+as_written ended status (inl told) is = sym told ∙ is
+as_written ended status (inr told) is = let bad : NoMemory ≡ WriteFault = sym told ∙ is in cc
 
-is_none : (settings : Option Chosen) (asked : Chosen) → settings ≡ Some asked → settings ≡ None → ⊥
-is_none settings asked some none = let bad : Some asked ≡ None = sym some ∙ none in cc
-
-pub no_settings : (files : Content) (settings : Option Chosen) (given : List (Ends Packet)) (w now : Option (List ℕ)) (ended : Report) (status : Status)
-    → HasEnded files settings given w now ended → IsTold ended status → settings ≡ None → IsUnlessMemory status Usage
-no_settings files settings given w now ended status (NoSettings none same h) (inl told) is = inl (told ∙ status_is ended Usage h)
-no_settings files settings given w now ended status (NotSettled same h) (inl told) is = inr (told ∙ status_is ended NoMemory h)
-no_settings files settings given w now ended status (Settled asked some ran) (inl told) is = absurd (is_none settings asked some is)
-no_settings files settings given w now ended status ended_so (inr told) is = inr told
+told_after : (first : Status) (ended : Report) (status : Status) → Becomes first ended.status → IsTold ended status → Becomes first status
+told_after first ended status b (inl told) = subst (λ s. Becomes first s) (sym told) b
+told_after first ended status b (inr told) = inr (inl told)
 
 -- what is said of settings, where there are some
 pub of_settings : (settings : Option Chosen) (P : Chosen → Type 0) → ((asked : Chosen) → settings ≡ Some asked → P asked) → IfSome settings P
 of_settings None P f = tt
 of_settings (Some asked) P f = f asked refl
+
+is_none : (settings : Option Chosen) (asked : Chosen) → settings ≡ Some asked → settings ≡ None → ⊥
+is_none settings asked some none = let bad : Some asked ≡ None = sym some ∙ none in cc
 
 same_asked : (settings : Option Chosen) (a b : Chosen) → settings ≡ Some a → settings ≡ Some b → a ≡ b
 same_asked settings a b first second = inside a b (sym first ∙ second)
@@ -248,63 +305,125 @@ same_asked settings a b first second = inside a b (sym first ∙ second)
     inside a b h = cc
 
 -- with settings, the command has done what they ask for, or there was no memory to read the words
-pub ran_with : (files : Content) (settings : Option Chosen) (given : List (Ends Packet)) (w now : Option (List ℕ)) (ended : Report) (asked : Chosen)
-    → HasEnded files settings given w now ended → settings ≡ Some asked → (ended ≡ plainly NoMemory given) ⊎ HasRun files asked given w now ended
-ran_with files settings given w now ended asked (NoSettings none same h) some = absurd (is_none settings asked some none)
-ran_with files settings given w now ended asked (NotSettled same h) some = inl h
-ran_with files settings given w now ended asked (Settled other is ran) some =
-    inr (subst (λ a. HasRun files a given w now ended) (same_asked settings other asked is some) ran)
+pub obeyed_with : (files : Content) (settings : Option Chosen) (given : List (Ends Packet)) (w now : Option (List ℕ)) (ended : Report) (asked : Chosen)
+    → HasEnded files settings given w now ended → settings ≡ Some asked → (ended ≡ plainly NoMemory given) ⊎ HasObeyed files asked given w now ended
+obeyed_with files settings given w now ended asked (NoSettings none same h) some = absurd (is_none settings asked some none)
+obeyed_with files settings given w now ended asked (NotSettled same h) some = inl h
+obeyed_with files settings given w now ended asked (Settled other is done) some =
+    inr (subst (λ a. HasObeyed files a given w now ended) (same_asked settings other asked is some) done)
 
-pub source : (files : Content) (settings : Option Chosen) (given : List (Ends Packet)) (w now : Option (List ℕ)) (ended : Report) (status : Status) (error : AsmError)
-    → HasEnded files settings given w now ended → IsTold ended status → status ≡ BadSource error
-    → IfSome settings (λ asked. MayBeNoSource files (file_of asked) error)
-source files settings given w now ended status error done (inl told) is =
-    of_settings settings (λ asked. MayBeNoSource files (file_of asked) error) (λ asked some. by asked (ran_with files settings given w now ended asked done some))
+module _ (files : Content) (settings : Option Chosen) (given : List (Ends Packet)) (w now : Option (List ℕ)) (ended : Report) (status : Status) (done : HasEnded files settings given w now ended)
+    (told : IsTold ended status) where
+  memory : ended ≡ plainly NoMemory given → IsTold ended status → status ≡ NoMemory
+  memory h (inl t) = t ∙ status_is ended NoMemory h
+  memory h (inr t) = t
+
+  -- what holds of want of memory and of all that a run's status becomes
+  by_run : (P : Chosen → Status → Type 0) → ((asked : Chosen) → P asked NoMemory)
+      → ((asked : Chosen) (ran : Report) (shown : Option (List ℕ)) → HasRun files asked given w shown ran → Becomes ran.status status → P asked status)
+      → IfSome settings (λ asked. P asked status)
+  by_run P none some = of_settings settings (λ asked. P asked status) (λ asked is. by asked (obeyed_with files settings given w now ended asked done is))
+    where
+      by : (asked : Chosen) → (ended ≡ plainly NoMemory given) ⊎ HasObeyed files asked given w now ended → P asked status
+      by asked (inl h) = subst (λ s. P asked s) (sym (memory h told)) (none asked)
+      by asked (inr o) = some asked o.ran o.shown o.has_run (told_after o.ran.status ended status (becomes asked o.ran o.shown now ended o.tells) told)
+
+  caused : IfSome settings (λ asked. Cause files asked.command asked.nodes status)
+  caused = by_run (λ asked s. Cause files asked.command asked.nodes s) (λ asked. tt) (λ asked ran shown r b. after asked ran.status b (cause files asked given w shown ran r))
+    where
+      after : (asked : Chosen) (first : Status) → Becomes first status → Cause files asked.command asked.nodes first → Cause files asked.command asked.nodes status
+      after asked first (inl e) c = subst (λ s. Cause files asked.command asked.nodes s) (sym e) c
+      after asked first (inr (inl e)) c = subst (λ s. Cause files asked.command asked.nodes s) (sym e) tt
+      after asked first (inr (inr e)) c = subst (λ s. Cause files asked.command asked.nodes s) (sym e.0) tt
+
+  pub source : (error : AsmError) → status ≡ BadSource error → IfSome settings (λ asked. MayBeSuch (source_in files asked.command) (λ bytes. image_of bytes ≡ Err error))
+  source error is = subst (λ s. IfSome settings (λ asked. Cause files asked.command asked.nodes s)) is caused
+
+  pub schedule : (line : ℕ) → status ≡ BadScheduleText line → IfSome settings (λ asked. MayBeSuch (schedule_in files asked.command) (λ bytes. acts_of asked.nodes bytes ≡ Err line))
+  schedule line is = subst (λ s. IfSome settings (λ asked. Cause files asked.command asked.nodes s)) is caused
+
+  pub usage : status ≡ Usage → settings ≡ None
+  usage is = by settings (subst (λ s. IfSome settings (λ asked. Cause files asked.command asked.nodes s)) is caused)
+    where
+      by : (o : Option Chosen) → IfSome o (λ asked. ⊥) → o ≡ None
+      by None h = refl
+      by (Some asked) h = absurd h
+
+  -- nothing is told after a status that isn't a run's end
+  kept : (s first : Status) → is_told s ≡ false → IsUnlessRead first s → Becomes first status → IsUnlessRead status s
+  kept s first silent (inl (inl e)) (inl b) = inl (inl (b ∙ e))
+  kept s first silent (inl (inr e)) (inl b) = inl (inr (b ∙ e))
+  kept s first silent (inr e) (inl b) = inr (b ∙ e)
+  kept s first silent h (inr (inl b)) = inl (inr b)
+  kept s first silent (inl (inl e)) (inr (inr b)) = let bad : is_told s ≡ true = subst (λ x. is_told x ≡ true) e b.1 in cc
+  kept s first silent (inl (inr e)) (inr (inr b)) = let bad : is_told NoMemory ≡ true = subst (λ x. is_told x ≡ true) e b.1 in cc
+  kept s first silent (inr e) (inr (inr b)) = let bad : is_told ReadFault ≡ true = subst (λ x. is_told x ≡ true) e b.1 in cc
+
+  pub bad : IfSome settings (λ asked. (bytes : List ℕ) (error : AsmError) → source_in files asked.command ≡ Some (Some bytes) → image_of bytes ≡ Err error
+      → IsUnlessMemory status (BadSource error) ⊎ (status ≡ ReadFault))
+  bad = by_run (λ asked s. (bytes : List ℕ) (error : AsmError) → source_in files asked.command ≡ Some (Some bytes) → image_of bytes ≡ Err error → IsUnlessRead s (BadSource error))
+      (λ asked bytes error h is. inl (inr refl))
+      (λ asked ran shown r b bytes error h is. kept (BadSource error) ran.status refl (bad_of files asked given w shown ran bytes error r h is) b)
+
+  pub bad_schedule : IfSome settings (λ asked. (bytes : List ℕ) (line : ℕ) → HasSource files asked → schedule_in files asked.command ≡ Some (Some bytes) → acts_of asked.nodes bytes ≡ Err line
+      → IsUnlessMemory status (BadScheduleText line) ⊎ (status ≡ ReadFault))
+  bad_schedule = by_run (λ asked s. (bytes : List ℕ) (line : ℕ) → HasSource files asked → schedule_in files asked.command ≡ Some (Some bytes) → acts_of asked.nodes bytes ≡ Err line → IsUnlessRead s (BadScheduleText line))
+      (λ asked bytes line source h is. inl (inr refl))
+      (λ asked ran shown r b bytes line source h is. kept (BadScheduleText line) ran.status refl (bad_schedule_of files asked given w shown ran bytes line r source h is) b)
+
+  usual_or_fault : IfSome settings (λ asked. HasSource files asked → IsUsual asked.command status ⊎ IsFault status)
+  usual_or_fault = by_run (λ asked s. HasSource files asked → IsUsual asked.command s ⊎ IsFault s) (λ asked source. inr (inl refl))
+      (λ asked ran shown r b source. after asked.command ran.status (usual_of files asked given w shown ran r source) b)
+    where
+      after : (command : Command) (first : Status) → IsUsual command first ⊎ IsFault first → Becomes first status → IsUsual command status ⊎ IsFault status
+      after command first u (inl e) = subst (λ s. IsUsual command s ⊎ IsFault s) (sym e) u
+      after command first u (inr (inl e)) = inr (inl e)
+      after command first u (inr (inr e)) = inr (inr (inr e.0))
+
+  pub no_settings : settings ≡ None → IsUnlessMemory status Usage
+  no_settings none = by done told
+    where
+      by : HasEnded files settings given w now ended → IsTold ended status → IsUnlessMemory status Usage
+      by (NoSettings is same h) (inl t) = inl (t ∙ status_is ended Usage h)
+      by (NotSettled same h) (inl t) = inr (t ∙ status_is ended NoMemory h)
+      by (Settled asked some o) (inl t) = absurd (is_none settings asked some none)
+      by d (inr t) = inr t
+
+-- ## Where nothing is lacking
+
+not_lacking : (files : Content) (command : Command) (bytes : List ℕ) → source_in files command ≡ Some (Some bytes) → HasSchedule files command → LacksAny files command → ⊥
+not_lacking files (Asm name) bytes told acts lacks = let bad : Some (Some bytes) ≡ Some None = sym told ∙ lacks in cc
+not_lacking files (Sim name) bytes told acts lacks = let bad : Some (Some bytes) ≡ Some None = sym told ∙ lacks in cc
+not_lacking files (Replay name file) bytes told acts (inl lacks) = let bad : Some (Some bytes) ≡ Some None = sym told ∙ lacks in cc
+not_lacking files (Replay name file) bytes told acts (inr lacks) = let bad : Some (Some acts.0) ≡ Some None = sym acts.1 ∙ lacks in cc
+not_lacking files (Stress jobs) bytes told acts lacks = lacks
+
+-- with what a command reads told, the status is a usual one, but for want of memory and what has risen
+pub usual : (files : Content) (settings : Option Chosen) (given : List (Ends Packet)) (w now : Option (List ℕ)) (ended : Report) (status : Status) (A B C : Type 0) → HasEnded files settings given w now ended
+    → IsTold ended status → (status ≡ ReadFault → IfSome settings (λ asked. LacksAny files asked.command ⊎ A)) → (status ≡ WriteFault → B ⊎ C)
+    → IfSome settings (λ asked. HasSource files asked → IsUsual asked.command status ⊎ ((status ≡ NoMemory) ⊎ (A ⊎ (B ⊎ C))))
+usual files settings given w now ended status A B C done told read write =
+    both settings (usual_or_fault files settings given w now ended status done told) read
   where
-    by : (asked : Chosen) → (ended ≡ plainly NoMemory given) ⊎ HasRun files asked given w now ended → MayBeNoSource files (file_of asked) error
-    by asked (inl h) = let bad : NoMemory ≡ BadSource error = no_error ended NoMemory error h (sym told ∙ is) in cc
-    by asked (inr ran) = reason_of files asked given w now ended error ran (sym told ∙ is)
-source files settings given w now ended status error done (inr told) is = let bad : NoMemory ≡ BadSource error = sym told ∙ is in cc
+    at_one : (asked : Chosen) → (status ≡ ReadFault → LacksAny files asked.command ⊎ A) → HasSource files asked → IsUsual asked.command status ⊎ IsFault status
+        → IsUsual asked.command status ⊎ ((status ≡ NoMemory) ⊎ (A ⊎ (B ⊎ C)))
+    at_one asked read source (inl u) = inl u
+    at_one asked read source (inr (inl e)) = inr (inl e)
+    at_one asked read source (inr (inr (inl e))) = by (read e)
+      where
+        by : LacksAny files asked.command ⊎ A → IsUsual asked.command status ⊎ ((status ≡ NoMemory) ⊎ (A ⊎ (B ⊎ C)))
+        by (inl lacks) = absurd (not_lacking files asked.command source.bytes source.told source.schedule lacks)
+        by (inr a) = inr (inr (inl a))
+    at_one asked read source (inr (inr (inr e))) = inr (inr (inr (write e)))
 
--- the source has no image for this reason, and the status says so, but for want of memory and a fault of reading
-abbrev IsBad : Content → Status → Chosen → Type 0
-IsBad files status asked = (bytes : List ℕ) (error : AsmError) → Holds files (file_of asked) bytes → image_of bytes ≡ Err error
-    → IsUnlessMemory status (BadSource error) ⊎ (status ≡ ReadFault)
+    both : (o : Option Chosen) → IfSome o (λ asked. HasSource files asked → IsUsual asked.command status ⊎ IsFault status) → (status ≡ ReadFault → IfSome o (λ asked. LacksAny files asked.command ⊎ A))
+        → IfSome o (λ asked. HasSource files asked → IsUsual asked.command status ⊎ ((status ≡ NoMemory) ⊎ (A ⊎ (B ⊎ C))))
+    both None u r = tt
+    both (Some asked) u r = λ source. at_one asked r source (u source)
 
-pub bad : (files : Content) (settings : Option Chosen) (given : List (Ends Packet)) (w now : Option (List ℕ)) (ended : Report) (status : Status)
-    → HasEnded files settings given w now ended → IsTold ended status → IfSome settings (IsBad files status)
-bad files settings given w now ended status done (inl told) =
-    of_settings settings (IsBad files status) (λ asked some. by asked (ran_with files settings given w now ended asked done some))
-  where
-    by : (asked : Chosen) → (ended ≡ plainly NoMemory given) ⊎ HasRun files asked given w now ended → IsBad files status asked
-    by asked (inl h) = λ bytes error holds is. inl (inr (told ∙ status_is ended NoMemory h))
-    by asked (inr ran) = λ bytes error holds is.
-        subst (λ s. IsUnlessMemory s (BadSource error) ⊎ (s ≡ ReadFault)) (sym told) (bad_of files asked given w now ended bytes error ran holds is)
-bad files settings given w now ended status done (inr told) =
-    of_settings settings (IsBad files status) (λ asked some. λ bytes error holds is. inl (inr told))
-
--- where the source has an image, the status is a usual one, but for want of memory and what has risen
-abbrev IsUsualFor : Content → Status → Type 0 → Chosen → Type 0
-IsUsualFor files status R asked = HasSource files asked → IsUsual asked.command status ⊎ ((status ≡ NoMemory) ⊎ R)
-
--- a fault of reading is one of reading or writing
-of_either : (L A B : Type 0) → L ⊎ A → L ⊎ (A ⊎ B)
-of_either L A B (inl l) = inl l
-of_either L A B (inr a) = inr (inl a)
-
-pub usual : (files : Content) (settings : Option Chosen) (given : List (Ends Packet)) (w now : Option (List ℕ)) (ended : Report) (status : Status) (A B : Type 0)
-    → HasEnded files settings given w now ended → IsTold ended status
-    → (ended.status ≡ ReadFault → IfSome settings (λ asked. Lacks files (file_of asked) ⊎ A)) → (ended.status ≡ WriteFault → B)
-    → IfSome settings (IsUsualFor files status (A ⊎ B))
-usual files settings given w now ended status A B done (inl told) read write =
-    of_settings settings (IsUsualFor files status (A ⊎ B)) (λ asked some. by asked some (ran_with files settings given w now ended asked done some))
-  where
-    by : (asked : Chosen) → settings ≡ Some asked → (ended ≡ plainly NoMemory given) ⊎ HasRun files asked given w now ended → IsUsualFor files status (A ⊎ B) asked
-    by asked some (inl h) = λ source. inr (inl (told ∙ status_is ended NoMemory h))
-    by asked some (inr ran) = λ source.
-        subst (λ s. IsUsual asked.command s ⊎ ((s ≡ NoMemory) ⊎ (A ⊎ B))) (sym told)
-        (usual_of files asked given w now ended (A ⊎ B) ran source
-        (λ is. of_either (Lacks files (file_of asked)) A B (subst (λ o. IfSome o (λ a. Lacks files (file_of a) ⊎ A)) some (read is)))
-        (λ is. inr (write is)))
-usual files settings given w now ended status A B done (inr told) read write =
-    of_settings settings (IsUsualFor files status (A ⊎ B)) (λ asked some. λ source. inr (inl told))
+-- where a file is lacking it isn't read, also as it is told
+pub missing : (files : Content) (settings : Option Chosen) (ended : Report) (status : Status) → IfSome settings (λ asked. LacksAny files asked.command → IsUnlessMemory ended.status ReadFault)
+    → IsTold ended status → IfSome settings (λ asked. LacksAny files asked.command → IsUnlessMemory status ReadFault)
+missing files None ended status h told = tt
+missing files (Some asked) ended status h (inl told) = λ lacks. subst (λ s. IsUnlessMemory s ReadFault) (sym told) (h lacks)
+missing files (Some asked) ended status h (inr told) = λ lacks. inr told

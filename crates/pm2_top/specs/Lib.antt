@@ -1,4 +1,5 @@
 pub mod Number
 pub mod Asked
+pub mod Delivery
 pub mod Outcome
 pub mod Texts

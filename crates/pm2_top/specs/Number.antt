@@ -5,7 +5,7 @@ use Rattle.outside.specs.declared.outside.WriteRefusal.TheVariants as refusal
 use Rattle.simulation.specs.declared.simulation.End.{End}
 use Rattle.simulation.specs.declared.simulation.End.TheVariants as end
 use Rattle.pm2_top.specs.declared.status.Status.{Status}
-use Rattle.pm2_top.specs.declared.status.Status.TheVariants.{Done, Usage, BadSource, Stalled, OutOfTurns, ReadFault, WriteFault, NoMemory}
+use Rattle.pm2_top.specs.declared.status.Status.TheVariants.{Done, Usage, BadSource, Stalled, OutOfTurns, ReadFault, WriteFault, NoMemory, NotPossible, BadScheduleText}
 
 abbrev pub status_number : Status → ℕ
 status_number Done = 0
@@ -16,6 +16,8 @@ status_number OutOfTurns = 4
 status_number ReadFault = 5
 status_number WriteFault = 6
 status_number NoMemory = 7
+status_number (NotPossible line) = 8
+status_number (BadScheduleText line) = 9
 
 abbrev pub refusal_status : WriteRefusal → Status
 refusal_status refusal.Failed = WriteFault
@@ -25,5 +27,6 @@ abbrev pub end_status : End → Status
 end_status end.Done = Done
 end_status end.Stalled = Stalled
 end_status end.OutOfTurns = OutOfTurns
+end_status (end.NotPossible line) = NotPossible line
 end_status end.WriteFault = WriteFault
 end_status end.NoMemory = NoMemory

@@ -16,7 +16,7 @@ use Rattle.run_trace.specs.declared.label.Label.{Label}
 use Rattle.run_trace.specs.declared.label.Label.TheVariants.{Ended}
 use Rattle.pm2_top.specs.declared.report.Report.{Report}
 use Rattle.pm2_top.specs.declared.status.Status.{Status}
-use Rattle.pm2_top.specs.declared.status.Status.TheVariants.{Done, Usage, BadSource, Stalled, OutOfTurns, ReadFault, WriteFault, NoMemory}
+use Rattle.pm2_top.specs.declared.status.Status.TheVariants.{Done, Usage, BadSource, Stalled, OutOfTurns, ReadFault, WriteFault, NoMemory, NotPossible, BadScheduleText}
 
 -- the word of a fault
 abbrev pub kind_word : FaultKind → List ℕ
@@ -71,19 +71,21 @@ status_line OutOfTurns = codes "pm2: out of turns\n"
 status_line ReadFault = codes "pm2: cannot read\n"
 status_line WriteFault = codes "pm2: cannot write\n"
 status_line NoMemory = codes "pm2: out of memory\n"
+status_line (NotPossible line) = codes "pm2: act at line " ++ (decimal line ++ codes " not possible\n")
+status_line (BadScheduleText line) = codes "pm2: bad schedule at line " ++ (decimal line ++ 10 ∷ [])
 
 -- the lines of the faults, and then the line of the status
 unfoldable pub err_text : Status → List Entry → List ℕ
 err_text status trace = faults_text trace ++ status_line status
 
 -- the text is on the output, or a first part of it is and the output has counted a fault
-abbrev pub Tells : List ℕ → Option (List ℕ) → Option (List ℕ) → ℕ → ℕ → Type 0
-Tells text written now before after = Appends written text now ⊎ (AppendsPrefix written text now × Rose before after)
+abbrev pub IsOnError : List ℕ → Option (List ℕ) → Option (List ℕ) → ℕ → ℕ → Type 0
+IsOnError text written now before after = Appends written text now ⊎ (AppendsPrefix written text now × Rose before after)
 
 -- the status and the text of how a command has ended; want of memory for the text gives a status of its own
 abbrev pub StatusTold : Report → Status → Option (List ℕ) → Option (List ℕ) → ℕ → ℕ → Type 0
 StatusTold ended status written now before after =
-    ((status ≡ ended.status) × Tells (err_text ended.status ended.trace) written now before after) ⊎ (status ≡ NoMemory)
+    ((status ≡ ended.status) × IsOnError (err_text ended.status ended.trace) written now before after) ⊎ (status ≡ NoMemory)
 
 -- a command is reported as it has ended, with its trace and its links
 pub record Reports (ended report : Report) (written now : Option (List ℕ)) (before after : ℕ) : Type 0 where

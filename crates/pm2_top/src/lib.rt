@@ -1,6 +1,9 @@
-//! The top call: the words, the source, the run of the program, its status, and what is told on the error output.
+//! The top call: the words, the source, the run of the program, its status, what is told of it on the output and in files, and
+//! what is told on the error output.
 #![tactic(auto)]
 
+mod delivery;
+mod inputs;
 mod report;
 mod status;
 mod texts;

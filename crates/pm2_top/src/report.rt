@@ -1,11 +1,12 @@
 //! What a command has come to.
 
 ghost use Rattle.std.specs.Prelude.{◌≡◌};
-ghost use Rattle.pm2_top.specs.Outcome.{plainly};
+ghost use Rattle.pm2_top.specs.Outcome.{plainly, run_report};
 
 use crate::status::Status;
 use basics::Items;
 use run_trace::{Entry, Packet};
+use simulation::Simulated;
 use std::alloc::Global;
 use wires::Wires;
 
@@ -28,6 +29,17 @@ impl Report {
             status,
             trace: Items::new(Vec::new(alloc)),
             wires,
+        }
+    }
+
+    /// Of a run that has ended.
+    pub(crate) fn of_run(run: Simulated) -> Report
+        ensures { result ≡ run_report run }
+    {
+        Report {
+            status: Status::from(run.end),
+            trace: run.trace,
+            wires: run.wires,
         }
     }
 }

@@ -2,6 +2,7 @@
 
 ghost use Rattle.std.specs.Prelude.{◌≡◌, ◌↔◌};
 ghost use Rattle.pm2_top.specs.Number.{status_number};
+ghost use Rattle.pm2_top.specs.Delivery.{is_told};
 
 use outside::WriteRefusal;
 use rv_asm::AsmError;
@@ -26,6 +27,10 @@ pub enum Status {
     WriteFault,
     /// There was not enough memory.
     NoMemory,
+    /// The act of this line of the schedule isn't possible.
+    NotPossible(u32),
+    /// This line of the schedule, counted from 1, is the first that isn't of the grammar; 0 where the file is too long.
+    BadScheduleText(u32),
 }
 
 impl Status {
@@ -42,7 +47,19 @@ impl Status {
             Status::ReadFault => 5,
             Status::WriteFault => 6,
             Status::NoMemory => 7,
+            Status::NotPossible(_) => 8,
+            Status::BadScheduleText(_) => 9,
         }
+    }
+
+    /// Whether a listing was written or a run has come to its end, so that what is asked for is told.
+    pub(crate) fn is_told(&self) -> bool
+        ensures { result ≡ is_told self.now }
+    {
+        matches!(
+            self,
+            Status::Done | Status::Stalled | Status::OutOfTurns | Status::NotPossible(_)
+        )
     }
 }
 
@@ -69,6 +86,7 @@ impl From<End> for Status {
             End::Done => Status::Done,
             End::Stalled => Status::Stalled,
             End::OutOfTurns => Status::OutOfTurns,
+            End::NotPossible(line) => Status::NotPossible(line),
             End::WriteFault => Status::WriteFault,
             End::NoMemory => Status::NoMemory,
         }

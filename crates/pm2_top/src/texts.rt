@@ -111,6 +111,22 @@ fn faults_text(alloc: Global, trace: &[Entry]) -> Result<String, NoMemory>
     Ok(text)
 }
 
+/// The line of an act that isn't possible.
+fn impossible_line(alloc: Global, line: u32) -> Result<String, NoMemory>
+    ensures { IfOk result (λ text. string_bytes text ≡ status_line (Status.NotPossible line)) }
+{
+    let text = format!(in alloc; "pm2: act at line {line} not possible\n")?;
+    Ok(text)
+}
+
+/// The line of a schedule that isn't of the grammar.
+fn bad_line(alloc: Global, line: u32) -> Result<String, NoMemory>
+    ensures { IfOk result (λ text. string_bytes text ≡ status_line (Status.BadScheduleText line)) }
+{
+    let text = format!(in alloc; "pm2: bad schedule at line {line}\n")?;
+    Ok(text)
+}
+
 /// The line of a status.
 fn status_line(alloc: Global, status: Status) -> Result<String, NoMemory>
     ensures { IfOk result (λ text. string_bytes text ≡ status_line status) }
@@ -126,6 +142,8 @@ fn status_line(alloc: Global, status: Status) -> Result<String, NoMemory>
         Status::ReadFault => "pm2: cannot read\n",
         Status::WriteFault => "pm2: cannot write\n",
         Status::NoMemory => "pm2: out of memory\n",
+        Status::NotPossible(line) => return impossible_line(alloc, line),
+        Status::BadScheduleText(line) => return bad_line(alloc, line),
     };
     Ok(text.to_string(alloc)?)
 }

@@ -1,35 +1,41 @@
 //! The top call.
 
-ghost use Rattle.std.specs.Prelude.{◌≡◌, ◌≢◌, ◌≤◌, ◌⊎◌, ℕ, List, Err, None, Some, IfSome, map};
+ghost use Rattle.std.specs.Prelude.{◌≡◌, ◌≢◌, ◌≤◌, ◌⊎◌, ℕ, List, false, true, length, Err, None, Some, IfSome, IfOk, map};
 ghost use Rattle.std.specs.String.{string_bytes};
-ghost use Rattle.outside.specs.Outside.{Rose, Lacks, Holds};
+ghost use Rattle.outside.specs.Outside.{Rose};
 ghost use Rattle.rv_asm.specs.declared.error.AsmError.{AsmError as Refused};
 ghost use Rattle.rv_inst.specs.Image.{IsWellFormed};
 ghost use Rattle.asm_list.specs.Listing.{HasShortAddresses, listing};
-ghost use Rattle.rv_asm.specs.Images.{image_of};
-ghost use Rattle.node_state.specs.Events.{StartsAligned};
+ghost use Rattle.rv_asm.specs.Images.{Assembles, image_of};
+ghost use Rattle.run_texts.specs.Schedules.{Reads};
+ghost use Rattle.node_state.specs.Events.{StartsAligned, program};
+ghost use Rattle.rv_inst.specs.declared.image.Image.{Image as Assembled};
 ghost use Rattle.wires.specs.Wires.{AreFreshFor};
 ghost use Rattle.settings.specs.Settings.{settings_of};
 ghost use Rattle.settings.specs.Seen.{chosen, IsWithinLimits};
-ghost use Rattle.pm2_top.specs.Asked.{file_of, source_of};
-ghost use Rattle.pm2_top.specs.Outcome.{IsUnlessMemory, IsUsual, MayBeNoSource, HasSource, Lists, HasSimulated, HasSourceEnded, HasRun, HasEnded, IsTraceOf, IsCarriedOut, node_limit};
+ghost use Rattle.simulation.specs.Schedules.{AreInRange};
+ghost use Rattle.pm2_top.specs.Asked.{LacksAny, acts_in, acts_of, image_in, schedule_in, source_in, schedule_limit};
+ghost use Rattle.pm2_top.specs.Delivery.{is_told, HasFiles, LeavesFiles, Leaves};
+ghost use Rattle.pm2_top.specs.Outcome.{IsUnlessMemory, IsUsual, MayBeNoSource, MayBeNoSchedule, HasSource, Lists, HasRunAs, DrawnBy, HasReplayed, HasSourceEnded, HasRun, HasObeyed, HasEnded, IsTraceOf, IsCarriedOut, node_limit};
 ghost use Rattle.pm2_top.specs.Texts.{Reports};
 ghost use Rattle.pm2_top.specs.declared.report.Report.{Report as Ended};
 
+use crate::delivery::tell_all;
+use crate::inputs::{Inputs, read_inputs};
 use crate::report::Report;
 use crate::status::Status;
 use crate::texts::tell;
-use outside::{ReadRefusal, Shelf, Sink, write_piece};
-use run_trace::Packet;
+use basics::Items;
+use outside::{Shelf, Sink, write_piece};
+use run_texts::{Scheduled, read_schedule, schedules_fit};
+use run_trace::{Packet, Setup};
 use rv_asm::{AsmError, assemble, list};
 use rv_inst::Image;
 use settings::{Command, Settings, WordsError, settings};
-use simulation::simulate;
+use simulation::{replay, simulate};
 use std::alloc::Global;
+use trace_text::TextError;
 use wires::Wires;
-
-/// The longest source in bytes.
-const SOURCE_LIMIT: u64 = 1_048_576;
 
 /// Writes the listing of an image.
 #[tactic(auto, using(crate::proofs::Ran::none_yet))]
@@ -50,45 +56,112 @@ fn list_image<K: Sink>(alloc: Global, image: &Image, out: &mut K) -> Status
     }
 }
 
-/// Runs an image in the order that the seed draws.
+/// Runs an image in the order that a seed draws.
 fn run_image<K: Sink>(
     alloc: Global,
     asked: &Settings,
     image: Image,
+    seed: u64,
+    moves: bool,
     wires: Wires<Packet>,
     out: &mut K,
 ) -> Report
     requires limits { IsWithinLimits asked.now }
     requires image { StartsAligned image }
     requires fresh { AreFreshFor node_limit wires }
-    ensures simulated { HasSimulated (chosen asked.now) image wires (K.written out.old) (K.written out.new) result }
+    ensures simulated { HasRunAs (DrawnBy moves asked.now.turns seed) (chosen asked.now) image wires (K.written out.old) (K.written out.new) result }
     ensures failed { result.status ≡ Status.WriteFault → Rose (K.faults out.old) (K.faults out.new) }
     ensures later { K.faults out.old ≤ K.faults out.new }
 {
-    let (turns, seed, moves) = (asked.turns, asked.seed, asked.moves);
-    let run = simulate(alloc, &asked.setup, image, turns, seed, moves, wires, out);
-    Report {
-        status: Status::from(run.end),
-        trace: run.trace,
-        wires: run.wires,
+    Report::of_run(simulate(
+        alloc,
+        &asked.setup,
+        image,
+        asked.turns,
+        seed,
+        moves,
+        wires,
+        out,
+    ))
+}
+
+/// The acts of a schedule that was read.
+fn acts_in(
+    alloc: Global,
+    setup: &Setup,
+    schedule: &Option<Items<u8>>,
+) -> Result<Items<Scheduled>, TextError>
+    requires within { IfSome schedule.now (λ bytes. length bytes ≤ schedule_limit) }
+    ensures reads { Reads result (acts_in setup.now.geometry.nodes schedule.now) }
+    ensures fine { (image : Assembled) → IfOk result (λ acts. (length acts ≤ 1000000) × AreInRange (program setup.now image) acts) }
+{
+    match schedule {
+        None => Err(TextError::BadLine { line: 0 }),
+        Some(text) => {
+            schedules_fit();
+            read_schedule(alloc, text.as_slice(), setup)
+        }
     }
 }
 
-/// Assembles a source, and lists its image or runs it.
-fn do_source<K: Sink>(
+/// Runs an image by the acts of a schedule.
+fn replay_image<K: Sink>(
     alloc: Global,
     asked: &Settings,
-    source: &[u8],
+    schedule: &Option<Items<u8>>,
+    image: Image,
     wires: Wires<Packet>,
     out: &mut K,
 ) -> Report
     requires limits { IsWithinLimits asked.now }
+    requires within { IfSome schedule.now (λ bytes. length bytes ≤ schedule_limit) }
+    requires image { StartsAligned image }
     requires fresh { AreFreshFor node_limit wires }
-    ensures ending { HasSourceEnded (chosen asked.now) (image_of source.now) wires (K.written out.old) (K.written out.new) result }
+    ensures replayed { HasReplayed (chosen asked.now) (acts_in asked.now.setup.geometry.nodes schedule.now) image wires (K.written out.old) (K.written out.new) result }
     ensures failed { result.status ≡ Status.WriteFault → Rose (K.faults out.old) (K.faults out.new) }
     ensures later { K.faults out.old ≤ K.faults out.new }
 {
-    let image = match assemble(alloc, source) {
+    let acts = match acts_in(alloc, &asked.setup, schedule) {
+        Ok(acts) => acts,
+        Err(TextError::BadLine { line }) => return Report::plain(
+            alloc,
+            Status::BadScheduleText(line),
+            wires,
+        ),
+        Err(TextError::NoMemory) => return Report::plain(alloc, Status::NoMemory, wires),
+    };
+    Report::of_run(replay(alloc, &asked.setup, image, acts.as_slice(), wires, out))
+}
+
+/// The image of a source that was read.
+fn image_in(alloc: Global, source: &Option<Items<u8>>) -> Result<Image, AsmError>
+    ensures exact { Assembles result (image_in source.now) }
+    ensures well_formed { IfOk result IsWellFormed }
+    ensures short { IfOk result HasShortAddresses }
+{
+    match source {
+        None => Err(AsmError::TooLong),
+        Some(source) => assemble(alloc, source.as_slice()),
+    }
+}
+
+/// Assembles a source, and lists its image or runs it.
+fn do_inputs<K: Sink>(
+    alloc: Global,
+    asked: &Settings,
+    inputs: &Inputs,
+    wires: Wires<Packet>,
+    out: &mut K,
+) -> Report
+    requires limits { IsWithinLimits asked.now }
+    requires within { IfSome inputs.now.schedule (λ bytes. length bytes ≤ schedule_limit) }
+    requires fresh { AreFreshFor node_limit wires }
+    ensures ending { HasSourceEnded (chosen asked.now) (image_in inputs.now.source) (acts_in asked.now.setup.geometry.nodes inputs.now.schedule)
+        wires (K.written out.old) (K.written out.new) result }
+    ensures failed { result.status ≡ Status.WriteFault → Rose (K.faults out.old) (K.faults out.new) }
+    ensures later { K.faults out.old ≤ K.faults out.new }
+{
+    let image = match image_in(alloc, &inputs.source) {
         Ok(image) => image,
         Err(AsmError::NoMemory) => return Report::plain(alloc, Status::NoMemory, wires),
         Err(error) => return Report::plain(alloc, Status::BadSource(error), wires),
@@ -98,22 +171,14 @@ fn do_source<K: Sink>(
             let status = list_image(alloc, &image, out);
             Report::plain(alloc, status, wires)
         }
-        Command::Sim(_) => run_image(alloc, asked, image, wires, out),
+        Command::Sim(_) => run_image(alloc, asked, image, asked.seed, asked.moves, wires, out),
+        Command::Replay(_, _) => replay_image(alloc, asked, &inputs.schedule, image, wires, out),
+        Command::Stress(_) => run_image(alloc, asked, image, 0, false, wires, out),
     }
 }
 
-/// The name of the file with the source.
-fn source_of(command: &Command) -> &str
-    ensures { result.now ≡ source_of command.now }
-{
-    match command {
-        Command::Asm(file) => file.as_str(),
-        Command::Sim(file) => file.as_str(),
-    }
-}
-
-/// Reads the file and does with it what is asked for.
-fn do_file<S: Shelf, K: Sink>(
+/// Reads the files and does with them what is asked for.
+fn run_asked<S: Shelf, K: Sink>(
     alloc: Global,
     asked: &Settings,
     shelf: &mut S,
@@ -123,23 +188,38 @@ fn do_file<S: Shelf, K: Sink>(
     requires limits { IsWithinLimits asked.now }
     requires fresh { AreFreshFor node_limit wires }
     ensures ran { HasRun (S.content shelf.old) (chosen asked.now) wires (K.written out.old) (K.written out.new) result }
-    ensures read { result.status ≡ Status.ReadFault → Lacks (S.content shelf.old) (file_of (chosen asked.now)) ⊎ Rose (S.read_faults shelf.old) (S.read_faults shelf.new) }
-    ensures missing { Lacks (S.content shelf.old) (file_of (chosen asked.now)) → IsUnlessMemory result.status Status.ReadFault }
+    ensures read { result.status ≡ Status.ReadFault → LacksAny (S.content shelf.old) asked.now.command ⊎ Rose (S.read_faults shelf.old) (S.read_faults shelf.new) }
+    ensures missing { LacksAny (S.content shelf.old) asked.now.command → IsUnlessMemory result.status Status.ReadFault }
     ensures failed { result.status ≡ Status.WriteFault → Rose (K.faults out.old) (K.faults out.new) }
+    ensures later { K.faults out.old ≤ K.faults out.new }
     ensures files { S.content shelf.new ≡ S.content shelf.old }
     ensures writes { S.write_faults shelf.new ≡ S.write_faults shelf.old }
 {
-    match shelf.read_file(alloc, source_of(&asked.command), SOURCE_LIMIT) {
-        Ok(bytes) => do_source(alloc, asked, &bytes, wires, out),
-        Err(ReadRefusal::Missing) => Report::plain(alloc, Status::ReadFault, wires),
-        Err(ReadRefusal::Failed) => Report::plain(alloc, Status::ReadFault, wires),
-        Err(ReadRefusal::TooLarge) => Report::plain(
-            alloc,
-            Status::BadSource(AsmError::TooLong),
-            wires,
-        ),
-        Err(ReadRefusal::NoMemory) => Report::plain(alloc, Status::NoMemory, wires),
+    match read_inputs(alloc, &asked.command, shelf) {
+        Ok(inputs) => do_inputs(alloc, asked, &inputs, wires, out),
+        Err(status) => Report::plain(alloc, status, wires),
     }
+}
+
+/// Does what is asked for, and tells what is asked for.
+fn do_asked<S: Shelf, K: Sink>(
+    alloc: Global,
+    asked: &Settings,
+    shelf: &mut S,
+    wires: Wires<Packet>,
+    out: &mut K,
+) -> Report
+    requires limits { IsWithinLimits asked.now }
+    requires fresh { AreFreshFor node_limit wires }
+    ensures obeyed { HasObeyed (S.content shelf.old) (chosen asked.now) wires (K.written out.old) (K.written out.new) result }
+    ensures read { result.status ≡ Status.ReadFault → LacksAny (S.content shelf.old) asked.now.command ⊎ Rose (S.read_faults shelf.old) (S.read_faults shelf.new) }
+    ensures missing { LacksAny (S.content shelf.old) asked.now.command → IsUnlessMemory result.status Status.ReadFault }
+    ensures failed { result.status ≡ Status.WriteFault → Rose (K.faults out.old) (K.faults out.new) ⊎ Rose (S.write_faults shelf.old) (S.write_faults shelf.new) }
+    ensures put { is_told result.status ≡ true → HasFiles (chosen asked.now) result.trace (S.content shelf.old) (S.content shelf.new) }
+    ensures left { LeavesFiles (chosen asked.now) result.trace (Rose (S.write_faults shelf.old) (S.write_faults shelf.new)) (S.content shelf.old) (S.content shelf.new) }
+{
+    let ran = run_asked(alloc, asked, shelf, wires, out);
+    tell_all(alloc, asked, ran, shelf, out)
 }
 
 /// Does what the words ask for.
@@ -153,22 +233,26 @@ fn obey<S: Shelf, K: Sink>(
     requires fresh { AreFreshFor node_limit wires }
     ensures ended { HasEnded (S.content shelf.old) (settings_of (map string_bytes words.now)) wires (K.written out.old) (K.written out.new) result }
     ensures read { result.status ≡ Status.ReadFault → IfSome (settings_of (map string_bytes words.now)) (λ asked.
-        Lacks (S.content shelf.old) (file_of asked) ⊎ Rose (S.read_faults shelf.old) (S.read_faults shelf.new)) }
+        LacksAny (S.content shelf.old) asked.command ⊎ Rose (S.read_faults shelf.old) (S.read_faults shelf.new)) }
     ensures missing { IfSome (settings_of (map string_bytes words.now)) (λ asked.
-        Lacks (S.content shelf.old) (file_of asked) → IsUnlessMemory result.status Status.ReadFault) }
-    ensures failed { result.status ≡ Status.WriteFault → Rose (K.faults out.old) (K.faults out.new) }
-    ensures files { S.content shelf.new ≡ S.content shelf.old }
-    ensures writes { S.write_faults shelf.new ≡ S.write_faults shelf.old }
+        LacksAny (S.content shelf.old) asked.command → IsUnlessMemory result.status Status.ReadFault) }
+    ensures failed { result.status ≡ Status.WriteFault → Rose (K.faults out.old) (K.faults out.new) ⊎ Rose (S.write_faults shelf.old) (S.write_faults shelf.new) }
+    ensures put { is_told result.status ≡ true → IfSome (settings_of (map string_bytes words.now)) (λ asked.
+        HasFiles asked result.trace (S.content shelf.old) (S.content shelf.new)) }
+    ensures left { Leaves (settings_of (map string_bytes words.now)) result.trace (Rose (S.write_faults shelf.old) (S.write_faults shelf.new))
+        (S.content shelf.old) (S.content shelf.new) }
 {
     match settings(alloc, words) {
-        Ok(asked) => do_file(alloc, &asked, shelf, wires, out),
+        Ok(asked) => do_asked(alloc, &asked, shelf, wires, out),
         Err(WordsError::Usage) => Report::plain(alloc, Status::Usage, wires),
         Err(WordsError::NoMemory) => Report::plain(alloc, Status::NoMemory, wires),
     }
 }
 
-/// The whole program: it reads the file that the words name, and lists its image or runs it and shows the lines. What is
-/// wrong, and each fault of a thread, is told on the error output. The packets go over the links that are given.
+/// The whole program: it reads the files that the words name, and lists the image of the source or runs it, in an order that is
+/// drawn or by a schedule, and shows the lines. Behind them stands the summary, and the trace and its acts go to files, each where
+/// it is asked for. What is wrong, and each fault of a thread, is told on the error output. The packets go over the links that are
+/// given.
 pub fn pm2_main<S: Shelf, K: Sink, E: Sink>(
     alloc: Global,
     words: &[String],
@@ -179,8 +263,8 @@ pub fn pm2_main<S: Shelf, K: Sink, E: Sink>(
 ) -> Report
     requires wires { AreFreshFor node_limit wires }
 
-    // How it has ended: the output has the listing, or the lines of the trace, or at a refused write a first part of them, and
-    // the error output the text of it.
+    // How it has ended: the output has the listing, or the lines of the trace and the summary, or at a refused write a first part of
+    // them, and the error output the text of it.
     ensures ended { (ended : Ended) × HasEnded (S.content shelf.old) (settings_of (map string_bytes words.now)) wires (K.written out.old) (K.written out.new) ended
         × Reports ended result (E.written err.old) (E.written err.new) (E.faults err.old) (E.faults err.new) }
 
@@ -195,26 +279,38 @@ pub fn pm2_main<S: Shelf, K: Sink, E: Sink>(
     ensures usage { result.status ≡ Status.Usage → settings_of (map string_bytes words.now) ≡ None }
     ensures no_settings { settings_of (map string_bytes words.now) ≡ None → IsUnlessMemory result.status Status.Usage }
 
-    // The file isn't there, or a read has failed.
+    // A file isn't there, or a read has failed.
     ensures read { result.status ≡ Status.ReadFault → IfSome (settings_of (map string_bytes words.now)) (λ asked.
-        Lacks (S.content shelf.old) (file_of asked) ⊎ Rose (S.read_faults shelf.old) (S.read_faults shelf.new)) }
+        LacksAny (S.content shelf.old) asked.command ⊎ Rose (S.read_faults shelf.old) (S.read_faults shelf.new)) }
     ensures missing { IfSome (settings_of (map string_bytes words.now)) (λ asked.
-        Lacks (S.content shelf.old) (file_of asked) → IsUnlessMemory result.status Status.ReadFault) }
+        LacksAny (S.content shelf.old) asked.command → IsUnlessMemory result.status Status.ReadFault) }
 
     // The source has no image, for the reason that is told.
     ensures source { (error : Refused) → result.status ≡ Status.BadSource error → IfSome (settings_of (map string_bytes words.now)) (λ asked.
-        MayBeNoSource (S.content shelf.old) (file_of asked) error) }
-    ensures bad { IfSome (settings_of (map string_bytes words.now)) (λ asked. (bytes : List ℕ) (error : Refused) → Holds (S.content shelf.old) (file_of asked) bytes
+        MayBeNoSource (S.content shelf.old) asked error) }
+    ensures bad { IfSome (settings_of (map string_bytes words.now)) (λ asked. (bytes : List ℕ) (error : Refused) → source_in (S.content shelf.old) asked.command ≡ Some (Some bytes)
         → image_of bytes ≡ Err error → IsUnlessMemory result.status (Status.BadSource error) ⊎ (result.status ≡ Status.ReadFault)) }
 
-    // With a source that has an image, and no fault of reading or writing, nothing but the program decides.
+    // The schedule isn't of the grammar, first on the line that is told.
+    ensures schedule { (line : ℕ) → result.status ≡ Status.BadScheduleText line → IfSome (settings_of (map string_bytes words.now)) (λ asked.
+        MayBeNoSchedule (S.content shelf.old) asked line) }
+    ensures bad_schedule { IfSome (settings_of (map string_bytes words.now)) (λ asked. (bytes : List ℕ) (line : ℕ) → HasSource (S.content shelf.old) asked
+        → schedule_in (S.content shelf.old) asked.command ≡ Some (Some bytes) → acts_of asked.nodes bytes ≡ Err line
+        → IsUnlessMemory result.status (Status.BadScheduleText line) ⊎ (result.status ≡ Status.ReadFault)) }
+
+    // With a source that has an image, and no fault of reading or writing, nothing but the program and its schedule decide.
     ensures usual { IfSome (settings_of (map string_bytes words.now)) (λ asked. HasSource (S.content shelf.old) asked
         → IsUsual asked.command result.status ⊎ (result.status ≡ Status.NoMemory)
-        ⊎ Rose (S.read_faults shelf.old) (S.read_faults shelf.new) ⊎ Rose (K.faults out.old) (K.faults out.new)) }
+        ⊎ Rose (S.read_faults shelf.old) (S.read_faults shelf.new) ⊎ Rose (K.faults out.old) (K.faults out.new) ⊎ Rose (S.write_faults shelf.old) (S.write_faults shelf.new)) }
 
-    ensures write { result.status ≡ Status.WriteFault → Rose (K.faults out.old) (K.faults out.new) }
-    ensures files { S.content shelf.new ≡ S.content shelf.old }
-    ensures writes { S.write_faults shelf.new ≡ S.write_faults shelf.old }
+    ensures write { result.status ≡ Status.WriteFault → Rose (K.faults out.old) (K.faults out.new) ⊎ Rose (S.write_faults shelf.old) (S.write_faults shelf.new) }
+
+    // At the end of a run each file that is asked for has its text. At any other each is as before or has its text, unless its write
+    // has failed. Every other file is as before.
+    ensures put { is_told result.status ≡ true → IfSome (settings_of (map string_bytes words.now)) (λ asked.
+        HasFiles asked result.trace (S.content shelf.old) (S.content shelf.new)) }
+    ensures left { Leaves (settings_of (map string_bytes words.now)) result.trace (Rose (S.write_faults shelf.old) (S.write_faults shelf.new))
+        (S.content shelf.old) (S.content shelf.new) }
 {
     let ended = obey(alloc, words, shelf, wires, out);
     tell(alloc, ended, err)

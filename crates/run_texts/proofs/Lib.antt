@@ -6,3 +6,4 @@ pub mod Ranges
 pub mod Readings
 pub mod Splits
 pub mod Words
+mod Fitting

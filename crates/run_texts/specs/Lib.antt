@@ -4,3 +4,4 @@ pub mod Schedules
 pub mod Written
 pub mod Summaries
 pub mod Stress
+pub mod Fitting

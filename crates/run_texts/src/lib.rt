@@ -3,6 +3,7 @@
 #![tactic(auto)]
 
 mod act;
+mod laws;
 mod number;
 mod parts;
 mod schedule;
@@ -10,6 +11,7 @@ mod stress;
 mod summaries;
 mod writing;
 
+pub use laws::schedules_fit;
 pub use schedule::{Scheduled, read_schedule};
 pub use stress::stress_source;
 pub use summaries::summary;

@@ -27,7 +27,7 @@ use Rattle.simulation.specs.Ends.{ShowsAt, Shows, CarriesAt}
 use Rattle.simulation.specs.Schedules.{AreInRange, AreFirstOf, IsOf, StopsAt, RunsBy, Follows}
 use Rattle.simulation.specs.Replayed.{IsReplaying, HasReplayed}
 use Rattle.simulation.specs.Underway.{refusal_end}
-use Rattle.simulation.specs.declared.schedule.Scheduled.{Scheduled}
+use Rattle.run_texts.specs.declared.schedule.Scheduled.{Scheduled}
 use Rattle.simulation.specs.declared.simulation.End.{End}
 use Rattle.simulation.specs.declared.simulation.End.TheVariants as ends
 use Rattle.simulation.specs.declared.simulation.Simulated.{Simulated}

@@ -9,7 +9,7 @@ use Rattle.cluster.specs.Standing.{StandsFor, HasTrace}
 use Rattle.simulation.specs.Ends.{ShowsAt}
 use Rattle.simulation.specs.Schedules.{AreFirstOf, RunsBy}
 use Rattle.simulation.specs.Underway.{LeavesAt}
-use Rattle.simulation.specs.declared.schedule.Scheduled.{Scheduled}
+use Rattle.run_texts.specs.declared.schedule.Scheduled.{Scheduled}
 use Rattle.simulation.specs.declared.simulation.End.{End}
 
 -- after so many acts of a run that began as old

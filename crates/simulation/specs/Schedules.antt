@@ -7,7 +7,7 @@ use Rattle.node_loop.specs.Turns.{IsActInRange}
 use Rattle.cluster.specs.Acts.{is_possible}
 use Rattle.cluster.specs.Outcomes.{IsDoneAt, IsStuckAt}
 use Rattle.cluster.specs.Standing.{net_after}
-use Rattle.simulation.specs.declared.schedule.Scheduled.{Scheduled}
+use Rattle.run_texts.specs.declared.schedule.Scheduled.{Scheduled}
 use Rattle.simulation.specs.declared.simulation.End.{End}
 use Rattle.simulation.specs.declared.simulation.End.TheVariants.{Done, Stalled, OutOfTurns, NotPossible, WriteFault, NoMemory}
 use Rattle.simulation.specs.declared.simulation.Simulated.{Simulated}

@@ -6,5 +6,5 @@
 mod schedule;
 mod simulation;
 
-pub use schedule::{Scheduled, replay};
+pub use schedule::replay;
 pub use simulation::{End, Simulated, simulate};

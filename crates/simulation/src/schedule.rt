@@ -17,19 +17,11 @@ use basics::NoMemory;
 use cluster::{Cluster, State};
 use node_loop::Turned;
 use outside::Sink;
-use run_trace::{Act, Packet, Setup};
+use run_texts::Scheduled;
+use run_trace::{Packet, Setup};
 use rv_inst::Image;
-use slot_space::NodeNo;
 use std::alloc::Global;
 use wires::Wires;
-
-/// An act of a schedule, and the line on which it stands, counted from 1.
-#[derive(Clone, Copy)]
-pub struct Scheduled {
-    pub line: u32,
-    pub node: NodeNo,
-    pub act: Act,
-}
 
 /// Runs a program from its beginning by the acts of a schedule, one after another, and writes the lines after each. It ends at
 /// the first act that isn't possible, or after the last one, and says then whether the program is done, is stuck or goes on.

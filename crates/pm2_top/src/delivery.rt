@@ -1,0 +1,154 @@
+//! What is told at the end of a run: the summary, the trace and its acts.
+
+ghost use Rattle.std.specs.Prelude.{◌≡◌, ◌≢◌, ◌≤◌, ◌⊎◌, true, Some, List, ℕ, IfSome, OnOk, OnErr, IsErrOf};
+ghost use Rattle.outside.specs.Outside.{Rose, Appends, AppendsPrefix, file_at};
+ghost use Rattle.trace_text.specs.Lines.{trace_text};
+ghost use Rattle.run_texts.specs.Written.{schedule_text};
+ghost use Rattle.settings.specs.Numbers.{are_apart};
+ghost use Rattle.settings.specs.Seen.{chosen};
+ghost use Rattle.pm2_top.specs.Delivery.{is_told, summary_for, HasText, IsLeft, HasFiles, LeavesFiles, Tells};
+
+use crate::report::Report;
+use crate::status::Status;
+use basics::NoMemory;
+use outside::{Shelf, Sink, WriteRefusal, write_piece};
+use run_texts::{schedule_text, summary};
+use run_trace::Entry;
+use settings::{Name, Settings};
+use std::alloc::Global;
+use trace_text::trace_text;
+
+/// Writes the summary, where it is asked for.
+fn tell_summary<K: Sink>(
+    alloc: Global,
+    asked: &Settings,
+    trace: &[Entry],
+    out: &mut K,
+) -> Result<(), WriteRefusal>
+    ensures ok { OnOk result (Appends (K.written out.old) (summary_for (chosen asked.now) trace.now) (K.written out.new)) }
+    ensures err { OnErr result (AppendsPrefix (K.written out.old) (summary_for (chosen asked.now) trace.now) (K.written out.new)) }
+    ensures failed { IsErrOf result WriteRefusal.Failed → Rose (K.faults out.old) (K.faults out.new) }
+    ensures later { K.faults out.old ≤ K.faults out.new }
+{
+    if !asked.summary {
+        return write_piece(out, &[]);
+    }
+    match summary(alloc, trace) {
+        Ok(text) => write_piece(out, &text),
+        Err(NoMemory) => Err(WriteRefusal::NoMemory),
+    }
+}
+
+/// Writes the trace to the file of this name, where there is one.
+fn put_trace<S: Shelf>(
+    alloc: Global,
+    name: &Option<Name>,
+    trace: &[Entry],
+    shelf: &mut S,
+) -> Result<(), WriteRefusal>
+    ensures ok { OnOk result (IfSome name.now (λ n. HasText n (trace_text trace.now) (S.content shelf.old) (S.content shelf.new))) }
+    ensures left { IfSome name.now (λ n. IsLeft n (trace_text trace.now) (Rose (S.write_faults shelf.old) (S.write_faults shelf.new)) (S.content shelf.old) (S.content shelf.new)) }
+    ensures others { (other : List ℕ) → name.now ≢ Some other → file_at (S.content shelf.new) other ≡ file_at (S.content shelf.old) other }
+    ensures failed { IsErrOf result WriteRefusal.Failed → Rose (S.write_faults shelf.old) (S.write_faults shelf.new) }
+    ensures writes { S.write_faults shelf.old ≤ S.write_faults shelf.new }
+    ensures reads { S.read_faults shelf.new ≡ S.read_faults shelf.old }
+{
+    match name {
+        None => Ok(()),
+        Some(name) => match trace_text(alloc, trace) {
+            Ok(text) => shelf.write_file(name.as_str(), &text),
+            Err(NoMemory) => Err(WriteRefusal::NoMemory),
+        },
+    }
+}
+
+/// Writes the acts of a trace to the file of this name, where there is one.
+fn put_schedule<S: Shelf>(
+    alloc: Global,
+    name: &Option<Name>,
+    trace: &[Entry],
+    shelf: &mut S,
+) -> Result<(), WriteRefusal>
+    ensures ok { OnOk result (IfSome name.now (λ n. HasText n (schedule_text trace.now) (S.content shelf.old) (S.content shelf.new))) }
+    ensures left { IfSome name.now (λ n. IsLeft n (schedule_text trace.now) (Rose (S.write_faults shelf.old) (S.write_faults shelf.new)) (S.content shelf.old) (S.content shelf.new)) }
+    ensures others { (other : List ℕ) → name.now ≢ Some other → file_at (S.content shelf.new) other ≡ file_at (S.content shelf.old) other }
+    ensures failed { IsErrOf result WriteRefusal.Failed → Rose (S.write_faults shelf.old) (S.write_faults shelf.new) }
+    ensures writes { S.write_faults shelf.old ≤ S.write_faults shelf.new }
+    ensures reads { S.read_faults shelf.new ≡ S.read_faults shelf.old }
+{
+    match name {
+        None => Ok(()),
+        Some(name) => match schedule_text(alloc, trace) {
+            Ok(text) => shelf.write_file(name.as_str(), &text),
+            Err(NoMemory) => Err(WriteRefusal::NoMemory),
+        },
+    }
+}
+
+/// Writes the trace and its acts, where they are asked for.
+fn put_files<S: Shelf>(
+    alloc: Global,
+    asked: &Settings,
+    trace: &[Entry],
+    shelf: &mut S,
+) -> Result<(), WriteRefusal>
+    requires apart { are_apart asked.now.trace asked.now.schedule ≡ true }
+    ensures ok { OnOk result (HasFiles (chosen asked.now) trace.now (S.content shelf.old) (S.content shelf.new)) }
+    ensures left { LeavesFiles (chosen asked.now) trace.now (Rose (S.write_faults shelf.old) (S.write_faults shelf.new)) (S.content shelf.old) (S.content shelf.new) }
+    ensures failed { IsErrOf result WriteRefusal.Failed → Rose (S.write_faults shelf.old) (S.write_faults shelf.new) }
+    ensures writes { S.write_faults shelf.old ≤ S.write_faults shelf.new }
+    ensures reads { S.read_faults shelf.new ≡ S.read_faults shelf.old }
+{
+    put_trace(alloc, &asked.trace, trace, shelf)?;
+    put_schedule(alloc, &asked.schedule, trace, shelf)
+}
+
+/// Writes the summary and then the files, each where it is asked for.
+fn deliver<S: Shelf, K: Sink>(
+    alloc: Global,
+    asked: &Settings,
+    trace: &[Entry],
+    shelf: &mut S,
+    out: &mut K,
+) -> Result<(), WriteRefusal>
+    requires apart { are_apart asked.now.trace asked.now.schedule ≡ true }
+    ensures ok { OnOk result (Appends (K.written out.old) (summary_for (chosen asked.now) trace.now) (K.written out.new)) }
+    ensures err { OnErr result (AppendsPrefix (K.written out.old) (summary_for (chosen asked.now) trace.now) (K.written out.new)) }
+    ensures put { OnOk result (HasFiles (chosen asked.now) trace.now (S.content shelf.old) (S.content shelf.new)) }
+    ensures left { LeavesFiles (chosen asked.now) trace.now (Rose (S.write_faults shelf.old) (S.write_faults shelf.new)) (S.content shelf.old) (S.content shelf.new) }
+    ensures failed { IsErrOf result WriteRefusal.Failed → Rose (K.faults out.old) (K.faults out.new) ⊎ Rose (S.write_faults shelf.old) (S.write_faults shelf.new) }
+    ensures later { K.faults out.old ≤ K.faults out.new }
+    ensures reads { S.read_faults shelf.new ≡ S.read_faults shelf.old }
+{
+    tell_summary(alloc, asked, trace, out)?;
+    put_files(alloc, asked, trace, shelf)
+}
+
+/// Tells what is asked for of a command that has come to its end. A refused write is its status.
+pub(crate) fn tell_all<S: Shelf, K: Sink>(
+    alloc: Global,
+    asked: &Settings,
+    ran: Report,
+    shelf: &mut S,
+    out: &mut K,
+) -> Report
+    requires apart { are_apart asked.now.trace asked.now.schedule ≡ true }
+    ensures tells { Tells (chosen asked.now) ran (K.written out.old) (K.written out.new) result }
+    ensures put { is_told result.status ≡ true → HasFiles (chosen asked.now) ran.trace (S.content shelf.old) (S.content shelf.new) }
+    ensures left { LeavesFiles (chosen asked.now) ran.trace (Rose (S.write_faults shelf.old) (S.write_faults shelf.new)) (S.content shelf.old) (S.content shelf.new) }
+    ensures failed { result.status ≡ Status.WriteFault → (ran.status ≡ Status.WriteFault) ⊎ (Rose (K.faults out.old) (K.faults out.new) ⊎ Rose (S.write_faults shelf.old) (S.write_faults shelf.new)) }
+    ensures later { K.faults out.old ≤ K.faults out.new }
+    ensures reads { S.read_faults shelf.new ≡ S.read_faults shelf.old }
+{
+    if !ran.status.is_told() {
+        return ran;
+    }
+    match deliver(alloc, asked, ran.trace.as_slice(), shelf, out) {
+        Ok(()) => ran,
+        Err(refusal) => Report {
+            status: Status::from(refusal),
+            trace: ran.trace,
+            wires: ran.wires,
+        },
+    }
+}
