@@ -67,7 +67,8 @@ fn count(what: Counted, trace: &[Entry]) -> u128
 {
     let mut total = 0;
     for entry in trace {
-        total += count_in(what, entry.labels.as_slice()) as u128;
+        let mut room = None;
+        total += count_in(what, entry.labels.as_slice(&mut room)) as u128;
     }
     total
 }
@@ -119,7 +120,8 @@ fn end_of_main(trace: &[Entry]) -> Option<End>
     ensures { result ≡ main_end (labels_of trace.now) }
 {
     for entry in trace {
-        match main_end(entry.labels.as_slice()) {
+        let mut room = None;
+        match main_end(entry.labels.as_slice(&mut room)) {
             Some(end) => return Some(end),
             None => {}
         }

@@ -1,12 +1,12 @@
 //! The labels of an entry, kept small.
 
-ghost use Rattle.std.specs.Prelude.{◌≡◌, IfOk};
+ghost use Rattle.std.specs.Prelude.{◌≡◌, [], IfOk};
 
 use crate::label::{Extra, Label};
-use basics::{Items, NoMemory};
+use basics::Items;
 use rv_step::Stop;
 use slot_space::Tid;
-use std::alloc::Global;
+use std::alloc::{AllocError, Global};
 use std::marker::Model;
 
 /// The labels of an entry, in order. Those of a call without arguments that is answered at once take no memory of their own.
@@ -32,7 +32,7 @@ enum Kept {
 }
 
 // The same labels, with no room for more.
-fn without_room(alloc: Global, labels: Vec<Label>) -> Result<Vec<Label>, NoMemory>
+fn without_room(alloc: Global, labels: Vec<Label>) -> Result<Vec<Label>, AllocError>
     ensures { IfOk result (λ exact. exact.items ≡ labels.items) }
 {
     let mut labels = labels;
@@ -53,8 +53,18 @@ impl Model for Labels {
 }
 
 impl Labels {
+    /// No labels.
+    pub fn none(alloc: Global) -> Labels
+        ensures { result ≡ [] }
+    {
+        Labels {
+            alloc,
+            kept: Kept::All(Items::new(Vec::new(alloc))),
+        }
+    }
+
     /// These labels.
-    pub fn new(alloc: Global, labels: Items<Label>) -> Result<Labels, NoMemory>
+    pub fn new(alloc: Global, labels: Items<Label>) -> Result<Labels, AllocError>
         ensures { IfOk result (λ l. l ≡ labels) }
     {
         let kept = match labels.as_slice() {

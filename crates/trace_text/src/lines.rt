@@ -10,7 +10,7 @@ use crate::labels::label_named;
 use crate::one_word::cut;
 use crate::several::{act, long, small};
 use basics::Items;
-use run_trace::{Entry, Label};
+use run_trace::{Entry, Label, Labels};
 use slot_space::NodeNo;
 use std::alloc::{AllocError, Global};
 
@@ -45,7 +45,7 @@ fn head(alloc: Global, rest: &[u8]) -> Option<(Entry, &[u8])>
         node: NodeNo(node),
         round,
         act,
-        labels: Items::new(Vec::new(alloc)),
+        labels: Labels::none(alloc),
     };
     Some((entry, rest))
 }
@@ -88,7 +88,7 @@ fn line_at(alloc: Global, line: &[u8]) -> Result<Option<Line>, AllocError>
     label_line(alloc, name, rest)
 }
 
-fn shut(reading: Reading) -> Result<Vec<Entry>, AllocError>
+fn shut(alloc: Global, reading: Reading) -> Result<Vec<Entry>, AllocError>
     ensures { IfOk result (λ v. v.items ≡ shut reading.done.items reading.last reading.labels.items) }
 {
     let Reading { done, last, labels } = reading;
@@ -99,7 +99,7 @@ fn shut(reading: Reading) -> Result<Vec<Entry>, AllocError>
             node: last.node,
             round: last.round,
             act: last.act,
-            labels: Items::new(labels),
+            labels: Labels::new(alloc, Items::new(labels))?,
         })?;
     }
     Ok(done)
@@ -111,7 +111,7 @@ fn add_line(alloc: Global, line: u32, reading: Reading, bytes: &[u8]) -> Result<
     match line_at(alloc, bytes)? {
         None => Err(TextError::BadLine { line }),
         Some(Line::Head(entry)) => Ok(Reading {
-            done: shut(reading)?,
+            done: shut(alloc, reading)?,
             last: Some(entry),
             labels: Vec::new(alloc),
         }),
@@ -165,7 +165,7 @@ fn read_lines(alloc: Global, text: &[u8]) -> Result<Vec<Entry>, TextError>
         line += 1;
         rest = behind;
     }
-    Ok(shut(reading)?)
+    Ok(shut(alloc, reading)?)
 }
 
 /// The trace of a text, or the first line that isn't of the grammar.

@@ -393,7 +393,8 @@ fn push_entry(out: &mut Vec<u8>, entry: &Entry) -> Result<(), AllocError>
     ensures { OnOk result (out.new.items ≡ out.old.items ++ flat_map line_text (entry_lines entry.now)) }
 {
     push_head(out, entry)?;
-    for label in entry.labels.as_slice() {
+    let mut room = None;
+    for label in entry.labels.as_slice(&mut room) {
         push_label(out, label)?;
         out.push(b'\n')?;
     }
