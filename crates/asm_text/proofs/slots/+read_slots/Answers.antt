@@ -16,3 +16,6 @@ returns-clause-value t c =
     let tokens = map token_of c.args.tokens.now in
     let fields = fields_seen c.args.fields in
     c.read_values.ensures.value ∙ sym (ap (λ (ss : List Slot). read_slots ss tokens fields) e ∙ values_last others c.in-Values.below c.in-Values.above c.in-Values.labels tokens fields none)
+
+pub returns-in-Err-read_slots-clause-value : goal.returns-in-Err-read_slots-clause-value
+returns-in-Err-read_slots-clause-value t c = search rules
