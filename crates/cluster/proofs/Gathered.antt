@@ -1,11 +1,11 @@
 -- What nodes do after a legal trace goes on with it.
-use Rattle.std.proofs.Common.{◌≡◌, ◌≢◌, ℕ, suc, ◌+◌, ◌<◌, ◌≤◌, max, List, [], ◌∷◌, ◌++◌, length, map, Bool, true, false, eqb, cond, refl, sym, ap, ◌∙◌, subst, arith, inl, inr, append_assoc}
+use Rattle.std.proofs.Common.{◌≡◌, ◌≢◌, ℕ, ◌<◌, max, List, [], ◌∷◌, ◌++◌, map, Bool, true, false, eqb, cond, refl, sym, ap, ◌∙◌, subst, arith, inl, inr, append_assoc}
 use Rattle.std.proofs.lemmas.Bool.{eq-eqb}
 use Rattle.std.proofs.Math.Nat.{le-max_left}
 use Rattle.run_trace.specs.declared.entry.Act.{Act}
 use Rattle.run_trace.specs.declared.entry.Act.TheVariants.{Boot, Run, Take, Move}
 use Rattle.run_trace.specs.declared.entry.Entry.{Entry}
-use Rattle.run_trace.specs.Cluster.{Event, Happens, IsAbove, IsDescending, Merges, Net, Runs, fresh_net, net_of, own, received, sent, state}
+use Rattle.run_trace.specs.Cluster.{Event, Happens, IsAbove, IsDescending, Merges, Net, Runs, fresh_net, net_of, own, received, state}
 use Rattle.run_trace.specs.Histories.{IsEntryAbove, IsHistory, IsInOrder, IsStamped, Turn, clock, seen, sent_to, taken_from}
 use Rattle.run_trace.specs.Legality.{AreRising, Begins, Legal, NoneAbove, boot_entries}
 use Rattle.run_trace.specs.Program.{Program, nodes_of}
@@ -78,9 +78,10 @@ module _ (p : Program) (old : List Entry) (top round : ℕ) (clocks : ℕ → �
       → ((n : ℕ) → IsHistory p n (clocks n) ((net_after p old).nodes n) (own_turns n turns)) → IsInOrder (entries_in turns ++ old)
   in_order [] o d h = legal.order
   in_order (t ∷ before) o d h =
-      let late : t.began < t.event.stamp = newest_later p clocks (net_after p old) t before o.0.2 (h t.event.node) in
-      (front_above t.event (events_in before) old d.0 (above top (entry_of t.event) (omega (arith, late, o.0.0)) old stamps),
-      in_order before o.1 d.1 (λ n. before_it p clocks (net_after p old) n t before (h n)))
+      let late : t.began < t.event.stamp = newest_later p clocks (net_after p old) t before o.0.2 (h t.event.node) in (
+        front_above t.event (events_in before) old d.0 (above top (entry_of t.event) (omega (arith, late, o.0.0)) old stamps),
+        in_order before o.1 d.1 (λ n. before_it p clocks (net_after p old) n t before (h n)),
+      )
 
   none_above : (turns : List Turn) → AreOfRound top round turns → NoneAbove round (entries_in turns ++ old)
   none_above [] o = rounds
