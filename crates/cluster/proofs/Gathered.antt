@@ -1,5 +1,5 @@
 -- What nodes do after a legal trace goes on with it.
-use Rattle.std.proofs.Common.{◌≡◌, ◌≢◌, ℕ, ◌<◌, max, List, [], ◌∷◌, ◌++◌, map, Bool, true, false, eqb, cond, refl, sym, ap, ◌∙◌, subst, arith, inl, inr, append_assoc}
+use Rattle.std.proofs.Common.{◌≡◌, ◌≢◌, ℕ, ◌<◌, max, List, [], ◌∷◌, ◌++◌, Some, map, Bool, true, false, eqb, cond, refl, sym, ap, ◌∙◌, subst, arith, inl, inr, append_assoc}
 use Rattle.std.proofs.lemmas.Bool.{eq-eqb}
 use Rattle.std.proofs.Math.Nat.{le-max_left}
 use Rattle.run_trace.specs.declared.entry.Act.{Act}
@@ -16,7 +16,12 @@ use Rattle.trace_laws.proofs.Determined.{determined}
 use Rattle.trace_laws.proofs.Legals.{whole}
 use Rattle.trace_laws.proofs.Merge.{node_is, link_is}
 use Rattle.cluster.specs.Gathering.{AreGathered, AreJoined, AreOfRound, GathersAfter, JoinsAfter, entries_in}
-use Rattle.cluster.specs.Standing.{NoneLater, net_after, turn_in}
+use Rattle.cluster.specs.Standing.{AgreesWith, IsNodeOf, NoneLater, net_after, turn_in}
+use Rattle.cluster.specs.View.{ClusterView}
+use Rattle.node_loop.specs.Histories.{HasHistory}
+use Rattle.node_loop.specs.View.{NodeView}
+use Rattle.run_trace.specs.Local.{Local}
+use Rattle.std.specs.Prelude.{slice_get}
 use Rattle.cluster.proofs.Runs.{above, links_within, net_joined}
 
 -- ## One run after another
@@ -44,6 +49,16 @@ are_joined p old lines histories j run nodes links = record {
   nodes = λ n. ap (λ (net : Net). net.nodes n) (sym (net_joined p (fresh_net p) old lines)) ∙ nodes n;
   links = λ i k. ap (λ (net : Net). taken_from i (histories k) ++ net.links i k) (sym (net_joined p (fresh_net p) old lines)) ∙ links i k;
 }
+
+-- ## The turns of a node
+
+pub from_the_trace : (c : ClusterView) (before kept : List Entry) → AgreesWith c before kept → (n : ℕ) (v new : NodeView) → slice_get c.nodes n ≡ Some v → (turns : List Turn) → HasHistory v turns new
+    → IsHistory c.program n v.clock ((net_after c.program (kept ++ before)).nodes n) turns
+from_the_trace c before kept s n v new at turns h =
+    let node : IsNodeOf c (kept ++ before) n v = s.node n v at in
+    subst (λ (l : Local). IsHistory c.program n v.clock l turns) (sym node.state)
+    (subst (λ m. IsHistory c.program m v.clock v.state turns) node.me
+    (subst (λ (q : Program). IsHistory q v.me v.clock v.state turns) node.program h.history))
 
 -- ## The turns of a round
 
