@@ -1,11 +1,11 @@
 -- What nodes do after a legal trace goes on with it.
-use Rattle.std.proofs.Common.{◌≡◌, ◌≢◌, ℕ, suc, ◌+◌, ◌<◌, ◌≤◌, max, List, [], ◌∷◌, ◌++◌, length, map, Bool, true, false, eqb, cond, refl, sym, ap, ◌∙◌, subst, arith, inl, inr, append_assoc}
+use Rattle.std.proofs.Common.{◌≡◌, ◌≢◌, ℕ, ◌<◌, max, List, [], ◌∷◌, ◌++◌, Some, map, Bool, true, false, eqb, cond, refl, sym, ap, ◌∙◌, subst, arith, inl, inr, append_assoc}
 use Rattle.std.proofs.lemmas.Bool.{eq-eqb}
 use Rattle.std.proofs.Math.Nat.{le-max_left}
 use Rattle.run_trace.specs.declared.entry.Act.{Act}
 use Rattle.run_trace.specs.declared.entry.Act.TheVariants.{Boot, Run, Take, Move}
 use Rattle.run_trace.specs.declared.entry.Entry.{Entry}
-use Rattle.run_trace.specs.Cluster.{Event, Happens, IsAbove, IsDescending, Merges, Net, Runs, fresh_net, net_of, own, received, sent, state}
+use Rattle.run_trace.specs.Cluster.{Event, Happens, IsAbove, IsDescending, Merges, Net, Runs, fresh_net, net_of, own, received, state}
 use Rattle.run_trace.specs.Histories.{IsEntryAbove, IsHistory, IsInOrder, IsStamped, Turn, clock, seen, sent_to, taken_from}
 use Rattle.run_trace.specs.Legality.{AreRising, Begins, Legal, NoneAbove, boot_entries}
 use Rattle.run_trace.specs.Program.{Program, nodes_of}
@@ -16,7 +16,12 @@ use Rattle.trace_laws.proofs.Determined.{determined}
 use Rattle.trace_laws.proofs.Legals.{whole}
 use Rattle.trace_laws.proofs.Merge.{node_is, link_is}
 use Rattle.cluster.specs.Gathering.{AreGathered, AreJoined, AreOfRound, GathersAfter, JoinsAfter, entries_in}
-use Rattle.cluster.specs.Standing.{NoneLater, net_after, turn_in}
+use Rattle.cluster.specs.Standing.{AgreesWith, IsNodeOf, NoneLater, net_after, turn_in}
+use Rattle.cluster.specs.View.{ClusterView}
+use Rattle.node_loop.specs.Histories.{HasHistory}
+use Rattle.node_loop.specs.View.{NodeView}
+use Rattle.run_trace.specs.Local.{Local}
+use Rattle.std.specs.Prelude.{slice_get}
 use Rattle.cluster.proofs.Runs.{above, links_within, net_joined}
 
 -- ## One run after another
@@ -44,6 +49,16 @@ are_joined p old lines histories j run nodes links = record {
   nodes = λ n. ap (λ (net : Net). net.nodes n) (sym (net_joined p (fresh_net p) old lines)) ∙ nodes n;
   links = λ i k. ap (λ (net : Net). taken_from i (histories k) ++ net.links i k) (sym (net_joined p (fresh_net p) old lines)) ∙ links i k;
 }
+
+-- ## The turns of a node
+
+pub from_the_trace : (c : ClusterView) (before kept : List Entry) → AgreesWith c before kept → (n : ℕ) (v new : NodeView) → slice_get c.nodes n ≡ Some v → (turns : List Turn) → HasHistory v turns new
+    → IsHistory c.program n v.clock ((net_after c.program (kept ++ before)).nodes n) turns
+from_the_trace c before kept s n v new at turns h =
+    let node : IsNodeOf c (kept ++ before) n v = s.node n v at in
+    subst (λ (l : Local). IsHistory c.program n v.clock l turns) (sym node.state)
+    (subst (λ m. IsHistory c.program m v.clock v.state turns) node.me
+    (subst (λ (q : Program). IsHistory q v.me v.clock v.state turns) node.program h.history))
 
 -- ## The turns of a round
 
@@ -78,9 +93,10 @@ module _ (p : Program) (old : List Entry) (top round : ℕ) (clocks : ℕ → �
       → ((n : ℕ) → IsHistory p n (clocks n) ((net_after p old).nodes n) (own_turns n turns)) → IsInOrder (entries_in turns ++ old)
   in_order [] o d h = legal.order
   in_order (t ∷ before) o d h =
-      let late : t.began < t.event.stamp = newest_later p clocks (net_after p old) t before o.0.2 (h t.event.node) in
-      (front_above t.event (events_in before) old d.0 (above top (entry_of t.event) (omega (arith, late, o.0.0)) old stamps),
-      in_order before o.1 d.1 (λ n. before_it p clocks (net_after p old) n t before (h n)))
+      let late : t.began < t.event.stamp = newest_later p clocks (net_after p old) t before o.0.2 (h t.event.node) in (
+        front_above t.event (events_in before) old d.0 (above top (entry_of t.event) (omega (arith, late, o.0.0)) old stamps),
+        in_order before o.1 d.1 (λ n. before_it p clocks (net_after p old) n t before (h n)),
+      )
 
   none_above : (turns : List Turn) → AreOfRound top round turns → NoneAbove round (entries_in turns ++ old)
   none_above [] o = rounds

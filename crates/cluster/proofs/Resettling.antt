@@ -1,19 +1,19 @@
 -- A cluster whose links are settled agrees with the same trace.
-use Rattle.std.proofs.Common.{◌≡◌, ℕ, ◌<◌, ◌≤◌, List, ◌++◌, length, reverse, Option, Some, refl, sym, ap, ◌∙◌, subst, arith}
+use Rattle.std.proofs.Common.{◌≡◌, ℕ, List, ◌++◌, length, reverse, Option, Some, refl, sym, ap, ◌∙◌, subst, arith}
 use Rattle.std.specs.Prelude.{slice_get}
 use Rattle.std.proofs.lemmas.Option.{slice_get_past, slice_get_within}
 use Rattle.run_trace.specs.declared.entry.Entry.{Entry}
 use Rattle.run_trace.specs.declared.packet.Packet.{Packet}
 use Rattle.run_trace.specs.Console.{console_of}
 use Rattle.run_trace.specs.Legality.{NoneAbove}
-use Rattle.run_trace.specs.Program.{Program, nodes_of}
+use Rattle.run_trace.specs.Program.{Program}
 use Rattle.run_trace.specs.Spots.{at_first}
 use Rattle.wires.specs.declared.ends.Ends.{Ends}
 use Rattle.wires.proofs.Gets.{by_less, some_at}
 use Rattle.node_loop.specs.View.{NodeView, with_ends}
-use Rattle.cluster.specs.Between.{AllOf, AreNumbered, KeepNodes, SettlesAll, wires_in}
-use Rattle.cluster.specs.Standing.{AgreesWith, IsNodeOf, NoneLater, StandsFor, entries_at, net_after}
-use Rattle.cluster.specs.View.{ClusterView, console_at, greatest_clock, round_at, round_in, view_of}
+use Rattle.cluster.specs.Between.{AllOf, AreNumbered, KeepNodes, SettlesAll}
+use Rattle.cluster.specs.Standing.{AgreesWith, NoneLater, StandsFor, entries_at, net_after}
+use Rattle.cluster.specs.View.{ClusterView, console_at, greatest_clock, round_at, view_of}
 use Rattle.cluster.proofs.Acting.{all_still}
 use Rattle.cluster.proofs.Clocks.{clock_within, greatest_most}
 use Rattle.cluster.proofs.TheStep.{numbered_all}
@@ -38,11 +38,13 @@ module _ (vs ws : List NodeView) (k : KeepNodes vs ws) where
       (λ past. ap f (slice_get_past ws m (omega (arith, past, k.count))) ∙ sym (ap f (slice_get_past vs m past)))
 
   same_clocks : greatest_clock ws ≡ greatest_clock vs
-  same_clocks = omega (arith,
-      greatest_most (greatest_clock vs) ws (λ n w e. let o : Was n w = was_at n w e in omega (arith, ap (λ (z : NodeView). z.clock) o.is, clock_within vs n o.old o.was)),
-      greatest_most (greatest_clock ws) vs (λ n v e.
-      let w = some_at ws n (omega (arith, k.count, slice_get_within vs n v e)) in
-      omega (arith, ap (λ (z : NodeView). z.clock) (k.each n v w.0 e w.1), clock_within ws n w.0 w.1)))
+  same_clocks = omega (
+    arith,
+    greatest_most (greatest_clock vs) ws (λ n w e. let o : Was n w = was_at n w e in omega (arith, ap (λ (z : NodeView). z.clock) o.is, clock_within vs n o.old o.was)),
+    greatest_most (greatest_clock ws) vs (λ n v e.
+        let w = some_at ws n (omega (arith, k.count, slice_get_within vs n v e)) in
+        omega (arith, ap (λ (z : NodeView). z.clock) (k.each n v w.0 e w.1), clock_within ws n w.0 w.1)),
+  )
 
 pub settled_stands : (p : Program) (turns : ℕ) (vs ws : List NodeView) (rest : List (Ends Packet)) (before kept : List Entry) → AgreesWith (view_of p turns vs rest) before kept → SettlesAll rest vs ws
     → StandsFor (view_of p turns ws rest) before kept

@@ -1,6 +1,6 @@
 -- What it means that a cluster stands for a trace, and what a step adds. The trace is in two parts, each newest entry first: what
 -- came before, of which the nodes keep nothing but what it left, and the entries that they keep.
-use Rattle.std.specs.Prelude.{◌≡◌, ◌+◌, ◌<◌, ◌≤◌, ◌%◌, ◌^◌, ⊤, ℕ, suc, max, List, [], ◌∷◌, ◌++◌, length, reverse, Option, Some, None, true, slice_get}
+use Rattle.std.specs.Prelude.{◌≡◌, ◌+◌, ◌<◌, ◌≤◌, ◌%◌, ◌^◌, ⊤, ℕ, suc, List, [], ◌∷◌, ◌++◌, length, reverse, Option, Some, None, true, slice_get}
 use Rattle.run_trace.specs.declared.entry.Act.{Act}
 use Rattle.run_trace.specs.declared.entry.Act.TheVariants.{Boot, Run, Take, Move}
 use Rattle.run_trace.specs.declared.entry.Entry.{Entry}

@@ -13,4 +13,4 @@ mod stepping;
 
 pub use cluster::Cluster;
 pub use deciding::State;
-pub use laws::{rounds_gather, runs_join};
+pub use laws::{nodes_have_histories, rounds_gather, runs_join};

@@ -1,12 +1,11 @@
 -- A cluster that has done some acts stands after each step.
-use Rattle.std.proofs.Common.{◌≡◌, ℕ, suc, ◌+◌, ◌<◌, List, [], ◌∷◌, refl, sym, ap, ◌∙◌, subst, arith}
+use Rattle.std.proofs.Common.{ℕ, suc, ◌<◌, [], ◌∷◌, sym, ap, ◌∙◌, subst, arith}
 use Rattle.run_trace.specs.declared.entry.Act.{Act}
 use Rattle.run_trace.specs.Program.{Program, nodes_of}
-use Rattle.node_loop.specs.Turns.{entry_limit}
 use Rattle.node_loop.specs.declared.node.Turned.{Turned}
 use Rattle.node_loop.specs.declared.node.Turned.TheVariants.{Did, Idle}
 use Rattle.cluster.specs.Standing.{HasRoom, IsStanding, Steps}
-use Rattle.cluster.specs.View.{ClusterView, greatest_clock}
+use Rattle.cluster.specs.View.{ClusterView}
 use Rattle.cluster.proofs.Clocks.{has_room}
 use Rattle.cluster_tests.specs.Walks.{IsWalked}
 

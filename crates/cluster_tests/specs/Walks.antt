@@ -1,5 +1,5 @@
 -- A cluster of two nodes that was booted and has done some acts, each in a round of its own.
-use Rattle.std.specs.Prelude.{◌≡◌, ℕ, suc, List, []}
+use Rattle.std.specs.Prelude.{◌≡◌, suc, List, []}
 use Rattle.run_trace.specs.declared.entry.Entry.{Entry}
 use Rattle.run_trace.specs.Program.{nodes_of}
 use Rattle.cluster.specs.Standing.{StandsFor}

@@ -35,7 +35,10 @@ enum Possible {
     Nothing,
 }
 
-const MAIN: Tid = Tid { home: NodeNo(0), seq: 0 };
+const MAIN: Tid = Tid {
+    home: NodeNo(0),
+    seq: 0,
+};
 
 const ROWS: [Row; 13] = [
     Row {

@@ -1,18 +1,16 @@
 -- Turns of a node, one after another, are a history of it.
-use Rattle.std.proofs.Common.{◌≡◌, ℕ, suc, ◌<◌, ◌≤◌, max, List, [], ◌∷◌, ◌++◌, length, reverse, Option, Some, refl, sym, ap, ◌∙◌, subst, arith, append_assoc, append-nil}
+use Rattle.std.proofs.Common.{◌≡◌, suc, max, List, [], ◌∷◌, ◌++◌, reverse, Some, sym, ap, ◌∙◌, subst, arith, append_assoc, append-nil}
 use Rattle.std.proofs.lemmas.List.{reverse-append}
 use Rattle.run_trace.specs.declared.entry.Act.{Act}
-use Rattle.run_trace.specs.declared.entry.Entry.{Entry}
-use Rattle.run_trace.specs.declared.packet.Packet.{Packet}
 use Rattle.run_trace.specs.Cluster.{after_or, taken_of}
 use Rattle.run_trace.specs.Histories as histories
 use Rattle.run_trace.specs.Histories.{Turn, IsTurn, clock, seen, taken_from, turn_state}
 use Rattle.run_trace.specs.Links.{packets_to}
-use Rattle.run_trace.specs.Local.{Local, Doing}
+use Rattle.run_trace.specs.Local.{Local}
 use Rattle.run_trace.specs.Machine.{turn_event}
 use Rattle.run_trace.specs.Program.{Program}
 use Rattle.run_trace.specs.Trace.{entry_of}
-use Rattle.wires.specs.Ends.{width, sent_to, received_from}
+use Rattle.wires.specs.Ends.{sent_to, received_from}
 use Rattle.node_loop.specs.View.{NodeView}
 use Rattle.node_loop.specs.Turns.{Does, turn_of}
 use Rattle.node_loop.specs.Histories.{HasHistory, TakesTurn, TakesTurns, entries_of_turns, events_of_turns}

@@ -33,6 +33,7 @@ returns-clause-first c =
     let p = program c.args.setup.now c.args.image in
     let vs = c.in_ok-nodes.nodes.items in
     let rest = c.in_ok-nodes.rest.items in
-    let ready = subst (λ ws. AreReady p c.args.setup.now.geometry.nodes ws vs rest) c.in_ok-ends.ensures c.in_ok-nodes.ensures in
-    (ready_clock p c.args.wires c.requires.fresh c.requires.wide vs rest ready c.requires.quantum.0 c.requires.quantum.1 c.requires.image,
-    ready_round p c.args.wires c.requires.fresh c.requires.wide vs rest ready c.requires.quantum.0 c.requires.quantum.1 c.requires.image)
+    let ready = subst (λ ws. AreReady p c.args.setup.now.geometry.nodes ws vs rest) c.in_ok-ends.ensures c.in_ok-nodes.ensures in (
+      ready_clock p c.args.wires c.requires.fresh c.requires.wide vs rest ready c.requires.quantum.0 c.requires.quantum.1 c.requires.image,
+      ready_round p c.args.wires c.requires.fresh c.requires.wide vs rest ready c.requires.quantum.0 c.requires.quantum.1 c.requires.image,
+    )
