@@ -1,10 +1,10 @@
 //! The run list.
 
-ghost use Rattle.std.specs.Prelude.{◌≡◌, ℕ, IfOk, Some, [], length, slice_get};
+ghost use Rattle.std.specs.Prelude.{◌≡◌, ℕ, IfOk, Some, [], length, slice_get, if◌then◌else◌};
 ghost use Rattle.std.specs.List.{position};
 ghost use Rattle.run_trace.specs.Names.{is_tid};
 ghost use Rattle.run_trace.specs.Trees.{Tree};
-ghost use Rattle.run_trace.specs.Places.{arrived, without_row, taken_off, is_listed, better, best_of, best_on};
+ghost use Rattle.run_trace.specs.Places.{arrived, without_row, taken_off, is_listed, better, best_on};
 ghost use Rattle.run_list.specs.Names.{names_of};
 ghost use Rattle.run_list.specs.Views.{places_of};
 
@@ -58,27 +58,15 @@ fn row_out(rows: &mut Vec<Row>, t: Tid)
     }
 }
 
-// Of two rows the one of the greater priority, among equals the one that arrived first.
-fn better(a: Row, b: Row) -> Row
-    ensures { result ≡ better a b }
+// Whether the second row is the better of the two: by priority, among equals by arrival.
+#[inline(always)]
+fn is_passed(a: &Row, b: &Row) -> bool
+    ensures { better a.now b.now ≡ (if result then b.now else a.now) }
 {
-    if a.priority < b.priority {
-        return b;
-    }
-    if a.priority == b.priority && b.arrival < a.arrival {
-        b
+    if a.priority == b.priority {
+        b.arrival < a.arrival
     } else {
-        a
-    }
-}
-
-// A row beside the best of those after it.
-fn best_of(row: Row, best: Option<Row>) -> Row
-    ensures { best_of row best ≡ Some result }
-{
-    match best {
-        None => row,
-        Some(other) => better(row, other),
+        a.priority < b.priority
     }
 }
 
@@ -149,12 +137,18 @@ impl RunList {
     pub fn best(&self) -> Option<Row>
         ensures { (tree : Tree) (vp : ℕ) → result ≡ best_on tree vp self.now.rows }
     {
-        let mut best = None;
         let mut place = self.rows.len();
+        if place == 0 {
+            return None;
+        }
+        place -= 1;
+        let mut at = place;
         while place > 0 {
             place -= 1;
-            best = Some(best_of(self.rows[place], best));
+            if !is_passed(&self.rows[place], &self.rows[at]) {
+                at = place;
+            }
         }
-        best
+        Some(self.rows[at])
     }
 }
