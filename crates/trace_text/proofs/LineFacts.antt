@@ -1,5 +1,5 @@
 -- Lines, for the functions that read them.
-use Rattle.std.proofs.Common.{◌≡◌, ℕ, ◌+◌, ◌<◌, List, [], ◌∷◌, ◌++◌, length, eqb, false, subst, Option, Some, None, Result, Ok, Err, refl, sym, ap, ◌∙◌, append_assoc, arith}
+use Rattle.std.proofs.Common.{◌≡◌, ℕ, ◌+◌, ◌<◌, List, [], ◌∷◌, length, eqb, false, subst, None, Result, Ok, Err, refl, sym, ap, ◌∙◌, arith}
 use Rattle.trace_text.specs.Reading.{parts, left}
 use Rattle.std.proofs.lemmas.Bool.{ne_eqb}
 use Rattle.run_trace.specs.declared.entry.Entry.{Entry}

@@ -1,5 +1,5 @@
 -- One word, both ways: what is written of a value is read as it, and what is read as a value is written so.
-use Rattle.std.proofs.Common.{◌≡◌, ℕ, zero, suc, ◌+◌, ◌*◌, ◌-◌, ◌/◌, ◌%◌, ◌^◌, ◌<◌, ◌≤◌, Bool, true, false, cond, eqb, ltb, leb, not, ◌&&◌, ◌||◌, List, [], ◌∷◌, ◌++◌, length, get_or, Option, Some, None, refl, sym, ap, subst, ◌∙◌, inl, inr, append_assoc, arith, rules, tests}
+use Rattle.std.proofs.Common.{◌≡◌, ℕ, ◌+◌, ◌*◌, ◌-◌, ◌/◌, ◌%◌, ◌^◌, ◌<◌, ◌≤◌, Bool, true, false, cond, eqb, ltb, leb, not, ◌&&◌, ◌||◌, List, [], ◌∷◌, ◌++◌, length, get_or, Option, Some, None, refl, sym, ap, subst, ◌∙◌, inl, inr, arith, rules, tests}
 use Rattle.std.specs.Prelude.{map, decimal, codes}
 use Rattle.std.specs.List.{flat_map, join_with_byte, All, AllByRecursion, list_all}
 use Rattle.std.specs.Char.{is_ascii_digit}
@@ -7,7 +7,7 @@ use Rattle.std.specs.Str.{bytes_eq, all_ascii_digits}
 use Rattle.std.specs.Str.Parse.{digits_value}
 use Rattle.std.proofs.lemmas.Bool.{cases_Bool, cases_lt, lt-ltb, ltb-true, le-leb, leb-true, le-ltb, lt-leb, ne_eqb, eq-eqb, eqb-true, eqb-false, not-true, and_parts, or_cases}
 use Rattle.std.proofs.lemmas.List.Splits.{slice_split_at, slice_split_none, join_with_byte-slice_split}
-use Rattle.std.proofs.lemmas.List.Elements.{All-from_recursion, All-append, All-cons, All-nil}
+use Rattle.std.proofs.lemmas.List.Elements.{All-from_recursion, All-append, All-cons}
 use Rattle.std.proofs.lemmas.Fmt.{decimal_is_IsNumeral, first_decimal, decimal_digit, decimal-digits_value, digits_value-decimal, digits_decimal}
 use Rattle.std.proofs.lemmas.Str.Parse.{IsNumeralModel, numerals_by_value, tells_all_ascii_digits}
 use Rattle.std.proofs.lemmas.Slice.Eq.{bytes_eq-Decides}
@@ -34,7 +34,7 @@ only_some false x y e = absurd cc
 
 -- ---- numbers
 
-own : IsNumeralModel (λ ds. all_ascii_digits ds ≡ true) (digits_value 10)
+pub own : IsNumeralModel (λ ds. all_ascii_digits ds ≡ true) (digits_value 10)
 own = numerals_by_value (λ ds. all_ascii_digits ds ≡ true) tells_all_ascii_digits
 
 -- no zero in front, or it alone
@@ -93,6 +93,10 @@ last_part c xs h = slice_split_none (λ b. eqb b c) xs h
 pub first_part : (c : ℕ) (xs ys : List ℕ) → IsApart c xs → parts c (xs ++ c ∷ ys) ≡ xs ∷ parts c ys
 first_part c xs ys h = slice_split_at (λ b. eqb b c) xs c ys h (eq-eqb c c refl)
 
+-- no byte is a blank or below
+abbrev pub plain : List ℕ → Bool
+plain w = list_all (λ b. ltb 32 b) w
+
 -- ---- names
 
 pub tid_apart : (c : ℕ) (t : Tid) → c < 46 → FitsTid t → IsApart c (tid_text t)
@@ -146,7 +150,7 @@ slots_from_again (n ∷ ns) least h =
     rw (number_again 65535 n (omega (arith, h.1)) (omega arith), within, slots_from_again ns (n + 1) h.2) refl
 
 -- a number doesn't begin as the sign for none
-not_none : (ds rest : List ℕ) → 0 < length ds → all_ascii_digits ds ≡ true → bytes_eq (ds ++ rest) (codes "-") ≡ false
+pub not_none : (ds rest : List ℕ) → 0 < length ds → all_ascii_digits ds ≡ true → bytes_eq (ds ++ rest) (codes "-") ≡ false
 not_none [] rest lt h = absurd (omega arith)
 not_none (d ∷ ds) rest lt h =
     let p = and_parts (is_ascii_digit d) (all_ascii_digits ds) h in

@@ -1,10 +1,9 @@
 -- What is read as a label or as a head fits, and is written as the line that was read.
-use Rattle.std.proofs.Common.{◌≡◌, ℕ, zero, suc, ◌+◌, ◌^◌, ◌<◌, ◌≤◌, Bool, true, false, cond, eqb, List, [], ◌∷◌, ◌++◌, length, Option, Some, None, refl, sym, ap, subst, ◌∙◌, inl, inr, append_assoc, arith}
+use Rattle.std.proofs.Common.{◌≡◌, ℕ, zero, suc, ◌^◌, ◌<◌, Bool, true, false, cond, eqb, List, [], ◌∷◌, ◌++◌, length, Option, Some, None, refl, sym, ap, subst, ◌∙◌, inl, inr, append_assoc, arith}
 use Rattle.std.specs.Prelude.{map, decimal, codes}
 use Rattle.std.specs.List.{AllByRecursion}
 use Rattle.std.specs.Str.{bytes_eq}
 use Rattle.std.proofs.lemmas.Bool.{cases_Bool, eqb-true}
-use Rattle.std.proofs.lemmas.List.{append-nil}
 use Rattle.std.proofs.lemmas.Slice.Eq.{bytes_eq-Decides}
 use Rattle.slot_space.specs.declared.names.Tid.{Tid}
 use Rattle.rv_step.specs.declared.hart.FaultKind.{FaultKind}
@@ -13,7 +12,6 @@ use Rattle.rv_step.specs.declared.hart.Stop.{Stop}
 use Rattle.rv_step.specs.declared.hart.Stop.TheVariants as stops
 use Rattle.marcel_core.specs.declared.end.End.{End}
 use Rattle.marcel_core.specs.declared.end.End.TheVariants as ends
-use Rattle.run_trace.specs.declared.entry.Act.{Act}
 use Rattle.run_trace.specs.declared.entry.Act.TheVariants as acts
 use Rattle.run_trace.specs.declared.entry.Entry.{Entry}
 use Rattle.run_trace.specs.declared.label.Label.{Label}
@@ -22,12 +20,12 @@ use Rattle.run_trace.specs.declared.label.Why.{Why}
 use Rattle.run_trace.specs.declared.label.Why.TheVariants as whys
 use Rattle.run_trace.specs.declared.label.Extra.{Extra}
 use Rattle.run_trace.specs.declared.label.Extra.TheVariants as extras
-use Rattle.trace_text.specs.Calls.{CallRow, calls, named, numbered, call_named, call_numbered}
+use Rattle.trace_text.specs.Calls.{CallRow, calls, named, call_named, call_numbered}
 use Rattle.trace_text.specs.Words.{tid_text, slots_text, bytes_text, reply_text, kind_text, stop_text, first_text, act_words, why_words, end_words, extra_words}
 use Rattle.trace_text.specs.Lines.{head_words, said_words, asked_words, label_words}
 use Rattle.trace_text.specs.Fits.{FitsTid, FitsSlots, AreBytes, AreLong, FitsAct, FitsWhy, FitsEnd, FitsExtra, FitsFirst, FitsSaid, FitsAsked, Fits, FitsHead}
-use Rattle.trace_text.specs.Reading.{◌>>=◌, only_if, number_at, tid_at, slots_at, bytes_at, reply_at, kind_at, stop_at, first_at, extra_at, Reader, after, gives, one, choose, pick, number, long, word, short, small, tid, slots, reply, stop, act, act_forms, why, why_forms, end, extra, longs, said, unknown, unknown_by, asked_by, asked_named, asked_of, list_forms, thread_forms, plain_forms, plain_named, label_named, head, headed}
-use Rattle.trace_text.proofs.OneWord.{some, some_is, bind_some, only_some, number_sound, tid_sound, slots_sound, bytes_sound, reply_sound}
+use Rattle.trace_text.specs.Reading.{◌>>=◌, number_at, tid_at, slots_at, bytes_at, reply_at, kind_at, stop_at, first_at, extra_at, Reader, after, gives, one, choose, pick, long, word, short, small, tid, slots, reply, stop, act, act_forms, why, why_forms, end, extra, longs, said, unknown, unknown_by, asked_by, asked_of, list_forms, thread_forms, plain_forms, plain_named, label_named, head, headed}
+use Rattle.trace_text.proofs.OneWord.{plain, some, some_is, bind_some, only_some, number_sound, tid_sound, slots_sound, bytes_sound, reply_sound}
 
 -- What this reader gives behind the words of `pre` fits, and these words with all that it read are those of what it gives.
 pub record Leads {X : Type 0} (F : X → Type 0) (words : X → List (List ℕ)) (pre : List (List ℕ)) (read : Reader X) : Type 0 where
@@ -302,11 +300,11 @@ said_leads true = one_leads AreBytes bytes_text bytes_at bytes_sound
 
 -- what the table says of each of its calls
 abbrev pub IsKnown : CallRow → Type 0
-IsKnown r = (call_numbered r.number ≡ Some r) × (call_named r.name ≡ Some r) × (bytes_eq r.name (codes "unknown") ≡ false)
+IsKnown r = (call_numbered r.number ≡ Some r) × (call_named r.name ≡ Some r) × (bytes_eq r.name (codes "unknown") ≡ false) × (plain r.name ≡ true)
 
 pub all_known : AllByRecursion IsKnown calls
 unfolding calls
-all_known = ((refl, refl, refl), ((refl, refl, refl), ((refl, refl, refl), ((refl, refl, refl), ((refl, refl, refl), ((refl, refl, refl), ((refl, refl, refl), ((refl, refl, refl), ((refl, refl, refl), ((refl, refl, refl), ((refl, refl, refl), ((refl, refl, refl), tt))))))))))))
+all_known = ((refl, refl, refl, refl), ((refl, refl, refl, refl), ((refl, refl, refl, refl), ((refl, refl, refl, refl), ((refl, refl, refl, refl), ((refl, refl, refl, refl), ((refl, refl, refl, refl), ((refl, refl, refl, refl), ((refl, refl, refl, refl), ((refl, refl, refl, refl), ((refl, refl, refl, refl), ((refl, refl, refl, refl), tt))))))))))))
 
 named_known : (rs : List CallRow) (w : List ℕ) (r : CallRow) → AllByRecursion IsKnown rs → named rs w ≡ Some r → IsKnown r × (w ≡ r.name)
 named_known [] w r all e = absurd cc

@@ -1,8 +1,10 @@
 //! Reads a trace, line by line.
 
-ghost use Rattle.std.specs.Prelude.{◌≡◌, ◌<◌, ◌^◌, ◌++◌, ◌∷◌, [], ℕ, None, length, IfOk, IfSome};
+ghost use Rattle.std.specs.Prelude.{◌≡◌, ◌<◌, ◌^◌, ◌++◌, ◌∷◌, [], ℕ, List, None, Ok, length, IfOk, IfSome};
 ghost use Rattle.std.specs.Option.{option_map};
 ghost use Rattle.trace_text.specs.Reading.{left, given, parts, head};
+ghost use Rattle.trace_text.specs.Fits.{FitsTrace};
+ghost use Rattle.trace_text.specs.Lines.{trace_text};
 ghost use Rattle.trace_text.specs.Texts.{head_line, label_line, line_at, at_line, shut, with_rest, read_trace, Reads, Goes};
 
 use crate::error::TextError;
@@ -172,6 +174,19 @@ fn read_lines(alloc: Global, text: &[u8]) -> Result<Vec<Entry>, TextError>
 pub fn read_trace(alloc: Global, text: &[u8]) -> Result<Items<Entry>, TextError>
     requires { length (parts 10 text.now) < 2 ^ 32 }
     ensures exact { Reads (λ v. v) result (read_trace text.now) }
+
+    // What is read fits, and the text is its own.
+    ensures found { IfOk result (λ v. FitsTrace v × (text.now ≡ trace_text v)) }
+
+    // What was written is read again.
+    ensures again { (xs : List Entry) → FitsTrace xs → text.now ≡ trace_text xs → Reads (λ v. v) result (Ok xs) }
+{
+    read_items(alloc, text)
+}
+
+fn read_items(alloc: Global, text: &[u8]) -> Result<Items<Entry>, TextError>
+    requires { length (parts 10 text.now) < 2 ^ 32 }
+    ensures { Reads (λ v. v) result (read_trace text.now) }
 {
     Ok(Items::new(read_lines(alloc, text)?))
 }
