@@ -1,0 +1,4 @@
+pub mod Buying
+pub mod Lending
+pub mod Runs
+pub mod Turns
