@@ -1,22 +1,21 @@
 -- What a cluster chooses by a word is the possible act at its place.
-use Rattle.std.proofs.Common.{◌≡◌, ℕ, suc, ◌+◌, ◌%◌, ◌^◌, ◌<◌, ◌≤◌, List, [], ◌∷◌, ◌++◌, length, Option, Some, None, Bool, true, false, cond, refl, sym, ap, ◌∙◌, subst, arith}
+use Rattle.std.proofs.Common.{◌≡◌, ℕ, suc, ◌+◌, ◌%◌, ◌^◌, ◌<◌, List, [], ◌∷◌, ◌++◌, length, Option, Some, None, Bool, cond, refl, sym, ap, ◌∙◌, subst, arith}
 use Rattle.std.specs.Prelude.{flat_map, slice_get}
 use Rattle.std.proofs.lemmas.Option.{slice_get_past}
-use Rattle.slot_space.specs.declared.names.Tid.{Tid}
 use Rattle.slot_space.specs.Sets.{run}
 use Rattle.run_trace.specs.declared.entry.Act.{Act}
 use Rattle.run_trace.specs.declared.entry.Entry.{Entry}
 use Rattle.run_trace.specs.Local.{Local}
 use Rattle.run_trace.specs.Guests.{unwaiting}
-use Rattle.run_trace.specs.Program.{Program, nodes_of}
+use Rattle.run_trace.specs.Program.{nodes_of}
 use Rattle.run_trace.specs.Rules.{spots_of}
 use Rattle.run_trace.specs.Spots.{at_first}
 use Rattle.run_list.specs.Names.{names_of}
 use Rattle.node_state.specs.Views.{AreInOrder}
 use Rattle.node_loop.specs.View.{NodeView}
-use Rattle.cluster.specs.Acts.{possible_acts, ready_on}
-use Rattle.cluster.specs.Between.{acts_by, moves_among, run_by, takes_from, moves_by}
-use Rattle.cluster.specs.Choosing.{IsCapped, acts_in, moves_in}
+use Rattle.cluster.specs.Acts.{possible_acts}
+use Rattle.cluster.specs.Between.{acts_by, moves_among, run_by, takes_from}
+use Rattle.cluster.specs.Choosing.{IsCapped, acts_in}
 use Rattle.cluster.specs.Standing.{StandsFor, net_after}
 use Rattle.cluster.specs.View.{ClusterView}
 use Rattle.cluster.proofs.Listings.{all_acts, ready_names, stands}

@@ -10,7 +10,7 @@ use Rattle.node_loop.specs.View.{NodeView}
 use Rattle.node_state.specs.Views.{AreInOrder}
 use Rattle.node_loop.specs.Turns.{can}
 use Rattle.cluster.specs.Between.{takes_from, moves_among}
-use Rattle.cluster.specs.Choosing.{IsCapped, acts_in, listed_moves, later_acts, moves_in, other_at}
+use Rattle.cluster.specs.Choosing.{IsCapped, acts_in, listed_moves, moves_in, other_at}
 use Rattle.std.proofs.Math.Nat.{add-div_right, div-eq_of_lt, mod-eq_of_lt, mod-eq-sub-mod, mod-lt, mul-zero, zero-mul, suc-mul}
 use Rattle.std.proofs.lemmas.Bool.{ne_eqb, eqb-true, eqb-false, ltb-true, ltb-false, lt-ltb}
 use Rattle.std.proofs.lemmas.List.{length-map}
@@ -264,11 +264,11 @@ left_of moves nodes i v at = let e : suc i ≡ i + 1 = omega arith in ap (flat_m
 pub counted_more : (moves : Bool) (nodes : List NodeView) (i total count : ℕ) (v : NodeView) → HasCounted moves nodes i total → slice_get nodes i ≡ Some v → IsCapped count (length (acts_in moves v)) → AreInOrder v.state.threads
     → HasCounted moves nodes (i + 1) (min (total + count) (2 ^ 64 - 1))
 counted_more moves nodes i total count v h at capped ordered = record {
-    number = h.number + length (acts_in moves v);
-    capped = capped_sum total count h.number (length (acts_in moves v)) h.capped capped;
-    all = (let e = ap (λ (xs : List (ℕ × Act)). length xs) (left_of moves nodes i v at) ∙ length-append (acts_in moves v) (flat_map (acts_in moves) (drop (i + 1) nodes)) in let a = h.all in omega (arith, e, a));
-    ordered = so;
-  }
+  number = h.number + length (acts_in moves v);
+  capped = capped_sum total count h.number (length (acts_in moves v)) h.capped capped;
+  all = (let e = ap (λ (xs : List (ℕ × Act)). length xs) (left_of moves nodes i v at) ∙ length-append (acts_in moves v) (flat_map (acts_in moves) (drop (i + 1) nodes)) in let a = h.all in omega (arith, e, a));
+  ordered = so;
+}
   where
     so : (n : ℕ) (w : NodeView) → n < i + 1 → slice_get nodes n ≡ Some w → AreInOrder w.state.threads
     so n w l g = by (nat_lt n i) refl

@@ -1,22 +1,20 @@
 -- The names on a run list are those of the threads that are ready, in their order.
-use Rattle.std.proofs.Common.{◌≡◌, ℕ, List, [], ◌∷◌, map, Option, Some, None, Bool, true, false, cond, refl, sym, ap, ◌∙◌, subst}
-use Rattle.std.specs.Prelude.{⊤, filter, is_some}
+use Rattle.std.proofs.Common.{◌≡◌, ℕ, List, [], ◌∷◌, map, Some, Bool, true, false, cond, refl, sym, ap, ◌∙◌, subst}
+use Rattle.std.specs.Prelude.{filter, is_some}
 use Rattle.std.specs.List.{AllByRecursion}
 use Rattle.std.specs.List.Sorted.{IsStrictlySortedBy}
 use Rattle.std.specs.Map.{lookup, keys_of}
 use Rattle.std.specs.declared.cmp.Ordering.TheVariants.{Less}
 use Rattle.std.specs.Ordering.{is_lt, is_eq}
 use Rattle.slot_space.specs.declared.names.Tid.{Tid}
-use Rattle.run_trace.specs.declared.entry.Entry.{Entry}
 use Rattle.run_trace.specs.declared.node.Row.{Row}
-use Rattle.run_trace.specs.Cluster.{Net, fresh_net}
+use Rattle.run_trace.specs.Cluster.{Net}
 use Rattle.run_trace.specs.Guests.{Thread}
-use Rattle.run_trace.specs.Keyed.{AreApart, item_of}
+use Rattle.run_trace.specs.Keyed.{AreApart}
 use Rattle.run_trace.specs.Names.{is_tid, tid_cmp}
 use Rattle.run_trace.specs.Places.{is_listed}
 use Rattle.run_trace.specs.Program.{Program}
-use Rattle.run_trace.specs.Rules.{spots_of}
-use Rattle.run_trace.specs.Spots.{Spots, at_first}
+use Rattle.run_trace.specs.Spots.{Spots}
 use Rattle.run_trace.specs.Stands.{Stands, listed, listed_name}
 use Rattle.run_list.specs.Names.{names_of}
 use Rattle.run_list.specs.Sorted.{put, IsLeast}

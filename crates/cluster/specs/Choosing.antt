@@ -1,5 +1,5 @@
 -- The acts of a node as they are counted: its moves by the names on its run list.
-use Rattle.std.specs.Prelude.{◌≡◌, ℕ, ◌^◌, ◌-◌, List, [], ◌∷◌, ◌++◌, flat_map, Bool, suc, min, nat_lt, if◌then◌else◌}
+use Rattle.std.specs.Prelude.{◌≡◌, ℕ, ◌^◌, ◌-◌, List, [], ◌++◌, flat_map, Bool, suc, min, nat_lt, if◌then◌else◌}
 use Rattle.slot_space.specs.Sets.{run}
 use Rattle.run_trace.specs.declared.entry.Act.{Act}
 use Rattle.run_trace.specs.Program.{nodes_of}

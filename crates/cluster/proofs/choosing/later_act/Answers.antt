@@ -1,5 +1,4 @@
 use Rattle.std.proofs.Common.{◌∙◌, sym, arith}
-use Rattle.std.proofs.lemmas.Bool.{eqb-true, eqb-false}
 use Rattle.run_trace.specs.Program.{nodes_of}
 use Rattle.cluster.proofs.Picks.{take_here, take_later, no_take, past_takes}
 use Rattle.cluster.proofs.choosing.later_act.Goals as goal

@@ -1,6 +1,5 @@
-use Rattle.std.proofs.Common.{◌≡◌, ◌%◌, ◌<◌, length, List, sym, ap, ◌∙◌, subst, arith}
+use Rattle.std.proofs.Common.{◌%◌, length, ap, ◌∙◌, subst}
 use Rattle.std.specs.Prelude.{flat_map, slice_get}
-use Rattle.node_loop.specs.View.{NodeView}
 use Rattle.cluster.specs.Choosing.{IsCapped, acts_in}
 use Rattle.cluster.specs.View.{ClusterView}
 use Rattle.cluster.proofs.ByWord.{AreSorted, nothing_chosen, chosen_by}
