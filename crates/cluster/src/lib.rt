@@ -1,5 +1,6 @@
 //! All nodes: acts one after another, which acts are possible, and whether the program is done or stuck.
-//! A layer above uses that the cluster stands for a legal trace after every step, and that its answers are those of the trace.
+//! A layer above uses that the cluster stands for a legal trace after every step, whatever came before the entries that it keeps, and
+//! that its answers are those of the trace.
 #![tactic(auto)]
 
 mod beginning;
