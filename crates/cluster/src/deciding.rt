@@ -9,7 +9,7 @@ use node_loop::Node;
 use slot_space::NodeNo;
 
 /// Whether a program goes on.
-#[derive(Clone, Copy, Debug, PartialEq, Eq)]
+#[derive(Clone, Copy, PartialEq, Eq)]
 pub enum State {
     /// An act is possible.
     Going,

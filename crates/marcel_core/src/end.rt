@@ -3,7 +3,7 @@
 use rv_step::FaultKind;
 
 /// The end of a thread.
-#[derive(Clone, Copy, Debug, PartialEq, Eq)]
+#[derive(Clone, Copy, PartialEq, Eq)]
 pub enum End {
     /// It called exit, or returned from its first function, with this value.
     Exit(u64),

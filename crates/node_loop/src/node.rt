@@ -28,7 +28,7 @@ use wires::Ends;
 const STAMP_LIMIT: u64 = 1 << 62;
 
 /// What has come of a turn.
-#[derive(Clone, Copy, Debug, PartialEq, Eq)]
+#[derive(Clone, Copy, PartialEq, Eq)]
 pub enum Turned {
     /// The act is done, and its entry is the newest.
     Did,

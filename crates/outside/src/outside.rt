@@ -6,7 +6,7 @@ ghost use Rattle.outside.specs.Outside.{Rose, file_at, Lacks, MayHold, Appends};
 use std::alloc::Global;
 
 /// Why a file wasn't read.
-#[derive(Clone, Copy, Debug, PartialEq, Eq)]
+#[derive(Clone, Copy, PartialEq, Eq)]
 pub enum ReadRefusal {
     /// There is no file of this name.
     Missing,
@@ -19,7 +19,7 @@ pub enum ReadRefusal {
 }
 
 /// Why bytes weren't written.
-#[derive(Clone, Copy, Debug, PartialEq, Eq)]
+#[derive(Clone, Copy, PartialEq, Eq)]
 pub enum WriteRefusal {
     /// The write failed, and was counted.
     Failed,

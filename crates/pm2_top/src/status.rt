@@ -9,7 +9,7 @@ use rv_asm::AsmError;
 use simulation::End;
 
 /// How a command ends.
-#[derive(Clone, Copy, Debug, PartialEq, Eq)]
+#[derive(Clone, Copy, PartialEq, Eq)]
 pub enum Status {
     /// The program has ended, or the listing is written.
     Done,

@@ -20,7 +20,7 @@ use std::alloc::{AllocError, Global};
 use words::{Given, WordsError};
 
 /// What a command line asks for.
-#[derive(Debug, Drop)]
+#[derive(Drop)]
 pub struct Settings {
     pub command: Command,
     /// The cluster. `replay` has the usual quantum, since each act has its own.

@@ -13,7 +13,7 @@ use std::alloc::Global;
 use words::WordsError;
 
 /// What is asked for.
-#[derive(Debug, Drop)]
+#[derive(Drop)]
 pub enum Command {
     /// To assemble this file, and list its image.
     Asm(Name),

@@ -7,7 +7,7 @@ ghost use Rattle.settings.specs.Settings.{verb_of, grammar_of};
 use words::Grammar;
 
 /// What is done.
-#[derive(Clone, Copy, Debug, PartialEq, Eq)]
+#[derive(Clone, Copy, PartialEq, Eq)]
 pub(crate) enum Verb {
     Asm,
     Sim,

@@ -29,7 +29,7 @@ use wires::Wires;
 const STREAM: u64 = 54;
 
 /// What has ended a run.
-#[derive(Clone, Copy, Debug, PartialEq, Eq)]
+#[derive(Clone, Copy, PartialEq, Eq)]
 pub enum End {
     /// A thread has called halt, or no thread lives and nothing is under way.
     Done,

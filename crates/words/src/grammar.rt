@@ -4,7 +4,7 @@ ghost use Rattle.std.specs.Prelude.{◌≡◌, false, map};
 ghost use Rattle.words.specs.Words.{file, has};
 
 /// What a command takes beside its positional words.
-#[derive(Clone, Copy, Debug)]
+#[derive(Clone, Copy)]
 pub struct Grammar<'a> {
     /// The names of the options, each of which takes a value.
     pub options: &'a [&'a str],
