@@ -55,6 +55,11 @@ abbrev pub Leaves : Option Chosen → List Entry → (failed : Type 0) → (old 
 Leaves None trace failed old new = new ≡ old
 Leaves (Some asked) trace failed old new = LeavesFiles asked trace failed old new
 
+-- where no file is asked for, no write is counted
+abbrev pub KeepsCount : Option Chosen → (before now : ℕ) → Type 0
+KeepsCount None before now = now ≡ before
+KeepsCount (Some asked) before now = asked.trace ≡ None → asked.schedule ≡ None → now ≡ before
+
 -- ---- the status
 
 abbrev pub with_status : Status → Report → Report

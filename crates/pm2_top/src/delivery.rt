@@ -1,6 +1,6 @@
 //! What is told at the end of a run: the summary, the trace and its acts.
 
-ghost use Rattle.std.specs.Prelude.{◌≡◌, ◌≢◌, ◌≤◌, ◌⊎◌, true, Some, List, ℕ, IfSome, OnOk, OnErr, IsErrOf};
+ghost use Rattle.std.specs.Prelude.{◌≡◌, ◌≢◌, ◌≤◌, ◌⊎◌, true, None, Some, List, ℕ, IfSome, OnOk, OnErr, IsErrOf};
 ghost use Rattle.outside.specs.Outside.{Rose, Appends, AppendsPrefix, file_at};
 ghost use Rattle.trace_text.specs.Lines.{trace_text};
 ghost use Rattle.run_texts.specs.Written.{schedule_text};
@@ -51,6 +51,7 @@ fn put_trace<S: Shelf>(
     ensures others { (other : List ℕ) → name.now ≢ Some other → file_at (S.content shelf.new) other ≡ file_at (S.content shelf.old) other }
     ensures failed { IsErrOf result WriteRefusal.Failed → Rose (S.write_faults shelf.old) (S.write_faults shelf.new) }
     ensures writes { S.write_faults shelf.old ≤ S.write_faults shelf.new }
+    ensures unasked { name.now ≡ None → S.write_faults shelf.new ≡ S.write_faults shelf.old }
     ensures reads { S.read_faults shelf.new ≡ S.read_faults shelf.old }
 {
     match name {
@@ -74,6 +75,7 @@ fn put_schedule<S: Shelf>(
     ensures others { (other : List ℕ) → name.now ≢ Some other → file_at (S.content shelf.new) other ≡ file_at (S.content shelf.old) other }
     ensures failed { IsErrOf result WriteRefusal.Failed → Rose (S.write_faults shelf.old) (S.write_faults shelf.new) }
     ensures writes { S.write_faults shelf.old ≤ S.write_faults shelf.new }
+    ensures unasked { name.now ≡ None → S.write_faults shelf.new ≡ S.write_faults shelf.old }
     ensures reads { S.read_faults shelf.new ≡ S.read_faults shelf.old }
 {
     match name {
@@ -97,6 +99,7 @@ fn put_files<S: Shelf>(
     ensures left { LeavesFiles (chosen asked.now) trace.now (Rose (S.write_faults shelf.old) (S.write_faults shelf.new)) (S.content shelf.old) (S.content shelf.new) }
     ensures failed { IsErrOf result WriteRefusal.Failed → Rose (S.write_faults shelf.old) (S.write_faults shelf.new) }
     ensures writes { S.write_faults shelf.old ≤ S.write_faults shelf.new }
+    ensures unasked { asked.now.trace ≡ None → asked.now.schedule ≡ None → S.write_faults shelf.new ≡ S.write_faults shelf.old }
     ensures reads { S.read_faults shelf.new ≡ S.read_faults shelf.old }
 {
     put_trace(alloc, &asked.trace, trace, shelf)?;
@@ -118,6 +121,7 @@ fn deliver<S: Shelf, K: Sink>(
     ensures left { LeavesFiles (chosen asked.now) trace.now (Rose (S.write_faults shelf.old) (S.write_faults shelf.new)) (S.content shelf.old) (S.content shelf.new) }
     ensures failed { IsErrOf result WriteRefusal.Failed → Rose (K.faults out.old) (K.faults out.new) ⊎ Rose (S.write_faults shelf.old) (S.write_faults shelf.new) }
     ensures later { K.faults out.old ≤ K.faults out.new }
+    ensures unasked { asked.now.trace ≡ None → asked.now.schedule ≡ None → S.write_faults shelf.new ≡ S.write_faults shelf.old }
     ensures reads { S.read_faults shelf.new ≡ S.read_faults shelf.old }
 {
     tell_summary(alloc, asked, trace, out)?;
@@ -138,6 +142,7 @@ pub(crate) fn tell_all<S: Shelf, K: Sink>(
     ensures left { LeavesFiles (chosen asked.now) ran.trace (Rose (S.write_faults shelf.old) (S.write_faults shelf.new)) (S.content shelf.old) (S.content shelf.new) }
     ensures failed { result.status ≡ Status.WriteFault → (ran.status ≡ Status.WriteFault) ⊎ (Rose (K.faults out.old) (K.faults out.new) ⊎ Rose (S.write_faults shelf.old) (S.write_faults shelf.new)) }
     ensures later { K.faults out.old ≤ K.faults out.new }
+    ensures unasked { asked.now.trace ≡ None → asked.now.schedule ≡ None → S.write_faults shelf.new ≡ S.write_faults shelf.old }
     ensures reads { S.read_faults shelf.new ≡ S.read_faults shelf.old }
 {
     if !ran.status.is_told() {

@@ -15,7 +15,7 @@ ghost use Rattle.settings.specs.Settings.{settings_of};
 ghost use Rattle.settings.specs.Seen.{chosen, IsWithinLimits};
 ghost use Rattle.simulation.specs.Schedules.{AreInRange};
 ghost use Rattle.pm2_top.specs.Asked.{LacksAny, acts_in, acts_of, image_in, schedule_in, source_in, schedule_limit};
-ghost use Rattle.pm2_top.specs.Delivery.{is_told, HasFiles, LeavesFiles, Leaves};
+ghost use Rattle.pm2_top.specs.Delivery.{is_told, HasFiles, LeavesFiles, Leaves, KeepsCount};
 ghost use Rattle.pm2_top.specs.Outcome.{IsUnlessMemory, IsUsual, MayBeNoSource, MayBeNoSchedule, HasSource, Lists, HasRunAs, DrawnBy, HasReplayed, HasSourceEnded, HasRun, HasObeyed, HasEnded, IsTraceOf, IsCarriedOut, node_limit};
 ghost use Rattle.pm2_top.specs.Texts.{Reports};
 ghost use Rattle.pm2_top.specs.declared.report.Report.{Report as Ended};
@@ -215,6 +215,7 @@ fn do_asked<S: Shelf, K: Sink>(
     ensures read { result.status ≡ Status.ReadFault → LacksAny (S.content shelf.old) asked.now.command ⊎ Rose (S.read_faults shelf.old) (S.read_faults shelf.new) }
     ensures missing { LacksAny (S.content shelf.old) asked.now.command → IsUnlessMemory result.status Status.ReadFault }
     ensures failed { result.status ≡ Status.WriteFault → Rose (K.faults out.old) (K.faults out.new) ⊎ Rose (S.write_faults shelf.old) (S.write_faults shelf.new) }
+    ensures unasked { asked.now.trace ≡ None → asked.now.schedule ≡ None → S.write_faults shelf.new ≡ S.write_faults shelf.old }
     ensures put { is_told result.status ≡ true → HasFiles (chosen asked.now) result.trace (S.content shelf.old) (S.content shelf.new) }
     ensures left { LeavesFiles (chosen asked.now) result.trace (Rose (S.write_faults shelf.old) (S.write_faults shelf.new)) (S.content shelf.old) (S.content shelf.new) }
 {
@@ -241,6 +242,7 @@ fn obey<S: Shelf, K: Sink>(
         HasFiles asked result.trace (S.content shelf.old) (S.content shelf.new)) }
     ensures left { Leaves (settings_of (map string_bytes words.now)) result.trace (Rose (S.write_faults shelf.old) (S.write_faults shelf.new))
         (S.content shelf.old) (S.content shelf.new) }
+    ensures unasked { KeepsCount (settings_of (map string_bytes words.now)) (S.write_faults shelf.old) (S.write_faults shelf.new) }
 {
     match settings(alloc, words) {
         Ok(asked) => do_asked(alloc, &asked, shelf, wires, out),
@@ -311,6 +313,9 @@ pub fn pm2_main<S: Shelf, K: Sink, E: Sink>(
         HasFiles asked result.trace (S.content shelf.old) (S.content shelf.new)) }
     ensures left { Leaves (settings_of (map string_bytes words.now)) result.trace (Rose (S.write_faults shelf.old) (S.write_faults shelf.new))
         (S.content shelf.old) (S.content shelf.new) }
+
+    // Where no file is asked for, none is written.
+    ensures unasked { KeepsCount (settings_of (map string_bytes words.now)) (S.write_faults shelf.old) (S.write_faults shelf.new) }
 {
     let ended = obey(alloc, words, shelf, wires, out);
     tell(alloc, ended, err)
