@@ -1,6 +1,9 @@
 -- Lines, for the functions that read them.
-use Rattle.std.proofs.Common.{◌≡◌, ℕ, ◌+◌, ◌<◌, List, [], ◌∷◌, length, eqb, false, subst, None, Result, Ok, Err, refl, sym, ap, ◌∙◌, arith}
+use Rattle.std.proofs.Common.{◌^◌, ◌≡◌, ℕ, ◌+◌, ◌<◌, List, [], ◌∷◌, length, eqb, false, subst, None, Result, Ok, Err, refl, sym, ap, ◌∙◌, arith}
 use Rattle.trace_text.specs.Reading.{parts, left}
+use Rattle.std.specs.List.{count_by}
+use Rattle.std.proofs.lemmas.List.Splits.{length-slice_split}
+use Rattle.std.proofs.lemmas.List.Sums.{count_by-le-length}
 use Rattle.std.proofs.lemmas.Bool.{ne_eqb}
 use Rattle.run_trace.specs.declared.entry.Entry.{Entry}
 use Rattle.trace_text.specs.declared.lines.Reading.{Reading}
@@ -44,3 +47,7 @@ goes_wrong i old e bs l more whole goes cut is =
 pub goes_on : (i : ℕ) (old new : Reading) (bs l more : List ℕ) (whole : Result (List Entry) ℕ) → Goes i (line_at l) old (Ok new) → parts 10 bs ≡ l ∷ parts 10 more → with_rest old (read_from i (parts 10 bs)) ≡ whole → with_rest new (read_from (i + 1) (parts 10 more)) ≡ whole
 goes_on i old new bs l more whole goes cut is =
     goes (read_from (i + 1) (parts 10 more)) ∙ ap (with_rest old) (sym (read_line i bs l more cut)) ∙ is
+
+-- a text has at most one line more than bytes
+pub few_lines : (bs : List ℕ) → length bs + 1 < 2 ^ 32 → length (parts 10 bs) < 2 ^ 32
+few_lines bs h = let n : length (parts 10 bs) ≡ count_by (λ b. eqb b 10) bs + 1 = length-slice_split (λ b. eqb b 10) bs in omega (arith, n, h, count_by-le-length (λ b. eqb b 10) bs)
