@@ -6,6 +6,4 @@ mod links;
 #[cfg(test)]
 mod steps;
 #[cfg(test)]
-mod texts;
-#[cfg(test)]
 mod traces;

@@ -4,7 +4,6 @@
 ghost use Rattle.std.specs.Prelude.{IfOk};
 ghost use Rattle.node_state.specs.Events.{StartsAligned};
 
-use crate::texts::entries;
 use basics::{Items, NoMemory};
 use run_judge::judge;
 use run_trace::{Entry, Setup};
@@ -12,6 +11,7 @@ use rv_inst::Image;
 use slot_space::Geometry;
 use std::alloc::Global;
 use std::test::Fail;
+use trace_text::read_trace;
 
 /// A trace of one node.
 struct Known {
@@ -266,6 +266,15 @@ pub(crate) fn image(alloc: Global, words: &[u32]) -> Result<Image, NoMemory>
     })
 }
 
+/// The entries of a trace text.
+fn entries(alloc: Global, text: &str) -> Result<Items<Entry>, Fail> {
+    let text = text.as_bytes();
+    if text.len() >= 0xffff_ffff {
+        return Err(Fail::from("a short text"));
+    }
+    Ok(read_trace(alloc, text)?)
+}
+
 /// What the judge says of these entries.
 fn fault(alloc: Global, known: &Known, entries: &[Entry]) -> Result<Option<usize>, Fail> {
     let geometry = Geometry::new(1, known.slots).ok_or("within the limits")?;
@@ -285,7 +294,7 @@ fn is_found(alloc: Global, known: &Known, wrong: &Wrong) -> Result<bool, Fail> {
         .ok_or("a piece of the trace")?;
     let text = format!(in alloc; "{before}{}{after}", wrong.1)?;
     let entries = entries(alloc, text.as_str())?;
-    Ok(fault(alloc, known, &entries)? == Some(wrong.2))
+    Ok(fault(alloc, known, entries.as_slice())? == Some(wrong.2))
 }
 
 /// Whether the trace is legal, and all that is wrong is found.
@@ -296,7 +305,7 @@ fn is_judged(alloc: Global, known: &Known) -> Result<bool, Fail> {
         }
     }
     let entries = entries(alloc, known.trace)?;
-    Ok(fault(alloc, known, &entries)?.is_none())
+    Ok(fault(alloc, known, entries.as_slice())?.is_none())
 }
 
 fn are_judged(alloc: Global) -> Result<bool, Fail> {
