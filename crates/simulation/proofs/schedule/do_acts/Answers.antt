@@ -1,4 +1,4 @@
-use Rattle.std.proofs.Common.{◌≡◌, ℕ, ◌<◌, List, drop, length, subst, refl, sym, arith, ◌∷◌}
+use Rattle.std.proofs.Common.{◌≡◌, ℕ, ◌<◌, List, drop, length, subst, refl, sym, arith}
 use Rattle.outside.specs.Outside.{Appends, AppendsPrefix}
 use Rattle.run_trace.specs.Program.{nodes_of}
 use Rattle.node_loop.specs.Turns.{IsActInRange}
@@ -6,7 +6,7 @@ use Rattle.cluster.specs.Standing.{Steps}
 use Rattle.cluster.specs.View.{console_in}
 use Rattle.simulation.specs.Replayed.{HasReplayed}
 use Rattle.simulation.specs.declared.simulation.End.TheVariants.{NotPossible}
-use Rattle.simulation.proofs.Replaying.{in_range, item_at, trace_by, begins_by, few_acts, impossible, is_done_by, is_stalled_by, goes_on_after, lost_by, room_by, goes_on_by, refused_by}
+use Rattle.simulation.proofs.Replaying.{in_range, item_at, trace_by, begins_by, impossible, is_done_by, is_stalled_by, goes_on_after, lost_by, goes_on_by, refused_by}
 use Rattle.simulation.proofs.schedule.do_acts.Goals as goal
 
 pub loop-next-init : goal.loop-next-init
