@@ -1,8 +1,7 @@
 -- The acts of a schedule are not too many, and each is in range.
-use Rattle.std.proofs.Common.{◌≡◌, ℕ, zero, suc, ◌+◌, ◌<◌, ◌≤◌, List, [], ◌∷◌, length, Option, Some, None, Result, Ok, Err, Bool, true, false, cond, refl, sym, ap, ◌∙◌, subst, arith}
-use Rattle.std.specs.Prelude.{◌≢◌, ⊤, option_and_then, option_map, ◌==◌, ◌&&◌, ◌^◌, IfSome, nat_le, nat_lt, eqb, codes}
+use Rattle.std.proofs.Common.{◌≡◌, ℕ, suc, ◌+◌, ◌<◌, ◌≤◌, List, [], ◌∷◌, length, Option, Some, None, Ok, Err, Bool, true, false, cond, refl, subst, arith}
+use Rattle.std.specs.Prelude.{⊤, option_and_then, option_map, ◌==◌, ◌&&◌, IfSome, nat_le, nat_lt, codes}
 use Rattle.std.proofs.lemmas.Bool.Decides.{nat_tests}
-use Rattle.std.specs.List.{before_first, after_first, list_all}
 use Rattle.std.specs.Str.{bytes_eq}
 use Rattle.std.specs.Str.Lines.{strip_carriage_return}
 use Rattle.std.specs.Str.Parse.{digits_value}
@@ -13,7 +12,7 @@ use Rattle.run_texts.specs.declared.act.Said.{Said}
 use Rattle.run_texts.specs.declared.act.Said.TheVariants as said
 use Rattle.run_texts.specs.declared.schedule.Scheduled.{Scheduled}
 use Rattle.run_texts.specs.Parts.{Text, onto, parts_of, lines_of, number_in, is_number, within, words_of}
-use Rattle.run_texts.specs.Acts.{node_in, tid_in, run_in, take_in, move_in, act_in, said_act, said_node, said_words, said_from, said_plainly, said_in}
+use Rattle.run_texts.specs.Acts.{tid_in, run_in, take_in, move_in, act_in, said_act, said_node, said_words, said_from, said_plainly, said_in}
 use Rattle.run_texts.specs.Fitting.{IsActOf, AreActsOf}
 use Rattle.run_texts.specs.Schedules.{Reading, most_acts, at_front, goes_on, acts_from, schedule_of}
 

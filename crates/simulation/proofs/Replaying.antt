@@ -1,6 +1,6 @@
 -- A run by a schedule, from act to act, and how it ends.
-use Rattle.std.proofs.Common.{◌≡◌, ℕ, zero, suc, ◌+◌, ◌-◌, ◌^◌, ◌<◌, ◌≤◌, List, [], ◌∷◌, ◌++◌, length, drop, get_or, reverse, Option, Some, None, true, false, refl, sym, ap, ◌∙◌, subst, arith, inl, inr}
-use Rattle.std.specs.Prelude.{◌≢◌, ◌↔◌, slice_get}
+use Rattle.std.proofs.Common.{◌≡◌, ℕ, zero, suc, ◌+◌, ◌-◌, ◌^◌, ◌<◌, ◌≤◌, List, [], ◌∷◌, ◌++◌, length, drop, get_or, reverse, Option, Some, None, false, refl, sym, ap, ◌∙◌, subst, arith, inl}
+use Rattle.std.specs.Prelude.{slice_get}
 use Rattle.std.proofs.lemmas.List.{length-append, append-nil, reverse-reverse}
 use Rattle.std.proofs.lemmas.Option.{slice_get-get_or}
 use Rattle.std.proofs.Math.Seq.{drop-append_seam}
@@ -19,12 +19,11 @@ use Rattle.cluster.proofs.Clocks.{next_is}
 use Rattle.wires.specs.declared.ends.Ends.{Ends}
 use Rattle.cluster.specs.Acts.{is_possible}
 use Rattle.cluster.specs.Outcomes.{GoesOn, IsDoneAt, IsStuckAt, IsAt}
-use Rattle.cluster.specs.declared.deciding.State.{State}
 use Rattle.cluster.specs.declared.deciding.State.TheVariants as states
 use Rattle.cluster.specs.Standing.{StandsFor, HaveCarried, Adds, Loses, net_after}
 use Rattle.cluster.specs.View.{ClusterView, console_in, greatest_clock, round_in, wires_of}
 use Rattle.simulation.specs.Ends.{ShowsAt, Shows, CarriesAt}
-use Rattle.simulation.specs.Schedules.{AreInRange, AreFirstOf, IsOf, StopsAt, RunsBy, Follows}
+use Rattle.simulation.specs.Schedules.{AreInRange, AreFirstOf, StopsAt, RunsBy, Follows}
 use Rattle.simulation.specs.Replayed.{IsReplaying, HasReplayed}
 use Rattle.simulation.specs.Underway.{refusal_end}
 use Rattle.run_texts.specs.declared.schedule.Scheduled.{Scheduled}

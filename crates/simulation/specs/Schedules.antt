@@ -1,5 +1,5 @@
 -- Runs whose acts are those of a schedule.
-use Rattle.std.specs.Prelude.{◌≡◌, ◌≢◌, ◌⊎◌, ◌<◌, ℕ, false, suc, List, [], ◌∷◌, ◌++◌, length, reverse, slice_get, Some, ⊤}
+use Rattle.std.specs.Prelude.{◌≡◌, ◌⊎◌, ◌<◌, ℕ, false, suc, List, [], ◌∷◌, ◌++◌, length, reverse, slice_get, Some, ⊤}
 use Rattle.run_trace.specs.declared.entry.Entry.{Entry}
 use Rattle.run_trace.specs.Legality.{Legal, boot_entries}
 use Rattle.run_trace.specs.Program.{Program, nodes_of}

@@ -1,4 +1,4 @@
-use Rattle.std.proofs.Common.{◌≡◌, ℕ, ◌<◌, ◌-◌, ◌^◌, ◌++◌, List, [], drop, length, subst, refl, sym, ap, ◌∙◌, arith, ◌∷◌}
+use Rattle.std.proofs.Common.{◌≡◌, ℕ, ◌<◌, ◌-◌, ◌^◌, ◌++◌, List, [], drop, length, subst, refl, sym, ap, ◌∙◌, arith}
 use Rattle.std.proofs.lemmas.List.{append-nil}
 use Rattle.outside.specs.Outside.{Appends, AppendsPrefix}
 use Rattle.run_trace.specs.Program.{nodes_of}
@@ -11,7 +11,7 @@ use Rattle.simulation.proofs.Running.{at_whole}
 use Rattle.cluster.specs.View.{console_in}
 use Rattle.simulation.specs.Replayed.{HasReplayed}
 use Rattle.simulation.specs.declared.simulation.End.TheVariants.{NotPossible}
-use Rattle.simulation.proofs.Replaying.{in_range, item_at, trace_by, begins_by, low_clock, impossible, is_done_by, is_stalled_by, goes_on_after, lost_by, room_by, goes_on_by, refused_by}
+use Rattle.simulation.proofs.Replaying.{in_range, item_at, trace_by, begins_by, low_clock, impossible, is_done_by, is_stalled_by, goes_on_after, lost_by, goes_on_by, refused_by}
 use Rattle.simulation.proofs.schedule.do_acts.Goals as goal
 
 pub loop-next-init : goal.loop-next-init
