@@ -1,6 +1,6 @@
 -- The test of two labels tells whether they are the same.
-use Rattle.std.proofs.Common.{rules, ◌≡◌, ℕ, eqb, Bool, true, false, List, Option, Some, None, refl, Decides, arith}
-use Rattle.std.specs.Cmp.Lexicographic.{pointwise, bytes_decides}
+use Rattle.std.proofs.Common.{rules, ◌≡◌, ℕ, eqb, Bool, true, false, Option, Some, None, refl, Decides}
+use Rattle.std.specs.Cmp.Lexicographic.{bytes_decides}
 use Rattle.std.specs.Option.{option_eq}
 use Rattle.std.proofs.lemmas.Bool.Decides.{Decides-eqb, Decides-and, Decides-like}
 use Rattle.slot_space.specs.declared.names.Tid.{Tid}

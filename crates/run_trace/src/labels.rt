@@ -91,8 +91,7 @@ impl Labels {
                 && judged == t
                 && told == t
                 && args.as_slice().is_empty()
-                && bytes.as_slice().is_empty() =>
-            {
+                && bytes.as_slice().is_empty() => {
                 Some(Kept::Answered {
                     t: *t,
                     vp: *vp,

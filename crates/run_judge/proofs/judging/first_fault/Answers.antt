@@ -1,4 +1,4 @@
-use Rattle.std.proofs.Common.{◌≡◌, ℕ, ◌+◌, List, length, take, reverse, get_or, subst, refl, sym, ap, ◌∙◌}
+use Rattle.std.proofs.Common.{ℕ, List, take, reverse, subst, sym, ap, ◌∙◌}
 use Rattle.run_trace.specs.declared.entry.Entry.{Entry}
 use Rattle.run_trace.specs.Program.{Program}
 use Rattle.run_trace.specs.Cluster.{fresh_net, Net}
@@ -6,7 +6,7 @@ use Rattle.run_trace.specs.Trace.{net_after_trace, Fits}
 use Rattle.node_state.specs.Events.{program}
 use Rattle.run_judge.specs.Judged.{Follows, BeginsAt}
 use Rattle.run_judge.specs.Nets.{net_in}
-use Rattle.run_judge.proofs.SoundLemmas.{Comes, more_at, wrong_at, newest_more, net_more}
+use Rattle.run_judge.proofs.SoundLemmas.{Comes, more_at, newest_more, net_more}
 use Rattle.run_judge.proofs.judging.first_fault.Goals as goal
 
 pub loop-number-preserved : goal.loop-number-preserved

@@ -1,4 +1,4 @@
-use Rattle.std.proofs.Common.{◌≡◌, ℕ, length, take, reverse}
+use Rattle.std.proofs.Common.{◌≡◌, length, take, reverse}
 use Rattle.run_trace.specs.Cluster.{fresh_net}
 use Rattle.run_trace.specs.Trace.{net_after_trace}
 use Rattle.node_state.specs.Events.{program}

@@ -1,5 +1,4 @@
-use Rattle.std.proofs.Common.{arith, ◌↔◌, ℕ, ◌-◌, ◌∷◌, take, reverse}
-use Rattle.run_judge.specs.Judged.{Follows}
+use Rattle.std.proofs.Common.{arith}
 use Rattle.run_judge.proofs.SoundLemmas.{follows_at}
 use Rattle.run_judge.proofs.judging.follows.Goals as goal
 

@@ -1,4 +1,4 @@
-use Rattle.std.proofs.Common.{arith, ap, ◌∙◌, sym, ◌≡◌, List}
+use Rattle.std.proofs.Common.{arith, ap, ◌∙◌, sym, ◌≡◌}
 use Rattle.run_trace.specs.declared.entry.Entry.{Entry}
 use Rattle.node_state.specs.Events.{program}
 use Rattle.run_judge.proofs.SoundLemmas.{boot_is}

@@ -1,4 +1,4 @@
-use Rattle.std.proofs.Common.{arith, ◌≡◌, ◌<◌, ◌+◌, ℕ, List, length, take, reverse, Option, None, Some, MatchOption, subst}
+use Rattle.std.proofs.Common.{◌<◌, ◌+◌, ℕ, List, length, take, reverse, Option, None, Some, MatchOption, subst}
 use Rattle.run_trace.specs.Program.{Program}
 use Rattle.run_trace.specs.declared.entry.Entry.{Entry}
 use Rattle.node_state.specs.Events.{program}

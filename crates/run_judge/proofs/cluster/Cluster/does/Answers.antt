@@ -1,6 +1,5 @@
-use Rattle.std.proofs.Common.{◌≡◌, ℕ, List, length, Option, Some, None, subst, refl, sym, ap, ◌∙◌, get_or, set, length-set, ◌++◌}
+use Rattle.std.proofs.Common.{◌≡◌, List, length, Option, Some, subst, refl, sym, ap, ◌∙◌, length-set}
 use Rattle.run_trace.specs.declared.entry.Entry.{Entry}
-use Rattle.run_trace.specs.declared.packet.Packet.{Packet}
 use Rattle.run_trace.specs.Program.{Program}
 use Rattle.run_trace.specs.Cluster.{IsTaken}
 use Rattle.run_trace.specs.Local.{Local}
@@ -8,7 +7,6 @@ use Rattle.node_state.specs.declared.done.Done.{Done}
 use Rattle.node_state.specs.Events.{program}
 use Rattle.run_judge.specs.declared.flights.Flight.{Flight}
 use Rattle.run_judge.specs.Nets.{NodeDoes}
-use Rattle.run_judge.specs.Links.{flights_of}
 use Rattle.run_judge.proofs.ClusterLemmas.{fits, advances}
 use Rattle.run_judge.proofs.cluster.Cluster.does.Goals as goal
 

@@ -1,10 +1,9 @@
-use Rattle.std.proofs.Common.{◌≡◌, ℕ, ◌<◌, refl, sym, ap, ◌∙◌, subst, Bool, true, false, [], List, Some, None, Option, get_or, length}
+use Rattle.std.proofs.Common.{◌≡◌, ℕ, sym, ap, ◌∙◌, subst, [], List, Some, None, get_or}
 use Rattle.std.specs.List.{position, remove}
 use Rattle.std.proofs.lemmas.List.Quantifiers.{position-Some}
 use Rattle.run_trace.specs.Links.{first_of}
 use Rattle.run_judge.specs.declared.flights.Flight.{Flight}
 use Rattle.run_judge.specs.Links.{is_on, link_of}
-use Rattle.run_judge.specs.Nets.{LeftBy}
 use Rattle.run_judge.proofs.LinkLemmas.{Takes, takes, none_on, left_taken, left_none}
 use Rattle.run_judge.proofs.Places.{position-None}
 use Rattle.run_judge.proofs.flights.Flights.take_from.Goals as goal

@@ -1,4 +1,4 @@
-use Rattle.std.proofs.Common.{◌≡◌, List, ◌++◌, ◌∷◌, [], refl, sym, ap, ◌∙◌, subst}
+use Rattle.std.proofs.Common.{◌++◌, ◌∷◌, [], refl, sym, ap, ◌∙◌, subst}
 use Rattle.run_trace.specs.declared.node.Row.{Row}
 use Rattle.run_trace.specs.Names.{tid_cmp}
 use Rattle.run_trace.specs.Places.{AreOnRoot}
@@ -14,6 +14,7 @@ put-requires c = subst (λ ns. AreUp tid_cmp ns) (sym c.self.invariant.0) (names
 pub invariant_of-self-2 : goal.invariant_of-self-2
 invariant_of-self-2 c =
     let r : Row = record { tid = c.args.t; list = 0; priority = c.args.priority; arrival = c.self.inside.next } in
-    let pushed = c.push_reserved.ensures.items ∙ ap (λ rows. rows ++ r ∷ []) c.in_ok-reserve.ensures.items in
-    ( c.in_ok-put.ensures.ok ∙ ap (put tid_cmp c.args.t) c.self.invariant.0 ∙ sym (names_more c.self.inside.rows.items r) ∙ ap names_of (sym pushed)
-    , subst AreOnRoot (sym pushed) (root_pushed c.self.inside.rows.items r c.self.invariant.1 refl) )
+    let pushed = c.push_reserved.ensures.items ∙ ap (λ rows. rows ++ r ∷ []) c.in_ok-reserve.ensures.items in (
+      c.in_ok-put.ensures.ok ∙ ap (put tid_cmp c.args.t) c.self.invariant.0 ∙ sym (names_more c.self.inside.rows.items r) ∙ ap names_of (sym pushed),
+      subst AreOnRoot (sym pushed) (root_pushed c.self.inside.rows.items r c.self.invariant.1 refl),
+    )

@@ -11,6 +11,7 @@ pub take_out-requires : goal.take_out-requires
 take_out-requires c = subst (λ ns. AreUp tid_cmp ns) (sym c.self.invariant.0) (names_up c.self.inside.rows.items)
 
 pub invariant_of-self : goal.invariant_of-self
-invariant_of-self c =
-    ( c.take_out.ensures ∙ ap (without tid_cmp c.args.t) c.self.invariant.0 ∙ sym (names_less c.args.t c.self.inside.rows.items) ∙ ap names_of (sym c.row_out.ensures)
-    , subst AreOnRoot (sym c.row_out.ensures) (root_without c.args.t c.self.inside.rows.items c.self.invariant.1) )
+invariant_of-self c = (
+  c.take_out.ensures ∙ ap (without tid_cmp c.args.t) c.self.invariant.0 ∙ sym (names_less c.args.t c.self.inside.rows.items) ∙ ap names_of (sym c.row_out.ensures),
+  subst AreOnRoot (sym c.row_out.ensures) (root_without c.args.t c.self.inside.rows.items c.self.invariant.1),
+)
