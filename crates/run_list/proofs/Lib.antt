@@ -1,3 +1,4 @@
 pub mod Sorted
 pub mod OfRows
 pub mod Rows
+pub mod Tops

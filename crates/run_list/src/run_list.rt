@@ -1,11 +1,12 @@
 //! The run list.
 
-ghost use Rattle.std.specs.Prelude.{◌≡◌, ℕ, IfOk, Some, [], length, slice_get, if◌then◌else◌};
+ghost use Rattle.std.specs.Prelude.{◌≡◌, ◌≤◌, ℕ, IfOk, Some, [], length, slice_get};
 ghost use Rattle.std.specs.List.{position};
 ghost use Rattle.run_trace.specs.Names.{is_tid};
 ghost use Rattle.run_trace.specs.Trees.{Tree};
-ghost use Rattle.run_trace.specs.Places.{arrived, without_row, taken_off, is_listed, better, best_on};
+ghost use Rattle.run_trace.specs.Places.{arrived, without_row, taken_off, is_listed, best_on};
 ghost use Rattle.run_list.specs.Names.{names_of};
+ghost use Rattle.run_list.specs.Tops.{greatest, first_of};
 ghost use Rattle.run_list.specs.Views.{places_of};
 
 use crate::searching;
@@ -23,19 +24,22 @@ pub struct RunList {
     // Their names, in order.
     names: Vec<Tid>,
     next: u64,
+    // The greatest priority among them.
+    top: u8,
 }
 
 impl Model for RunList {
     ghost use Rattle.std.specs.Prelude.{◌≡◌};
-    ghost use Rattle.run_trace.specs.Places.{Places, AreOnRoot};
+    ghost use Rattle.run_trace.specs.Places.{Places, AreOnRoot, IsRising};
     ghost use Rattle.run_list.specs.Names.{names_of};
+    ghost use Rattle.run_list.specs.Tops.{greatest};
     ghost use Rattle.run_list.specs.Views.{places_of};
 
     ghost Value = { Places };
 
     ghost view = { λ p. places_of p.rows.items p.next };
 
-    ghost invariant = { λ p. (p.names.items ≡ names_of p.rows.items) × AreOnRoot p.rows.items };
+    ghost invariant = { λ p. (p.names.items ≡ names_of p.rows.items) × AreOnRoot p.rows.items × IsRising (places_of p.rows.items p.next) × (p.top ≡ greatest p.rows.items) };
 }
 
 // Where the first row of the thread stands.
@@ -58,15 +62,37 @@ fn row_out(rows: &mut Vec<Row>, t: Tid)
     }
 }
 
-// Whether the second row is the better of the two: by priority, among equals by arrival.
-#[inline(always)]
-fn is_passed(a: &Row, b: &Row) -> bool
-    ensures { better a.now b.now ≡ (if result then b.now else a.now) }
+// The first row of this priority.
+fn first_of(rows: &[Row], priority: u8) -> Option<Row>
+    ensures { result ≡ first_of priority rows.now }
 {
-    if a.priority == b.priority {
-        b.arrival < a.arrival
-    } else {
-        a.priority < b.priority
+    for row in rows {
+        if row.priority == priority {
+            return Some(*row);
+        }
+    }
+    None
+}
+
+// The greatest priority of these rows.
+fn greatest(rows: &[Row]) -> u8
+    ensures { result ≡ greatest rows.now }
+{
+    let mut top = 0;
+    for row in rows {
+        top = top.max(row.priority);
+    }
+    top
+}
+
+// The greatest priority of what is left of rows that had none above this one.
+fn top_of(rows: &[Row], top: u8) -> u8
+    requires { greatest rows.now ≤ top }
+    ensures { result ≡ greatest rows.now }
+{
+    match first_of(rows, top) {
+        Some(_) => top,
+        None => greatest(rows),
     }
 }
 
@@ -79,6 +105,7 @@ impl RunList {
             rows: Vec::new(alloc),
             names: Vec::new(alloc),
             next: 0,
+            top: 0,
         }
     }
 
@@ -99,6 +126,7 @@ impl RunList {
             arrival: self.next,
         });
         self.next = next;
+        self.top = self.top.max(priority);
         Ok(())
     }
 
@@ -109,6 +137,7 @@ impl RunList {
     {
         searching::take_out(&mut self.names, &t);
         row_out(&mut self.rows, t);
+        self.top = top_of(&self.rows, self.top);
     }
 
     /// The thread is on the list.
@@ -137,18 +166,6 @@ impl RunList {
     pub fn best(&self) -> Option<Row>
         ensures { (tree : Tree) (vp : ℕ) → result ≡ best_on tree vp self.now.rows }
     {
-        let mut place = self.rows.len();
-        if place == 0 {
-            return None;
-        }
-        place -= 1;
-        let mut at = place;
-        while place > 0 {
-            place -= 1;
-            if !is_passed(&self.rows[place], &self.rows[at]) {
-                at = place;
-            }
-        }
-        Some(self.rows[at])
+        first_of(&self.rows, self.top)
     }
 }
