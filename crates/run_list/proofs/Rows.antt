@@ -1,14 +1,12 @@
 -- The first row of a thread, by its place.
-use Rattle.std.proofs.Common.{◌≡◌, ℕ, zero, suc, ◌+◌, ◌-◌, ◌<◌, ◌≤◌, Bool, true, false, List, [], ◌∷◌, length, drop, get_or, cond, Some, None, refl, sym, ap, ◌∙◌, arith}
-use Rattle.std.specs.Prelude.{slice_get}
-use Rattle.std.proofs.lemmas.Option.{slice_get-get_or}
+use Rattle.std.proofs.Common.{◌≡◌, ℕ, zero, suc, ◌+◌, ◌<◌, ◌≤◌, Bool, true, false, List, [], ◌∷◌, length, Some, None, refl, ap, arith}
 use Rattle.std.specs.List.{position, position_or_len, remove}
 use Rattle.std.proofs.lemmas.Bool.Decides.{nat_tests}
 use Rattle.std.proofs.lemmas.List.Quantifiers.{position-Some}
 use Rattle.slot_space.specs.declared.names.Tid.{Tid}
 use Rattle.run_trace.specs.declared.node.Row.{Row}
 use Rattle.run_trace.specs.Names.{is_tid}
-use Rattle.run_trace.specs.Places.{without_row, better, best_of, best}
+use Rattle.run_trace.specs.Places.{without_row}
 
 is_of : Tid → Row → Bool
 is_of t r = is_tid t r.tid
@@ -52,36 +50,3 @@ no_row t rows e =
     not_found t rows past
 
 pub ruleset places = (row_out, no_row)
-
--- ## The best row from a place on
-
-drop_item : (rows : List Row) (i : ℕ) (r : Row) → slice_get rows i ≡ Some r → drop i rows ≡ r ∷ drop (suc i) rows
-drop_item [] i r e = absurd (let none : slice_get {X = Row} [] i ≡ None = refl in cc (none, e))
-drop_item (x ∷ rows) zero r e = let s : x ≡ r = cc e in ap (λ (y : Row). y ∷ rows) s
-drop_item (x ∷ rows) (suc i) r e = drop_item rows i r e
-
-pub last_best : (rows : List Row) (n : ℕ) → length rows ≡ n → (n ≡ 0 → ⊥) → slice_get rows (n - 1) ≡ best (drop (n - 1) rows)
-last_best [] n l some = absurd (some (sym l))
-last_best (r ∷ []) n l some = let e : n - 1 ≡ 0 = omega (arith, l) in ap (slice_get (r ∷ [])) e ∙ ap (λ k. best (drop k (r ∷ []))) (sym e)
-last_best (r ∷ x ∷ rows) n l some =
-    let e : n - 1 ≡ suc (length (x ∷ rows) - 1) = omega (arith, l) in
-    ap (slice_get (r ∷ x ∷ rows)) e ∙ last_best (x ∷ rows) (length (x ∷ rows)) refl (λ z. absurd (omega (arith, z))) ∙ ap (λ k. best (drop k (r ∷ x ∷ rows))) (sym e)
-
-best_more : (rows : List Row) (k at : ℕ) (r b : Row) → slice_get rows k ≡ Some r → slice_get rows at ≡ Some b → slice_get rows at ≡ best (drop (suc k) rows) → best (drop k rows) ≡ Some (better r b)
-best_more rows k at r b e f h = ap best (drop_item rows k r e) ∙ ap (best_of r) (sym h ∙ f)
-
-pub stays_best : (rows : List Row) (place at : ℕ) (r b : Row) (passed : Bool) → (place ≡ 0 → ⊥) → slice_get rows (place - 1) ≡ Some r → slice_get rows at ≡ Some b → better r b ≡ cond passed b r → passed ≡ true
-    → slice_get rows at ≡ best (drop place rows) → slice_get rows at ≡ best (drop (place - 1) rows)
-stays_best rows place at r b passed some e f is p h =
-    let s : place ≡ suc (place - 1) = omega (arith, some) in
-    f ∙ sym (best_more rows (place - 1) at r b e f (h ∙ ap (λ k. best (drop k rows)) s) ∙ ap (λ (x : Row). Some x) (is ∙ ap (λ v. cond v b r) p))
-
-pub is_better : (rows : List Row) (place at : ℕ) (r b : Row) (passed : Bool) → (place ≡ 0 → ⊥) → slice_get rows (place - 1) ≡ Some r → slice_get rows at ≡ Some b → better r b ≡ cond passed b r → passed ≡ false
-    → slice_get rows at ≡ best (drop place rows) → slice_get rows (place - 1) ≡ best (drop (place - 1) rows)
-is_better rows place at r b passed some e f is p h =
-    let s : place ≡ suc (place - 1) = omega (arith, some) in
-    e ∙ sym (best_more rows (place - 1) at r b e f (h ∙ ap (λ k. best (drop k rows)) s) ∙ ap (λ (x : Row). Some x) (is ∙ ap (λ v. cond v b r) p))
-
--- the row that the code has read
-pub row_read : (items rows : List Row) (i : ℕ) (r : Row) → items ≡ rows → r ≡ get_or items i r → i < length rows → slice_get rows i ≡ Some r
-row_read items rows i r same is l = slice_get-get_or rows i r l ∙ ap (λ (x : Row). Some x) (sym (is ∙ ap (λ xs. get_or xs i r) same))

@@ -19,9 +19,9 @@ top_of-self-inside-requires c = subst (λ rows. greatest rows ≤ c.self.inside.
     (subst (λ k. greatest (without_row c.args.t c.self.inside.rows.items) ≤ k) (sym c.self.invariant.3) (greatest_less c.args.t c.self.inside.rows.items))
 
 pub invariant_of-self : goal.invariant_of-self
-invariant_of-self c =
-    ( c.take_out.ensures ∙ ap (without tid_cmp c.args.t) c.self.invariant.0 ∙ sym (names_less c.args.t c.self.inside.rows.items) ∙ ap names_of (sym c.row_out.ensures)
-    , subst AreOnRoot (sym c.row_out.ensures) (root_without c.args.t c.self.inside.rows.items c.self.invariant.1)
-    , subst (λ rows. IsRising (places_of rows c.self.inside.next)) (sym c.row_out.ensures) (less_rises c.args.t (places_of c.self.inside.rows.items c.self.inside.next) c.self.invariant.2)
-    , c.top_of-self-inside.ensures ∙ ap greatest c.deref.ensures.value
-    )
+invariant_of-self c = (
+  c.take_out.ensures ∙ ap (without tid_cmp c.args.t) c.self.invariant.0 ∙ sym (names_less c.args.t c.self.inside.rows.items) ∙ ap names_of (sym c.row_out.ensures),
+  subst AreOnRoot (sym c.row_out.ensures) (root_without c.args.t c.self.inside.rows.items c.self.invariant.1),
+  subst (λ rows. IsRising (places_of rows c.self.inside.next)) (sym c.row_out.ensures) (less_rises c.args.t (places_of c.self.inside.rows.items c.self.inside.next) c.self.invariant.2),
+  c.top_of-self-inside.ensures ∙ ap greatest c.deref.ensures.value,
+)
