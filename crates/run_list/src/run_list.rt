@@ -24,7 +24,7 @@ pub struct RunList {
     // Their names, in order.
     names: Vec<Tid>,
     next: u64,
-    // The greatest priority among them.
+    // The greatest priority among the rows.
     top: u8,
 }
 
