@@ -5,7 +5,7 @@ use Rattle.std.specs.List.{flat_map, range_with_len}
 use Rattle.rv_inst.specs.declared.image.Image.{Image}
 use Rattle.rv_inst.specs.Image.{image_start, image_word}
 use Rattle.rv_inst.specs.Fields.{inst_of}
-use Rattle.asm_list.specs.Names.{inst_name}
+use Rattle.rv_inst.specs.Table.{inst_name}
 
 -- a lower-case hexadecimal digit
 abbrev pub hexadecimal_digit : ℕ → ℕ

@@ -7,10 +7,8 @@ ghost use Rattle.asm_list.specs.Listing.{service_line, line_at, word_lines, list
 
 use crate::lines::{push_main, push_service, push_word};
 use basics::NoMemory;
-use rv_inst::Image;
+use rv_inst::{IMAGE_START, Image};
 use std::alloc::{AllocError, Global};
-
-const IMAGE_START: u64 = 0x1_0000;
 
 /// Appends the lines of services, whose addresses are below 2^32.
 fn push_services(out: &mut Vec<u8>, services: &[(u8, u64)]) -> Result<(), AllocError>

@@ -1,108 +1,53 @@
 //! The names of instructions.
 
 ghost use Rattle.std.specs.Prelude.{◌≡◌};
-ghost use Rattle.asm_list.specs.Names.{branch_name, load_name, store_name, imm_name, shift_name, reg_name, inst_name};
+ghost use Rattle.rv_inst.specs.Table.{branch_row, load_row, store_row, imm_row, shift_row, reg_row, inst_name};
 
-use rv_inst::{BranchOp, ImmOp, Inst, LoadOp, RegOp, ShiftOp, StoreOp};
+use rv_inst::{BranchOp, ImmOp, Inst, LoadOp, RegOp, ShiftOp, StoreOp, rows_of};
+
+/// The name in the row of an operation.
+macro_rules! name {
+    ($kind:ident ($given:expr) $($op:ident $name:literal $opcode:literal $funct3:literal $funct7:literal,)*) => {
+        match $given {
+            $($kind::$op => $name,)*
+        }
+    };
+}
 
 fn branch_name(op: BranchOp) -> &'static [u8]
-    ensures { result.now ≡ branch_name op }
+    ensures { result.now ≡ (branch_row op).name }
 {
-    match op {
-        BranchOp::Beq => b"beq",
-        BranchOp::Bne => b"bne",
-        BranchOp::Blt => b"blt",
-        BranchOp::Bge => b"bge",
-        BranchOp::Bltu => b"bltu",
-        BranchOp::Bgeu => b"bgeu",
-    }
+    rows_of!(BranchOp name (op))
 }
 
 fn load_name(op: LoadOp) -> &'static [u8]
-    ensures { result.now ≡ load_name op }
+    ensures { result.now ≡ (load_row op).name }
 {
-    match op {
-        LoadOp::Lb => b"lb",
-        LoadOp::Lh => b"lh",
-        LoadOp::Lw => b"lw",
-        LoadOp::Ld => b"ld",
-        LoadOp::Lbu => b"lbu",
-        LoadOp::Lhu => b"lhu",
-        LoadOp::Lwu => b"lwu",
-    }
+    rows_of!(LoadOp name (op))
 }
 
 fn store_name(op: StoreOp) -> &'static [u8]
-    ensures { result.now ≡ store_name op }
+    ensures { result.now ≡ (store_row op).name }
 {
-    match op {
-        StoreOp::Sb => b"sb",
-        StoreOp::Sh => b"sh",
-        StoreOp::Sw => b"sw",
-        StoreOp::Sd => b"sd",
-    }
+    rows_of!(StoreOp name (op))
 }
 
 fn imm_name(op: ImmOp) -> &'static [u8]
-    ensures { result.now ≡ imm_name op }
+    ensures { result.now ≡ (imm_row op).name }
 {
-    match op {
-        ImmOp::Addi => b"addi",
-        ImmOp::Slti => b"slti",
-        ImmOp::Sltiu => b"sltiu",
-        ImmOp::Xori => b"xori",
-        ImmOp::Ori => b"ori",
-        ImmOp::Andi => b"andi",
-        ImmOp::Addiw => b"addiw",
-    }
+    rows_of!(ImmOp name (op))
 }
 
 fn shift_name(op: ShiftOp) -> &'static [u8]
-    ensures { result.now ≡ shift_name op }
+    ensures { result.now ≡ (shift_row op).name }
 {
-    match op {
-        ShiftOp::Slli => b"slli",
-        ShiftOp::Srli => b"srli",
-        ShiftOp::Srai => b"srai",
-        ShiftOp::Slliw => b"slliw",
-        ShiftOp::Srliw => b"srliw",
-        ShiftOp::Sraiw => b"sraiw",
-    }
+    rows_of!(ShiftOp name (op))
 }
 
 fn reg_name(op: RegOp) -> &'static [u8]
-    ensures { result.now ≡ reg_name op }
+    ensures { result.now ≡ (reg_row op).name }
 {
-    match op {
-        RegOp::Add => b"add",
-        RegOp::Sub => b"sub",
-        RegOp::Sll => b"sll",
-        RegOp::Slt => b"slt",
-        RegOp::Sltu => b"sltu",
-        RegOp::Xor => b"xor",
-        RegOp::Srl => b"srl",
-        RegOp::Sra => b"sra",
-        RegOp::Or => b"or",
-        RegOp::And => b"and",
-        RegOp::Addw => b"addw",
-        RegOp::Subw => b"subw",
-        RegOp::Sllw => b"sllw",
-        RegOp::Srlw => b"srlw",
-        RegOp::Sraw => b"sraw",
-        RegOp::Mul => b"mul",
-        RegOp::Mulh => b"mulh",
-        RegOp::Mulhsu => b"mulhsu",
-        RegOp::Mulhu => b"mulhu",
-        RegOp::Div => b"div",
-        RegOp::Divu => b"divu",
-        RegOp::Rem => b"rem",
-        RegOp::Remu => b"remu",
-        RegOp::Mulw => b"mulw",
-        RegOp::Divw => b"divw",
-        RegOp::Divuw => b"divuw",
-        RegOp::Remw => b"remw",
-        RegOp::Remuw => b"remuw",
-    }
+    rows_of!(RegOp name (op))
 }
 
 /// The instruction's name, in lower case.

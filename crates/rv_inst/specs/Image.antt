@@ -1,4 +1,4 @@
--- The image of a program: bytes from 0x10000 on, and services by their numbers.
+-- The image of a program: bytes from one address on, and services by their numbers.
 use Rattle.std.specs.Prelude.{ℕ, ◌+◌, ◌-◌, ◌%◌, ◌^◌, ◌≡◌, ◌<◌, ◌≤◌, ◌==◌, ◌&&◌, nat_le, List, length, slice_get, slice_range, find, All, Option, Some, None, if◌then◌else◌}
 use Rattle.std.specs.Option.{option_map}
 use Rattle.std.specs.List.{AllPairs}

@@ -6,12 +6,13 @@ ghost use Rattle.rv_inst.specs.Image.{image_byte, image_word, service_entry};
 use basics::{Items, NoMemory};
 use std::alloc::Global;
 
-const IMAGE_START: u64 = 0x1_0000;
+/// Where the first byte of an image stands.
+pub const IMAGE_START: u64 = 0x1_0000;
 
-/// A program as it stands in memory, the first byte at 0x10000. It is read-only.
+/// A program as it stands in memory, from `IMAGE_START` on. It is read-only.
 #[derive(PartialEq, Eq, Drop)]
 pub struct Image {
-    /// The bytes from 0x10000 on.
+    /// The bytes, the first at `IMAGE_START`.
     pub bytes: Items<u8>,
     /// The address where the main thread starts.
     pub main: u64,

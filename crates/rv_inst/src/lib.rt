@@ -9,8 +9,9 @@ mod formats;
 mod image;
 mod inst;
 mod rows;
+mod table;
 
 pub use decoding::decode;
 pub use encoding::encode;
-pub use image::Image;
+pub use image::{IMAGE_START, Image};
 pub use inst::{BranchOp, ImmOp, Inst, LoadOp, Reg, RegOp, ShiftOp, StoreOp};
