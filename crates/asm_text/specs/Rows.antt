@@ -1,11 +1,9 @@
 -- The table of statements: a row for each form of each name.
-use Rattle.std.specs.Prelude.{ℕ, ◌^◌, ◌-◌, true, false, List, [], ◌∷◌, codes}
+use Rattle.std.specs.Prelude.{ℕ, ◌^◌, ◌-◌, true, false, List, [], ◌∷◌, ◌++◌, map, codes}
 use Rattle.rv_inst.specs.declared.inst.BranchOp.TheVariants as branch_op
-use Rattle.rv_inst.specs.declared.inst.LoadOp.TheVariants as load_op
-use Rattle.rv_inst.specs.declared.inst.StoreOp.TheVariants as store_op
 use Rattle.rv_inst.specs.declared.inst.ImmOp.TheVariants as imm_op
-use Rattle.rv_inst.specs.declared.inst.ShiftOp.TheVariants as shift_op
 use Rattle.rv_inst.specs.declared.inst.RegOp.TheVariants as reg_op
+use Rattle.rv_inst.specs.Table.{branch_row, load_row, store_row, imm_row, shift_row, reg_row, shift_end, branch_ops, load_ops, store_ops, imm_ops, shift_ops, reg_ops}
 use Rattle.asm_text.specs.declared.statements.Width.TheVariants as width
 use Rattle.asm_text.specs.declared.statements.Make.{Make}
 use Rattle.asm_text.specs.declared.statements.Make.TheVariants as make
@@ -45,11 +43,9 @@ three_registers = slot.Rd ∷ comma ∷ slot.Rs1 ∷ comma ∷ slot.Rs2 ∷ []
 abbrev pub immediate : List Slot
 immediate = slot.Rd ∷ comma ∷ slot.Rs1 ∷ comma ∷ slot.Number 2048 2047 ∷ []
 
-abbrev pub amount : List Slot
-amount = slot.Rd ∷ comma ∷ slot.Rs1 ∷ comma ∷ slot.Number 0 63 ∷ []
-
-abbrev pub amount_w : List Slot
-amount_w = slot.Rd ∷ comma ∷ slot.Rs1 ∷ comma ∷ slot.Number 0 31 ∷ []
+-- an amount below the end
+abbrev pub amount : ℕ → List Slot
+amount end = slot.Rd ∷ comma ∷ slot.Rs1 ∷ comma ∷ slot.Number 0 (end - 1) ∷ []
 
 abbrev pub upper : List Slot
 upper = slot.Rd ∷ comma ∷ slot.Number 0 0xfffff ∷ []
@@ -113,67 +109,15 @@ service = slot.Number 0 255 ∷ comma ∷ slot.Label ∷ []
 -- RV64IM, each by its own name
 unfoldable pub instructions : List RowOf
 instructions =
-    row (codes "add") three_registers (make.Op reg_op.Add)
-    ∷ row (codes "sub") three_registers (make.Op reg_op.Sub)
-    ∷ row (codes "sll") three_registers (make.Op reg_op.Sll)
-    ∷ row (codes "slt") three_registers (make.Op reg_op.Slt)
-    ∷ row (codes "sltu") three_registers (make.Op reg_op.Sltu)
-    ∷ row (codes "xor") three_registers (make.Op reg_op.Xor)
-    ∷ row (codes "srl") three_registers (make.Op reg_op.Srl)
-    ∷ row (codes "sra") three_registers (make.Op reg_op.Sra)
-    ∷ row (codes "or") three_registers (make.Op reg_op.Or)
-    ∷ row (codes "and") three_registers (make.Op reg_op.And)
-    ∷ row (codes "addw") three_registers (make.Op reg_op.Addw)
-    ∷ row (codes "subw") three_registers (make.Op reg_op.Subw)
-    ∷ row (codes "sllw") three_registers (make.Op reg_op.Sllw)
-    ∷ row (codes "srlw") three_registers (make.Op reg_op.Srlw)
-    ∷ row (codes "sraw") three_registers (make.Op reg_op.Sraw)
-    ∷ row (codes "mul") three_registers (make.Op reg_op.Mul)
-    ∷ row (codes "mulh") three_registers (make.Op reg_op.Mulh)
-    ∷ row (codes "mulhsu") three_registers (make.Op reg_op.Mulhsu)
-    ∷ row (codes "mulhu") three_registers (make.Op reg_op.Mulhu)
-    ∷ row (codes "div") three_registers (make.Op reg_op.Div)
-    ∷ row (codes "divu") three_registers (make.Op reg_op.Divu)
-    ∷ row (codes "rem") three_registers (make.Op reg_op.Rem)
-    ∷ row (codes "remu") three_registers (make.Op reg_op.Remu)
-    ∷ row (codes "mulw") three_registers (make.Op reg_op.Mulw)
-    ∷ row (codes "divw") three_registers (make.Op reg_op.Divw)
-    ∷ row (codes "divuw") three_registers (make.Op reg_op.Divuw)
-    ∷ row (codes "remw") three_registers (make.Op reg_op.Remw)
-    ∷ row (codes "remuw") three_registers (make.Op reg_op.Remuw)
-    ∷ row (codes "addi") immediate (make.Imm imm_op.Addi)
-    ∷ row (codes "slti") immediate (make.Imm imm_op.Slti)
-    ∷ row (codes "sltiu") immediate (make.Imm imm_op.Sltiu)
-    ∷ row (codes "xori") immediate (make.Imm imm_op.Xori)
-    ∷ row (codes "ori") immediate (make.Imm imm_op.Ori)
-    ∷ row (codes "andi") immediate (make.Imm imm_op.Andi)
-    ∷ row (codes "addiw") immediate (make.Imm imm_op.Addiw)
-    ∷ row (codes "slli") amount (make.Shift shift_op.Slli)
-    ∷ row (codes "srli") amount (make.Shift shift_op.Srli)
-    ∷ row (codes "srai") amount (make.Shift shift_op.Srai)
-    ∷ row (codes "slliw") amount_w (make.Shift shift_op.Slliw)
-    ∷ row (codes "srliw") amount_w (make.Shift shift_op.Srliw)
-    ∷ row (codes "sraiw") amount_w (make.Shift shift_op.Sraiw)
-    ∷ row (codes "lui") upper make.Lui
+    map (λ op. row (reg_row op).name three_registers (make.Op op)) reg_ops
+    ++ map (λ op. row (imm_row op).name immediate (make.Imm op)) imm_ops
+    ++ map (λ op. row (shift_row op).name (amount (shift_end op)) (make.Shift op)) shift_ops
+    ++ row (codes "lui") upper make.Lui
     ∷ row (codes "auipc") upper make.Auipc
-    ∷ row (codes "lb") from_memory (make.Load load_op.Lb)
-    ∷ row (codes "lh") from_memory (make.Load load_op.Lh)
-    ∷ row (codes "lw") from_memory (make.Load load_op.Lw)
-    ∷ row (codes "ld") from_memory (make.Load load_op.Ld)
-    ∷ row (codes "lbu") from_memory (make.Load load_op.Lbu)
-    ∷ row (codes "lhu") from_memory (make.Load load_op.Lhu)
-    ∷ row (codes "lwu") from_memory (make.Load load_op.Lwu)
-    ∷ row (codes "sb") to_memory (make.Store store_op.Sb)
-    ∷ row (codes "sh") to_memory (make.Store store_op.Sh)
-    ∷ row (codes "sw") to_memory (make.Store store_op.Sw)
-    ∷ row (codes "sd") to_memory (make.Store store_op.Sd)
-    ∷ row (codes "beq") compare (make.Branch branch_op.Beq)
-    ∷ row (codes "bne") compare (make.Branch branch_op.Bne)
-    ∷ row (codes "blt") compare (make.Branch branch_op.Blt)
-    ∷ row (codes "bge") compare (make.Branch branch_op.Bge)
-    ∷ row (codes "bltu") compare (make.Branch branch_op.Bltu)
-    ∷ row (codes "bgeu") compare (make.Branch branch_op.Bgeu)
-    ∷ row (codes "jal") link make.Jal
+    ∷ map (λ op. row (load_row op).name from_memory (make.Load op)) load_ops
+    ++ map (λ op. row (store_row op).name to_memory (make.Store op)) store_ops
+    ++ map (λ op. row (branch_row op).name compare (make.Branch op)) branch_ops
+    ++ row (codes "jal") link make.Jal
     ∷ row (codes "jal") target make.Call
     ∷ row (codes "jalr") from_memory make.Jalr
     ∷ row (codes "jalr") source make.CallBy

@@ -5,7 +5,7 @@ ghost use Rattle.asm_text.specs.Rows.{row_of, instructions, pseudo_instructions,
 
 use crate::slots::Slot;
 use crate::statements::{Make, Width};
-use rv_inst::{BranchOp, ImmOp, LoadOp, RegOp, ShiftOp, StoreOp};
+use rv_inst::{BranchOp, ImmOp, LoadOp, RegOp, ShiftOp, StoreOp, all_rows};
 
 /// A form of a statement.
 #[derive(Clone, Copy)]
@@ -99,75 +99,48 @@ macro_rules! row {
     };
 }
 
-static INSTRUCTIONS: [Row; 67] = [
-    row!(b"add", THREE_REGISTERS, Make::Op(RegOp::Add)),
-    row!(b"sub", THREE_REGISTERS, Make::Op(RegOp::Sub)),
-    row!(b"sll", THREE_REGISTERS, Make::Op(RegOp::Sll)),
-    row!(b"slt", THREE_REGISTERS, Make::Op(RegOp::Slt)),
-    row!(b"sltu", THREE_REGISTERS, Make::Op(RegOp::Sltu)),
-    row!(b"xor", THREE_REGISTERS, Make::Op(RegOp::Xor)),
-    row!(b"srl", THREE_REGISTERS, Make::Op(RegOp::Srl)),
-    row!(b"sra", THREE_REGISTERS, Make::Op(RegOp::Sra)),
-    row!(b"or", THREE_REGISTERS, Make::Op(RegOp::Or)),
-    row!(b"and", THREE_REGISTERS, Make::Op(RegOp::And)),
-    row!(b"addw", THREE_REGISTERS, Make::Op(RegOp::Addw)),
-    row!(b"subw", THREE_REGISTERS, Make::Op(RegOp::Subw)),
-    row!(b"sllw", THREE_REGISTERS, Make::Op(RegOp::Sllw)),
-    row!(b"srlw", THREE_REGISTERS, Make::Op(RegOp::Srlw)),
-    row!(b"sraw", THREE_REGISTERS, Make::Op(RegOp::Sraw)),
-    row!(b"mul", THREE_REGISTERS, Make::Op(RegOp::Mul)),
-    row!(b"mulh", THREE_REGISTERS, Make::Op(RegOp::Mulh)),
-    row!(b"mulhsu", THREE_REGISTERS, Make::Op(RegOp::Mulhsu)),
-    row!(b"mulhu", THREE_REGISTERS, Make::Op(RegOp::Mulhu)),
-    row!(b"div", THREE_REGISTERS, Make::Op(RegOp::Div)),
-    row!(b"divu", THREE_REGISTERS, Make::Op(RegOp::Divu)),
-    row!(b"rem", THREE_REGISTERS, Make::Op(RegOp::Rem)),
-    row!(b"remu", THREE_REGISTERS, Make::Op(RegOp::Remu)),
-    row!(b"mulw", THREE_REGISTERS, Make::Op(RegOp::Mulw)),
-    row!(b"divw", THREE_REGISTERS, Make::Op(RegOp::Divw)),
-    row!(b"divuw", THREE_REGISTERS, Make::Op(RegOp::Divuw)),
-    row!(b"remw", THREE_REGISTERS, Make::Op(RegOp::Remw)),
-    row!(b"remuw", THREE_REGISTERS, Make::Op(RegOp::Remuw)),
-    row!(b"addi", IMMEDIATE, Make::Imm(ImmOp::Addi)),
-    row!(b"slti", IMMEDIATE, Make::Imm(ImmOp::Slti)),
-    row!(b"sltiu", IMMEDIATE, Make::Imm(ImmOp::Sltiu)),
-    row!(b"xori", IMMEDIATE, Make::Imm(ImmOp::Xori)),
-    row!(b"ori", IMMEDIATE, Make::Imm(ImmOp::Ori)),
-    row!(b"andi", IMMEDIATE, Make::Imm(ImmOp::Andi)),
-    row!(b"addiw", IMMEDIATE, Make::Imm(ImmOp::Addiw)),
-    row!(b"slli", AMOUNT, Make::Shift(ShiftOp::Slli)),
-    row!(b"srli", AMOUNT, Make::Shift(ShiftOp::Srli)),
-    row!(b"srai", AMOUNT, Make::Shift(ShiftOp::Srai)),
-    row!(b"slliw", AMOUNT_W, Make::Shift(ShiftOp::Slliw)),
-    row!(b"srliw", AMOUNT_W, Make::Shift(ShiftOp::Srliw)),
-    row!(b"sraiw", AMOUNT_W, Make::Shift(ShiftOp::Sraiw)),
-    row!(b"lui", UPPER, Make::Lui),
-    row!(b"auipc", UPPER, Make::Auipc),
-    row!(b"lb", FROM_MEMORY, Make::Load(LoadOp::Lb)),
-    row!(b"lh", FROM_MEMORY, Make::Load(LoadOp::Lh)),
-    row!(b"lw", FROM_MEMORY, Make::Load(LoadOp::Lw)),
-    row!(b"ld", FROM_MEMORY, Make::Load(LoadOp::Ld)),
-    row!(b"lbu", FROM_MEMORY, Make::Load(LoadOp::Lbu)),
-    row!(b"lhu", FROM_MEMORY, Make::Load(LoadOp::Lhu)),
-    row!(b"lwu", FROM_MEMORY, Make::Load(LoadOp::Lwu)),
-    row!(b"sb", TO_MEMORY, Make::Store(StoreOp::Sb)),
-    row!(b"sh", TO_MEMORY, Make::Store(StoreOp::Sh)),
-    row!(b"sw", TO_MEMORY, Make::Store(StoreOp::Sw)),
-    row!(b"sd", TO_MEMORY, Make::Store(StoreOp::Sd)),
-    row!(b"beq", COMPARE, Make::Branch(BranchOp::Beq)),
-    row!(b"bne", COMPARE, Make::Branch(BranchOp::Bne)),
-    row!(b"blt", COMPARE, Make::Branch(BranchOp::Blt)),
-    row!(b"bge", COMPARE, Make::Branch(BranchOp::Bge)),
-    row!(b"bltu", COMPARE, Make::Branch(BranchOp::Bltu)),
-    row!(b"bgeu", COMPARE, Make::Branch(BranchOp::Bgeu)),
-    row!(b"jal", LINK, Make::Jal),
-    row!(b"jal", TARGET, Make::Call),
-    row!(b"jalr", FROM_MEMORY, Make::Jalr),
-    row!(b"jalr", SOURCE, Make::CallBy),
-    row!(b"fence", NO_OPERANDS, Make::Fence),
-    row!(b"ecall", NO_OPERANDS, Make::Ecall),
-    row!(b"ebreak", NO_OPERANDS, Make::Ebreak),
-];
+/// What a shift's operands are, by its opcode.
+macro_rules! amount {
+    (0x13) => {
+        AMOUNT
+    };
+    (0x1b) => {
+        AMOUNT_W
+    };
+}
+
+/// The forms of all operations, each by its own name, and of the other instructions.
+macro_rules! forms {
+    (
+        ()
+        BranchOp { $($branch:ident $branch_name:literal $b1:literal $b2:literal $b3:literal,)* }
+        LoadOp { $($load:ident $load_name:literal $l1:literal $l2:literal $l3:literal,)* }
+        StoreOp { $($store:ident $store_name:literal $s1:literal $s2:literal $s3:literal,)* }
+        ImmOp { $($imm:ident $imm_name:literal $i1:literal $i2:literal $i3:literal,)* }
+        ShiftOp { $($shift:ident $shift_name:literal $opcode:tt $h2:literal $h3:literal,)* }
+        RegOp { $($reg:ident $reg_name:literal $r1:literal $r2:literal $r3:literal,)* }
+    ) => {
+        [
+            $(row!($reg_name, THREE_REGISTERS, Make::Op(RegOp::$reg)),)*
+            $(row!($imm_name, IMMEDIATE, Make::Imm(ImmOp::$imm)),)*
+            $(row!($shift_name, amount!($opcode), Make::Shift(ShiftOp::$shift)),)*
+            row!(b"lui", UPPER, Make::Lui),
+            row!(b"auipc", UPPER, Make::Auipc),
+            $(row!($load_name, FROM_MEMORY, Make::Load(LoadOp::$load)),)*
+            $(row!($store_name, TO_MEMORY, Make::Store(StoreOp::$store)),)*
+            $(row!($branch_name, COMPARE, Make::Branch(BranchOp::$branch)),)*
+            row!(b"jal", LINK, Make::Jal),
+            row!(b"jal", TARGET, Make::Call),
+            row!(b"jalr", FROM_MEMORY, Make::Jalr),
+            row!(b"jalr", SOURCE, Make::CallBy),
+            row!(b"fence", NO_OPERANDS, Make::Fence),
+            row!(b"ecall", NO_OPERANDS, Make::Ecall),
+            row!(b"ebreak", NO_OPERANDS, Make::Ebreak),
+        ]
+    };
+}
+
+static INSTRUCTIONS: [Row; 67] = all_rows!(forms());
 
 /// RV64IM, each instruction by its own name.
 #[tactic(auto, unfolding(crate::specs::Rows::instructions))]
