@@ -3,6 +3,7 @@ use Rattle.std.proofs.Common.{◌⊎◌, refl, sym, ◌∙◌, ap, ◌≡◌, �
 use Rattle.std.specs.Prelude.{nat_lt, nat_le}
 use Rattle.std.proofs.lemmas.Bool.Decides.{nat_tests}
 use Rattle.std.proofs.lemmas.Bool.{false≢true, le-leb, lt-ltb, eq-eqb, ne_eqb, cases_lt, or_cases, or_right}
+use Rattle.slot_space.specs.Limits.{slot_size, slot_limit}
 use Rattle.slot_space.specs.Places.{slot_base, HoldsAddress}
 use Rattle.iso_blocks.specs.Bytes.{is_met}
 use Rattle.iso_blocks.specs.Heap.{StandFrom, without}
@@ -34,11 +35,11 @@ stand_behind low slots (b ∷ live) zero a n s l read =
     let p : a ≡ b.0 = ap (λ (p : ℕ × ℕ). p.0) read in let q : n ≡ b.1 = ap (λ (p : ℕ × ℕ). p.1) read in rw (p, q) s.2
 stand_behind low slots (b ∷ live) (suc k) a n s l read = stand_behind (b.0 + b.1) slots live k a n s.2 (omega arith) read
 
-meets-parts : (b : ℕ × ℕ) (s : ℕ) → meets b s ≡ true → (b.0 < slot_base s + 65536) × (slot_base s < b.0 + b.1)
+meets-parts : (b : ℕ × ℕ) (s : ℕ) → meets b s ≡ true → (b.0 < slot_base s + slot_size) × (slot_base s < b.0 + b.1)
 meets-parts b s e = grind (arith, nat_tests)
 
-meets-from : (b : ℕ × ℕ) (s : ℕ) → b.0 < slot_base s + 65536 → slot_base s < b.0 + b.1 → meets b s ≡ true
-meets-from b s p q = rw (lt-ltb b.0 (slot_base s + 65536) p, lt-ltb (slot_base s) (b.0 + b.1) q) refl
+meets-from : (b : ℕ × ℕ) (s : ℕ) → b.0 < slot_base s + slot_size → slot_base s < b.0 + b.1 → meets b s ≡ true
+meets-from b s p q = rw (lt-ltb b.0 (slot_base s + slot_size) p, lt-ltb (slot_base s) (b.0 + b.1) q) refl
 
 -- a slot that the blocks before a place meet begins before their end
 before_met : (low : ℕ) (slots : List ℕ) (live : List (ℕ × ℕ)) (k s : ℕ) → StandFrom low slots live → is_met (take k live) s ≡ true → slot_base s < end_before low live k
@@ -50,7 +51,7 @@ before_met low slots (b ∷ live) (suc k) s h e =
 
 -- the slot in which the blocks before a place end is met by them
 before_last : (low : ℕ) (slots : List ℕ) (live : List (ℕ × ℕ)) (k s : ℕ) → StandFrom low slots live → low ≤ slot_base s → slot_base s < end_before low live k
-    → end_before low live k < slot_base s + 65536 → is_met (take k live) s ≡ true
+    → end_before low live k < slot_base s + slot_size → is_met (take k live) s ≡ true
 before_last low slots live zero s h le less near = absurd (omega arith)
 before_last low slots [] (suc k) s h le less near = absurd (omega arith)
 before_last low slots (b ∷ live) (suc k) s h le less near =
@@ -59,14 +60,14 @@ before_last low slots (b ∷ live) (suc k) s h le less near =
     (cases_lt (slot_base s) (b.0 + b.1))
 
 -- a slot that blocks meet ends behind their start
-after_met : (low : ℕ) (slots : List ℕ) (live : List (ℕ × ℕ)) (s : ℕ) → StandFrom low slots live → is_met live s ≡ true → start_of live < slot_base s + 65536
+after_met : (low : ℕ) (slots : List ℕ) (live : List (ℕ × ℕ)) (s : ℕ) → StandFrom low slots live → is_met live s ≡ true → start_of live < slot_base s + slot_size
 after_met low slots [] s h e = absurd (false≢true e)
 after_met low slots (b ∷ []) s h e = ⊎_elim (λ i. (meets-parts b s i).0) (λ i. absurd (false≢true i)) (or_cases (meets b s) false e)
 after_met low slots (b ∷ (c ∷ live)) s h e =
     ⊎_elim (λ i. (meets-parts b s i).0) (λ i. let r = after_met (b.0 + b.1) slots (c ∷ live) s h.2 i in omega (arith, r, h.2.1)) (or_cases (meets b s) (is_met (c ∷ live) s) e)
 
 -- the slot in which blocks start is met by them
-after_first : (low : ℕ) (slots : List ℕ) (live : List (ℕ × ℕ)) (s : ℕ) → StandFrom low slots live → s < 4096 → slot_base s < start_of live → start_of live < slot_base s + 65536 → is_met live s ≡ true
+after_first : (low : ℕ) (slots : List ℕ) (live : List (ℕ × ℕ)) (s : ℕ) → StandFrom low slots live → s < slot_limit → slot_base s < start_of live → start_of live < slot_base s + slot_size → is_met live s ≡ true
 after_first low slots [] s h small less near = absurd (omega arith)
 after_first low slots (b ∷ live) s h small less near = rw (meets-from b s near (omega (arith, h.0.some))) refl
 
@@ -108,7 +109,7 @@ outcome false false false false f g h = refl
 
 -- which slots are met once a block goes: those that were, but the ones that are its own
 pub is_met-gone : (slots : List ℕ) (live : List (ℕ × ℕ)) (k a n first count from end s : ℕ) → StandFrom 0 slots live → k < length live → (a, n) ≡ get_or live k (a, n) → 16 ≤ n
-    → HoldsAddress first a → HoldsAddress (first + count - 1) (a + n - 1) → 0 < count → first + count ≤ 4096
+    → HoldsAddress first a → HoldsAddress (first + count - 1) (a + n - 1) → 0 < count → first + count ≤ slot_limit
     → Owns (end_before 0 live k) (start_of (drop (suc k) live)) first count from end
     → is_met (without live a) s ≡ (is_met live s && not (nat_le from s && nat_lt s end))
 is_met-gone slots live k a n first count from end s h l read some f g c small o =

@@ -1,6 +1,7 @@
 -- What each change of a heap does to its free bytes.
 use Rattle.std.proofs.Common.{refl, sym, ◌∙◌, ap, ◌≡◌, ℕ, ◌+◌, ◌<◌, Bool, true, false, List, [], ◌∷◌, length, get_or, arith, not, zero, suc, ◌||◌, ◌&&◌}
 use Rattle.std.proofs.lemmas.Bool.{false≢true, true≢false, or_right}
+use Rattle.slot_space.specs.Limits.{slot_size}
 use Rattle.slot_space.specs.Sets.{has, insert, minus}
 use Rattle.slot_space.specs.Places.{slot_base, HoldsAddress}
 use Rattle.iso_blocks.specs.Bytes.{lies_in, in_slots, in_blocks, is_met}
@@ -49,11 +50,11 @@ is_free-without low slots live a n k s l read x =
 
 -- after a slot comes in
 pub is_free-insert : (s low : ℕ) (slots : List ℕ) (live : List (ℕ × ℕ)) → StandFrom low slots live → has s slots ≡ false → (x : ℕ)
-    → is_free (heap live (insert s slots)) x ≡ (is_free (heap live slots) x || lies_in (slot_base s) (slot_base s + 65536) x)
+    → is_free (heap live (insert s slots)) x ≡ (is_free (heap live slots) x || lies_in (slot_base s) (slot_base s + slot_size) x)
 is_free-insert s low slots live stand new x =
     rw (in_slots-insert s slots x)
-    (grow (in_slots slots x) (in_blocks live x) (lies_in (slot_base s) (slot_base s + 65536) x)
-    (λ e. let h = lies_in-true (slot_base s) (slot_base s + 65536) x e in in_slots-has slots s x h ∙ new)
+    (grow (in_slots slots x) (in_blocks live x) (lies_in (slot_base s) (slot_base s + slot_size) x)
+    (λ e. let h = lies_in-true (slot_base s) (slot_base s + slot_size) x e in in_slots-has slots s x h ∙ new)
     (λ e. in_blocks-in_slots low slots live x stand e))
   where
     grow : (i j l : Bool) → (l ≡ true → i ≡ false) → (j ≡ true → i ≡ true) → ((i || l) && not j) ≡ ((i && not j) || l)
@@ -69,9 +70,9 @@ is_free-insert s low slots live stand new x =
 
 -- after a slot goes
 pub is_free-minus : (s : ℕ) (slots : List ℕ) (live : List (ℕ × ℕ)) (x : ℕ)
-    → is_free (heap live (minus slots (s ∷ []))) x ≡ (is_free (heap live slots) x && not (lies_in (slot_base s) (slot_base s + 65536) x))
+    → is_free (heap live (minus slots (s ∷ []))) x ≡ (is_free (heap live slots) x && not (lies_in (slot_base s) (slot_base s + slot_size) x))
 is_free-minus s slots live x =
-    rw (in_slots-minus s slots x) (swap (in_slots slots x) (in_blocks live x) (lies_in (slot_base s) (slot_base s + 65536) x))
+    rw (in_slots-minus s slots x) (swap (in_slots slots x) (in_blocks live x) (lies_in (slot_base s) (slot_base s + slot_size) x))
   where
     swap : (i j l : Bool) → ((i && not l) && not j) ≡ ((i && not j) && not l)
     swap true true true = refl

@@ -1,6 +1,7 @@
 -- The parts of the block layer stay in step through each of its four changes.
 use Rattle.std.proofs.Common.{refl, sym, ◌∙◌, ap, ◌≡◌, ℕ, ◌+◌, ◌-◌, ◌%◌, ◌<◌, ◌≤◌, Bool, true, false, List, [], ◌∷◌, length, get_or, arith, not, ◌||◌, ◌&&◌, cond, vec_capacity, suc, drop}
 use Rattle.std.proofs.lemmas.Bool.{true≢false, le-leb, lt-ltb, and_parts, not-true}
+use Rattle.slot_space.specs.Limits.{slots_end, slot_size, slot_limit}
 use Rattle.slot_space.specs.Sets.{has, insert, union, minus, run, IsSlotSet}
 use Rattle.slot_space.specs.Places.{slot_base, HoldsAddress}
 use Rattle.slot_space.proofs.Sets.{has-union}
@@ -35,7 +36,7 @@ fits_block l size a f some whole =
     }
 
 -- bytes in slots lie within the memory of all slots
-pub slots_within : (slots : List ℕ) (a n : ℕ) → IsSlotSet slots → 0 < n → ((x : ℕ) → a ≤ x → x < a + n → in_slots slots x ≡ true) → (slot_base 0 ≤ a) × (a + n ≤ slot_base 4096)
+pub slots_within : (slots : List ℕ) (a n : ℕ) → IsSlotSet slots → 0 < n → ((x : ℕ) → a ≤ x → x < a + n → in_slots slots x ≡ true) → (slot_base 0 ≤ a) × (a + n ≤ slots_end)
 slots_within slots a n proper some inside =
     let first = in_slots-some slots a (inside a (omega arith) (omega arith)) in
     let last = in_slots-some slots (a + n - 1) (inside (a + n - 1) (omega arith) (omega arith)) in
@@ -43,12 +44,12 @@ slots_within slots a n proper some inside =
     (omega (arith, first.2.0), omega (arith, last.2.1, small))
 
 -- what fits lies within the memory of all slots
-pub fits_within : (l : Layout) (size a : ℕ) → IsKept l → Fits (heap_of l) size a → 16 ≤ size → (slot_base 0 ≤ a) × (a + size ≤ slot_base 4096)
+pub fits_within : (l : Layout) (size a : ℕ) → IsKept l → Fits (heap_of l) size a → 16 ≤ size → (slot_base 0 ≤ a) × (a + size ≤ slots_end)
 fits_within l size a k f some =
     slots_within l.heap a size k.proper (omega arith) (λ x lo hi. (and_parts (in_slots l.heap x) (not (in_blocks l.live.items x)) (f.free x lo hi)).0)
 
 -- a live block lies within the memory of all slots
-pub block_within : (l : Layout) (k : ℕ) (b : ℕ × ℕ) → IsKept l → k < length l.live.items → b ≡ get_or l.live.items k b → (slot_base 0 ≤ b.0) × (b.0 + b.1 ≤ slot_base 4096) × (16 ≤ b.1)
+pub block_within : (l : Layout) (k : ℕ) (b : ℕ × ℕ) → IsKept l → k < length l.live.items → b ≡ get_or l.live.items k b → (slot_base 0 ≤ b.0) × (b.0 + b.1 ≤ slots_end) × (16 ≤ b.1)
 block_within l k b kept within read =
     let block = block_at 0 l.heap l.live.items b k kept.sound within read in
     let w = slots_within l.heap b.0 b.1 kept.proper (omega (arith, block.some)) block.inside in
@@ -90,38 +91,38 @@ kept-settle l m a size first count last k f some whole g =
 -- a slot comes in
 pub record Grows (l m : Layout) (s : ℕ) : Type 0 where
   pub live : m.live.items ≡ l.live.items
-  pub holes : m.holes.items ≡ join (slot_base s) (slot_base s + 65536) l.holes.items
+  pub holes : m.holes.items ≡ join (slot_base s) (slot_base s + slot_size) l.holes.items
   pub heap : m.heap ≡ insert s l.heap
   pub met : m.met ≡ l.met
   pub slots : m.slots ≡ l.slots + 1
   pub room : length l.holes.items + length l.live.items + length l.heap + 2 ≤ vec_capacity m.holes
 
-pub kept-grow : (l m : Layout) (s : ℕ) → IsKept l → s < 4096 → has s l.heap ≡ false → Grows l m s → IsKept m
+pub kept-grow : (l m : Layout) (s : ℕ) → IsKept l → s < slot_limit → has s l.heap ≡ false → Grows l m s → IsKept m
 kept-grow l m s k small new g =
-    let taken : AreTaken l.holes.items (slot_base s) (slot_base s + 65536) = λ x lo hi. k.bytes x ∙ slot_is_taken s l.heap l.live.items x new (lo, hi) in
+    let taken : AreTaken l.holes.items (slot_base s) (slot_base s + slot_size) = λ x lo hi. k.bytes x ∙ slot_is_taken s l.heap l.live.items x new (lo, hi) in
     record {
       sound = rw (g.live, g.heap) (StandFrom-slots 0 l.heap (insert s l.heap) l.live.items k.sound
           (λ x e. rw (in_slots-insert s l.heap x, in_blocks-in_slots 0 l.heap l.live.items x k.sound e) refl));
-      proper = rw g.heap (record { ascending = ascending-insert s l.heap k.proper.ascending; small = below-insert 4096 s l.heap small k.proper.small });
-      apart = rw g.holes (StandApart-join 0 (slot_base s) (slot_base s + 65536) l.holes.items (omega arith) (omega arith) (omega arith) k.apart taken);
-      bytes = λ x. rw (g.holes, g.live, g.heap) (in_holes-join 0 (slot_base s) (slot_base s + 65536) l.holes.items (omega arith) k.apart taken x
-          ∙ ap (λ b. b || lies_in (slot_base s) (slot_base s + 65536) x) (k.bytes x) ∙ sym (is_free-insert s 0 l.heap l.live.items k.sound new x));
+      proper = rw g.heap (record { ascending = ascending-insert s l.heap k.proper.ascending; small = below-insert slot_limit s l.heap small k.proper.small });
+      apart = rw g.holes (StandApart-join 0 (slot_base s) (slot_base s + slot_size) l.holes.items (omega arith) (omega arith) (omega arith) k.apart taken);
+      bytes = λ x. rw (g.holes, g.live, g.heap) (in_holes-join 0 (slot_base s) (slot_base s + slot_size) l.holes.items (omega arith) k.apart taken x
+          ∙ ap (λ b. b || lies_in (slot_base s) (slot_base s + slot_size) x) (k.bytes x) ∙ sym (is_free-insert s 0 l.heap l.live.items k.sound new x));
       met = λ t. rw (g.met, g.live) (k.met t);
       counted = rw (g.slots, g.heap, length-insert s l.heap new, k.counted) refl;
-      room = let c = length-join (slot_base s) (slot_base s + 65536) l.holes.items in let n = length-insert s l.heap new in
+      room = let c = length-join (slot_base s) (slot_base s + slot_size) l.holes.items in let n = length-insert s l.heap new in
           omega (arith, c, n, g.room, ap length g.holes, ap length g.live, ap length g.heap);
     }
 
 -- a slot that no block meets goes
 pub record Shrinks (l m : Layout) (s : ℕ) : Type 0 where
   pub live : m.live.items ≡ l.live.items
-  pub holes : m.holes.items ≡ cut (slot_base s) (slot_base s + 65536) l.holes.items
+  pub holes : m.holes.items ≡ cut (slot_base s) (slot_base s + slot_size) l.holes.items
   pub heap : m.heap ≡ minus l.heap (s ∷ [])
   pub met : m.met ≡ l.met
   pub slots : m.slots + 1 ≡ l.slots
   pub room : vec_capacity l.holes ≤ vec_capacity m.holes
 
-pub slot_free : (l : Layout) (s : ℕ) → IsKept l → has s l.heap ≡ true → is_met l.live.items s ≡ false → AreFree l.holes.items (slot_base s) (slot_base s + 65536)
+pub slot_free : (l : Layout) (s : ℕ) → IsKept l → has s l.heap ≡ true → is_met l.live.items s ≡ false → AreFree l.holes.items (slot_base s) (slot_base s + slot_size)
 slot_free l s k member none x lo hi = k.bytes x ∙ slot_is_free s l.heap l.live.items x member none (lo, hi)
 
 pub kept-shrink : (l m : Layout) (s : ℕ) → IsKept l → has s l.heap ≡ true → is_met l.live.items s ≡ false → Shrinks l m s → IsKept m
@@ -130,14 +131,14 @@ kept-shrink l m s k member none g =
     record {
       sound = rw (g.live, g.heap) (StandFrom-slots 0 l.heap (minus l.heap (s ∷ [])) l.live.items k.sound
           (λ x e. rw (in_slots-minus s l.heap x, in_blocks-in_slots 0 l.heap l.live.items x k.sound e)
-          (away (lies_in (slot_base s) (slot_base s + 65536) x) (λ i. true≢false (sym e ∙ is_met-false l.live.items s x none (lies_in-true (slot_base s) (slot_base s + 65536) x i))))));
-      proper = rw g.heap (record { ascending = ascending-minus l.heap (s ∷ []) k.proper.ascending; small = below-minus 4096 l.heap (s ∷ []) k.proper.small });
-      apart = rw g.holes (StandApart-cut 0 (slot_base s) (slot_base s + 65536) l.holes.items (omega arith) (omega arith) k.apart free);
-      bytes = λ x. rw (g.holes, g.live, g.heap) (in_holes-cut 0 (slot_base s) (slot_base s + 65536) l.holes.items (omega arith) k.apart free x
-          ∙ ap (λ b. b && not (lies_in (slot_base s) (slot_base s + 65536) x)) (k.bytes x) ∙ sym (is_free-minus s l.heap l.live.items x));
+          (away (lies_in (slot_base s) (slot_base s + slot_size) x) (λ i. true≢false (sym e ∙ is_met-false l.live.items s x none (lies_in-true (slot_base s) (slot_base s + slot_size) x i))))));
+      proper = rw g.heap (record { ascending = ascending-minus l.heap (s ∷ []) k.proper.ascending; small = below-minus slot_limit l.heap (s ∷ []) k.proper.small });
+      apart = rw g.holes (StandApart-cut 0 (slot_base s) (slot_base s + slot_size) l.holes.items (omega arith) (omega arith) k.apart free);
+      bytes = λ x. rw (g.holes, g.live, g.heap) (in_holes-cut 0 (slot_base s) (slot_base s + slot_size) l.holes.items (omega arith) k.apart free x
+          ∙ ap (λ b. b && not (lies_in (slot_base s) (slot_base s + slot_size) x)) (k.bytes x) ∙ sym (is_free-minus s l.heap l.live.items x));
       met = λ t. rw (g.met, g.live) (k.met t);
       counted = rw g.heap (let n = length-minus s l.heap k.proper.ascending member in omega (arith, n, g.slots, k.counted));
-      room = let n = length-minus s l.heap k.proper.ascending member in let c = length-cut (slot_base s) (slot_base s + 65536) l.holes.items in
+      room = let n = length-minus s l.heap k.proper.ascending member in let c = length-cut (slot_base s) (slot_base s + slot_size) l.holes.items in
           omega (arith, n, c, k.room, g.room, ap length g.holes, ap length g.live, ap length g.heap);
     }
   where
@@ -175,7 +176,7 @@ kept-leave l m a size i k g =
 
 -- which slots are met once the block at a place goes
 pub met_gone : (l : Layout) (k : ℕ) (b : ℕ × ℕ) (first count from end s : ℕ) → IsKept l → k < length l.live.items → b ≡ get_or l.live.items k b
-    → HoldsAddress first b.0 → HoldsAddress (first + count - 1) (b.0 + b.1 - 1) → 0 < count → first + count ≤ 4096
+    → HoldsAddress first b.0 → HoldsAddress (first + count - 1) (b.0 + b.1 - 1) → 0 < count → first + count ≤ slot_limit
     → Owns (end_before 0 l.live.items k) (start_of (drop (suc k) l.live.items)) first count from end
     → is_met (without l.live.items b.0) s ≡ (has s l.met && not (nat_le from s && nat_lt s end))
 met_gone l k b first count from end s kept within read f g some small owns =

@@ -11,6 +11,5 @@ pub mod KeptBy
 pub mod Placing
 pub mod HeapSets
 pub mod Checks
-pub mod InTheWay
 pub mod Sound
 pub mod Place

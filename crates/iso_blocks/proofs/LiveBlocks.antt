@@ -4,6 +4,7 @@ use Rattle.std.specs.List.{AllWithin, insert, remove}
 use Rattle.std.specs.List.Sorted.{IsNonDecreasingBy}
 use Rattle.std.proofs.lemmas.Bool.{false≢true, true≢false, le-leb, lt-leb, lt-ltb, eq-eqb, ne_eqb, cases_lt, cases_eq, cases_Bool, or_cases, or_right}
 use Rattle.std.specs.Prelude.{nat_lt}
+use Rattle.slot_space.specs.Limits.{slot_size}
 use Rattle.slot_space.specs.Places.{slot_base}
 use Rattle.iso_blocks.specs.Bytes.{lies_in, in_slots, in_blocks, is_met}
 use Rattle.iso_blocks.specs.Heap.{IsBlock, StandFrom, with_block, without, starts_at}
@@ -11,7 +12,7 @@ use Rattle.iso_blocks.proofs.Fit.{lies_in-true}
 
 -- a block has a byte in slot s
 abbrev pub meets : ℕ × ℕ → ℕ → Bool
-meets b s = nat_lt b.0 (slot_base s + 65536) && nat_lt (slot_base s) (b.0 + b.1)
+meets b s = nat_lt b.0 (slot_base s + slot_size) && nat_lt (slot_base s) (b.0 + b.1)
 
 pub or-assoc : (a b c : Bool) → (a || (b || c)) ≡ ((a || b) || c)
 or-assoc true b c = refl

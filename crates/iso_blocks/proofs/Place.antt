@@ -1,11 +1,13 @@
 -- The lowest place as a number is the lowest fit.
-use Rattle.std.proofs.Common.{refl, sym, ap, ◌∙◌, ◌≡◌, ℕ, ◌+◌, ◌-◌, ◌*◌, ◌/◌, ◌%◌, ◌<◌, Bool, true, false, Option, Some, None, arith, ⊎_elim, option_map, Result, Ok, Err, IfOk}
-use Rattle.std.proofs.lemmas.Bool.{true≢false, cases_Bool, cases_lt}
+use Rattle.std.proofs.Common.{refl, sym, ap, ◌∙◌, ◌≡◌, ℕ, ◌+◌, ◌-◌, ◌*◌, ◌/◌, ◌%◌, ◌<◌, ◌≤◌, Bool, true, false, not, Option, Some, None, arith, ⊎_elim, option_map, Result, Ok, Err, IfOk}
+use Rattle.std.proofs.lemmas.Bool.{true≢false, cases_Bool, cases_lt, and_parts}
+use Rattle.slot_space.specs.Limits.{slots_end}
 use Rattle.slot_space.specs.Places.{slot_base}
 use Rattle.slot_space.specs.Sets.{has_run, lowest_run, IsSlotSet}
 use Rattle.slot_space.proofs.Runs.{has_run-each, has_run-all, lowest_run-some, lowest_run-none, lowest_run-found, lowest_run-missing}
 use Rattle.iso_blocks.specs.Heap.{Heap, is_free, Fits, IsLowestFit, has_room, place}
-use Rattle.iso_blocks.proofs.InTheWay.{none_past}
+use Rattle.iso_blocks.specs.Bytes.{in_slots, in_blocks}
+use Rattle.iso_blocks.proofs.KeptBy.{slots_within}
 
 -- ## Room at an address
 
@@ -20,6 +22,12 @@ fits_of h size a aligned room = record {
 room_of : (h : Heap) (size a : ℕ) → Fits h size a → has_room h size a ≡ true
 room_of h size a f = has_run-all (is_free h) a size (λ u l. f.free (a + u) (omega arith) (omega arith))
 
+-- nothing fits past all slots
+none_past : (h : Heap) (at size a : ℕ) → IsSlotSet h.slots → 0 < size → slots_end < at + size → Fits h size a → at ≤ a → ⊥
+none_past h at size a proper some far f le =
+    let w = slots_within h.slots a size proper some (λ x lo hi. (and_parts (in_slots h.slots x) (not (in_blocks h.live x)) (f.free x lo hi)).0) in
+    omega (arith, w.1, far, le)
+
 -- ## The least multiple of 16
 
 module _ (h : Heap) (size : ℕ) where
@@ -27,7 +35,7 @@ module _ (h : Heap) (size : ℕ) where
   fits_at k = has_room h size (16 * k)
 
   abbrev limit : ℕ
-  limit = slot_base 4096 / 16
+  limit = slots_end / 16
 
   of_one : (k : ℕ) → has_run fits_at k 1 ≡ true → fits_at k ≡ true
   of_one k e = let z : k + 0 ≡ k = omega arith in ap fits_at (sym z) ∙ has_run-each fits_at k 1 0 e (omega arith)
@@ -51,7 +59,7 @@ module _ (h : Heap) (size : ℕ) where
           fits_of h size a (omega arith) (ap (has_room h size) (sym same) ∙ of_one k least.run)
 
   -- where a block has no place it fits nowhere
-  pub place_none : (a : ℕ) → place h size ≡ None → a < slot_base 4096 → Fits h size a → ⊥
+  pub place_none : (a : ℕ) → place h size ≡ None → a < slots_end → Fits h size a → ⊥
   unfolding place
   place_none a e low f = by (lowest_run fits_at 1 limit) refl e
     where
@@ -71,7 +79,7 @@ module _ (h : Heap) (size : ℕ) where
   place_is (Some a) proper some lowest =
       let f : Fits h size a = lowest.0 in
       let at : 16 * (a / 16) ≡ a = omega (arith, f.aligned) in
-      let low : a < slot_base 4096 = ⊎_elim (λ i. i) (λ i. absurd (none_past h a size a proper some (omega (arith, i, some)) f (omega arith))) (cases_lt a (slot_base 4096)) in
+      let low : a < slots_end = ⊎_elim (λ i. i) (λ i. absurd (none_past h a size a proper some (omega (arith, i, some)) f (omega arith))) (cases_lt a (slots_end)) in
       let found : lowest_run fits_at 1 limit ≡ Some (a / 16) = lowest_run-some fits_at 1 limit (a / 16) (omega (arith, low, at)) (one_of (a / 16) (ap (has_room h size) at ∙ room_of h size a f))
       (λ k l. none_of k (λ g. let least = lowest.1 (16 * k) g in omega (arith, least, l, at))) in
       sym (ap (option_map (λ k. 16 * k)) found ∙ ap Some at)

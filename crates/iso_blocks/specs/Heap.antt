@@ -1,6 +1,7 @@
 -- What a thread's block layer is seen as, where a block is placed, and what a free gives back.
 use Rattle.std.specs.Prelude.{◌≡◌, ℕ, ◌+◌, ◌*◌, ◌/◌, ◌%◌, ◌<◌, ◌≤◌, Bool, true, false, not, ◌&&◌, List, [], ◌∷◌, Option, Some, None, nat_le, ◌==◌, filter, slice_index_or, if◌then◌else◌}
 use Rattle.std.specs.Option.{option_map}
+use Rattle.slot_space.specs.Limits.{slots_end}
 use Rattle.slot_space.specs.Places.{slot_base}
 use Rattle.slot_space.specs.Sets.{minus, union, run, has_run, lowest_run, IsSlotSet}
 use Rattle.iso_blocks.specs.Bytes.{in_slots, in_blocks, is_met}
@@ -34,7 +35,7 @@ has_room heap size address = has_run (is_free heap) address size
 
 -- the same as a number: the least multiple of 16, below the end of the last slot, from which `size` bytes are free, or none
 unfoldable pub place : Heap → ℕ → Option ℕ
-place heap size = option_map (λ k. 16 * k) (lowest_run (λ k. has_room heap size (16 * k)) 1 (slot_base 4096 / 16))
+place heap size = option_map (λ k. 16 * k) (lowest_run (λ k. has_room heap size (16 * k)) 1 (slots_end / 16))
 
 -- the ascending list with one more block
 abbrev pub with_block : ℕ × ℕ → List (ℕ × ℕ) → List (ℕ × ℕ)

@@ -3,4 +3,3 @@ pub mod Heap
 pub mod Holes
 pub mod Kept
 pub mod Neighbours
-pub mod Obstacles

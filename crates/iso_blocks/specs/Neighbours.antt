@@ -13,7 +13,7 @@ abbrev pub start_of : List (ℕ × ℕ) → ℕ
 start_of [] = 2 ^ 64 - 1
 start_of (b ∷ live) = b.0
 
--- of a block's slots, from the first of so many, those from `from` to before `end` are shared with no neighbour: the one before ends at `before`, the one after starts at `after`
+-- of a block's `count` slots from `first` on, those from `from` to before `end` are shared with no neighbour: the block before ends at `before`, and the one after starts at `after`
 pub record Owns (before after first count from end : ℕ) : Type 0 where
   pub from_shared : slot_base first < before → from ≡ first + 1
   pub from_own : before ≤ slot_base first → from ≡ first

@@ -2,6 +2,7 @@
 
 ghost use Rattle.std.specs.Prelude.{◌≡◌, ℕ, ◌+◌, ◌≤◌, ◌^◌, [], OnOk, OnErr, IfOk, OnSome, IfNone, IsTrue};
 ghost use Rattle.std.specs.Option.{SomeIff};
+ghost use Rattle.slot_space.specs.Limits.{slot_limit};
 ghost use Rattle.slot_space.specs.Sets.{IsSlotSet};
 ghost use Rattle.iso_blocks.specs.Heap.{Heap, rounded, IsLowestFit, place, placed, with_slots, starts_at, emptied, freed, IsSound};
 
@@ -65,7 +66,7 @@ impl Blocks {
 
     /// Takes `count` slots from `first` on into the heap.
     pub fn add_slots(&mut self, first: SlotNo, count: u16) -> Result<(), NoMemory>
-        requires { first + count ≤ 4096 }
+        requires { first + count ≤ slot_limit }
         ensures ok { OnOk result (self.new ≡ with_slots self.old first count) }
         ensures err { OnErr result (self.new ≡ self.old) }
         ensures sound { IsSound self.new }

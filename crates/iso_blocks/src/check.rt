@@ -5,7 +5,7 @@ ghost use Rattle.slot_space.specs.Sets.{has, IsSlotSet};
 ghost use Rattle.iso_blocks.specs.Heap.{Heap, IsBlock, IsSound};
 
 use crate::space;
-use slot_space::{SlotNo, SlotSet};
+use slot_space::{SLOTS_END, SLOTS_START, SlotNo, SlotSet};
 
 /// A slot from `first` to before `end` that isn't in the set.
 pub fn missing(slots: &SlotSet, first: u16, end: u16) -> Option<u16>
@@ -28,7 +28,7 @@ pub fn is_block(slots: &SlotSet, address: u64, size: u64) -> bool
     if address % 16 != 0 || size % 16 != 0 || size < 16 {
         return false;
     }
-    if address < space::FIRST || address >= space::END || size > space::END - address {
+    if address < SLOTS_START || address >= SLOTS_END || size > SLOTS_END - address {
         return false;
     }
     let (first, count) = space::slots_of(address, size);

@@ -1,6 +1,7 @@
 //! The parts of the block layer, and what each step does to all of them.
 
 ghost use Rattle.std.specs.Prelude.{◌≡◌, ℕ, ◌+◌, ◌-◌, ◌*◌, ◌%◌, ◌<◌, ◌≤◌, ◌^◌, true, false, List, [], ◌∷◌, Some, None, OnOk, OnErr, IfOk, IfNone, OnSome, MatchOption, length, slice_index_or, vec_len, vec_capacity};
+ghost use Rattle.slot_space.specs.Limits.{slot_limit};
 ghost use Rattle.slot_space.specs.Sets.{has, insert, union, minus, run};
 ghost use Rattle.iso_blocks.specs.Bytes.{is_met};
 ghost use Rattle.iso_blocks.specs.Heap.{Heap, Fits, IsLowestFit, placed, with_slots, without, starts_at, emptied, freed, IsSound};
@@ -8,7 +9,7 @@ ghost use Rattle.iso_blocks.specs.Kept.{heap_of, holes_to_be, IsKept};
 
 use crate::{holes, live, space};
 use basics::NoMemory;
-use slot_space::{SlotNo, SlotSet};
+use slot_space::{SLOT_SIZE, SlotNo, SlotSet};
 use std::alloc::Global;
 
 /// The live blocks, the holes between them, the heap slots, those of them that a block meets, and how many heap slots there are.
@@ -99,10 +100,10 @@ impl Layout {
         }
     }
 
-    /// Takes the slot into the heap, where it isn't there yet. There is room for two holes more.
+    /// Takes the slot into the heap, where it isn't there yet. There is room for two more holes.
     fn add_slot(&mut self, slot: u16)
         requires kept { IsKept self.old }
-        requires small { slot < 4096 }
+        requires small { slot < slot_limit }
         requires room { holes_to_be self.old + 2 ≤ vec_capacity self.old.holes }
         ensures kept { IsKept self.new }
         ensures heap { heap_of self.new ≡ record { live = self.old.live.items; slots = insert slot self.old.heap } }
@@ -113,7 +114,7 @@ impl Layout {
             return;
         }
         let start = space::base(slot);
-        holes::release(&mut self.holes, start, start + space::SIZE);
+        holes::release(&mut self.holes, start, start + SLOT_SIZE);
         self.heap.insert(SlotNo(slot));
         self.slots += 1;
     }
@@ -127,7 +128,7 @@ impl Layout {
         ensures heap { heap_of self.new ≡ record { live = self.old.live.items; slots = minus self.old.heap (slot ∷ []) } }
     {
         let start = space::base(slot);
-        holes::occupy(&mut self.holes, start, start + space::SIZE);
+        holes::occupy(&mut self.holes, start, start + SLOT_SIZE);
         self.heap.remove(SlotNo(slot));
         self.slots -= 1;
     }
@@ -135,7 +136,7 @@ impl Layout {
     /// Takes the slots from `first` to `first + count - 1` into the heap.
     pub fn add_slots(&mut self, first: u16, count: u16) -> Result<(), NoMemory>
         requires kept { IsKept self.old }
-        requires within { first + count ≤ 4096 }
+        requires within { first + count ≤ slot_limit }
         ensures kept { IsKept self.new }
         ensures ok { OnOk result (heap_of self.new ≡ with_slots (heap_of self.old) first count) }
         ensures err { OnErr result (heap_of self.new ≡ heap_of self.old) }
@@ -162,7 +163,7 @@ impl Layout {
         }
     }
 
-    /// The slots that the blocks but the one at `k` meet.
+    /// The slots that some block meets other than the one at `k`.
     fn met_without(&self, k: usize) -> SlotSet
         requires kept { IsKept self.now }
         requires within { k < length self.now.live.items }

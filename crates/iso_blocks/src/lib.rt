@@ -7,9 +7,7 @@ mod check;
 mod holes;
 mod layout;
 mod live;
-mod plain;
 mod space;
 
 pub use blocks::Blocks;
 pub use check::is_block;
-pub use plain::PlainBlocks;

@@ -1,9 +1,9 @@
 //! That each call which may refuse for want of memory succeeds where there is some, and that blocks go to other threads.
 
 use basics::NoMemory;
-use iso_blocks::{Blocks, PlainBlocks};
+use iso_blocks::Blocks;
 use raw_slots::{Pool, SlotMem};
-use slot_space::{SlotNo, SlotSet};
+use slot_space::{SLOT_SIZE, SLOTS_START, SlotNo, SlotSet};
 use std::alloc::Global;
 use std::test::Fail;
 use std::thread;
@@ -21,21 +21,14 @@ fn blocks_are_taken(alloc: Global) -> Result<bool, NoMemory> {
     pool.reserve(1)?;
     let _spare = pool.take()?;
     let new = pool.take()?;
-    Ok(pool.spare() == 0 && new.bytes().len() == 65536)
+    Ok(pool.spare() == 0 && new.bytes().len() == SLOT_SIZE as usize)
 }
 
 /// A block is placed at the first address of the one slot.
 fn a_block_is_placed(alloc: Global) -> Result<bool, NoMemory> {
     let mut blocks = Blocks::new(alloc);
     blocks.add_slots(SlotNo(2), 1)?;
-    Ok(blocks.place(100)? == Some(0x1_0002_0000))
-}
-
-/// And so by the plain layer.
-fn a_block_is_placed_plainly(alloc: Global) -> Result<bool, NoMemory> {
-    let mut blocks = PlainBlocks::new(alloc);
-    blocks.add_slots(SlotNo(2), 1)?;
-    Ok(blocks.place(100)? == Some(0x1_0002_0000))
+    Ok(blocks.place(100)? == Some(SLOTS_START + 2 * SLOT_SIZE))
 }
 
 #[test]
@@ -43,7 +36,6 @@ fn calls_succeed_where_there_is_memory(rt: HostRuntime) -> Result<(), Fail> {
     assert!(rt; members_are_listed(rt.alloc())?);
     assert!(rt; blocks_are_taken(rt.alloc())?);
     assert!(rt; a_block_is_placed(rt.alloc())?);
-    assert!(rt; a_block_is_placed_plainly(rt.alloc())?);
     Ok(())
 }
 

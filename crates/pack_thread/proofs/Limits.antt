@@ -1,6 +1,7 @@
 -- How many slots and blocks there can be.
 use Rattle.std.proofs.Common.{◌≡◌, ℕ, ◌+◌, ◌*◌, ◌^◌, ◌<◌, ◌≤◌, Bool, true, false, cond, ltb, eqb, List, [], ◌∷◌, length, refl, sym, arith}
 use Rattle.std.proofs.lemmas.Bool.{eq-eqb, ne_eqb, eqb-false, true≢false}
+use Rattle.slot_space.specs.Limits.{slots_end, slot_limit}
 use Rattle.slot_space.specs.Places.{slot_base}
 use Rattle.slot_space.proofs.Ascending.{ascending-insert, below-insert}
 use Rattle.slot_space.specs.Sets.{has, insert, IsAscending, AreBelow, IsSlotSet}
@@ -21,11 +22,11 @@ count_between low limit (x ∷ xs) le asc from below =
     later : (x s : ℕ) (xs : List ℕ) → has s xs ≡ true → has s (x ∷ xs) ≡ true
     later x s xs e = elim (eqb x s) as (λ b. cond b true (has s xs) ≡ true) [ true ↦ refl | false ↦ e ]
 
-pub slots_few : (xs : List ℕ) → IsSlotSet xs → length xs ≤ 4096
-slots_few xs proper = let h = count_between 0 4096 xs (omega arith) proper.ascending (λ s e. omega arith) proper.small in omega (arith, h)
+pub slots_few : (xs : List ℕ) → IsSlotSet xs → length xs ≤ slot_limit
+slots_few xs proper = let h = count_between 0 slot_limit xs (omega arith) proper.ascending (λ s e. omega arith) proper.small in omega (arith, h)
 
 -- each block takes 16 bytes at least
-blocks_between : (low : ℕ) (slots : List ℕ) (live : List (ℕ × ℕ)) → IsSlotSet slots → low ≤ slot_base 4096 → StandFrom low slots live → low + 16 * length live ≤ slot_base 4096
+blocks_between : (low : ℕ) (slots : List ℕ) (live : List (ℕ × ℕ)) → IsSlotSet slots → low ≤ slots_end → StandFrom low slots live → low + 16 * length live ≤ slots_end
 blocks_between low slots [] proper le stand = omega arith
 blocks_between low slots (b ∷ live) proper le stand =
     let w = slots_within slots b.0 b.1 proper (omega (arith, stand.0.some)) stand.0.inside in
@@ -49,5 +50,5 @@ length-insert x (y ∷ ys) out =
     first true e = absurd (true≢false e)
     first false e = refl
 
-pub with_stack : (stack : ℕ) (heap : List ℕ) → stack < 4096 → IsSlotSet heap → IsSlotSet (insert stack heap)
-with_stack stack heap small proper = record { ascending = ascending-insert stack heap proper.ascending; small = below-insert 4096 stack heap small proper.small }
+pub with_stack : (stack : ℕ) (heap : List ℕ) → stack < slot_limit → IsSlotSet heap → IsSlotSet (insert stack heap)
+with_stack stack heap small proper = record { ascending = ascending-insert stack heap proper.ascending; small = below-insert slot_limit stack heap small proper.small }

@@ -7,6 +7,7 @@ use Rattle.std.proofs.lemmas.List.Kept.{AllPairs-cons}
 use Rattle.std.proofs.lemmas.Grind.{flat_map-append}
 use Rattle.std.proofs.lemmas.Option.{slice_get-get_or}
 use Rattle.std.proofs.lemmas.Bool.{eq-eqb, lt-leb}
+use Rattle.slot_space.specs.Limits.{slot_size}
 use Rattle.slot_space.specs.Sets as sets
 use Rattle.rv_step.specs.declared.memory.Held.{Held}
 use Rattle.rv_step.specs.Memory.{Memory, IsAscending, slots_of, slot_place, block_of, new_place}
@@ -42,7 +43,7 @@ whole-append [] n p q = q
 whole-append (h ∷ m) n p q = (p.0, whole-append m n p.1 q)
 
 -- the bytes of one slot more
-pub memory_more : (m : Memory) (i s : ℕ) (block : List ℕ) (d : Held) → i < length m → block_of m s ≡ Some (get_or m i d).block → block_of m s ≡ Some block → length block ≡ 65536 → AreWhole (take i m)
+pub memory_more : (m : Memory) (i s : ℕ) (block : List ℕ) (d : Held) → i < length m → block_of m s ≡ Some (get_or m i d).block → block_of m s ≡ Some block → length block ≡ slot_size → AreWhole (take i m)
     → (bytes_of (take (i + 1) m) ≡ bytes_of (take i m) ++ block) × AreWhole (take (i + 1) m)
 memory_more m i s block d lt found is len before =
     let same : (get_or m i d).block ≡ block = cc in
@@ -93,26 +94,26 @@ granted_last m s block below = rw (last_place m s below, take_all (length m) m (
 -- what a memory has once the next slot of the list was granted
 pub record Granted (held bytes : List ℕ) (i : ℕ) (m : Memory) : Type 0 where
   pub slots : slots_of m ≡ take i held
-  pub text : bytes_of m ≡ take (65536 * i) bytes
+  pub text : bytes_of m ≡ take (slot_size * i) bytes
   pub whole : AreWhole m
 
 pub granted_next : (m : Memory) (held bytes block : List ℕ) (i s : ℕ) → i < length held → s ≡ get_or held i s → Granted held bytes i m
-    → block ≡ take 65536 (drop (65536 * i) bytes) → length block ≡ 65536 → Granted held bytes (i + 1) (m ++ (record { slot = s; block = block }) ∷ [])
+    → block ≡ take slot_size (drop (slot_size * i) bytes) → length block ≡ slot_size → Granted held bytes (i + 1) (m ++ (record { slot = s; block = block }) ∷ [])
 granted_next m held bytes block i s lt at g is len =
     let n : Held = record { slot = s; block = block } in
     record {
       slots = map-append (λ (h : Held). h.slot) m (n ∷ []) ∙ ap (λ (xs : List ℕ). xs ++ s ∷ []) g.slots ∙ ap (λ k. take i held ++ k ∷ []) at ∙ sym (take_more held i s lt);
-      text = bytes_of-append m (n ∷ []) ∙ ap (λ (xs : List ℕ). xs ++ (block ++ [])) g.text ∙ ap (λ (xs : List ℕ). take (65536 * i) bytes ++ xs) (append-nil block ∙ is)
-          ∙ sym (take-add (65536 * i) 65536 bytes) ∙ ap (λ k. take k bytes) (next i);
+      text = bytes_of-append m (n ∷ []) ∙ ap (λ (xs : List ℕ). xs ++ (block ++ [])) g.text ∙ ap (λ (xs : List ℕ). take (slot_size * i) bytes ++ xs) (append-nil block ∙ is)
+          ∙ sym (take-add (slot_size * i) slot_size bytes) ∙ ap (λ k. take k bytes) (next i);
       whole = whole-append m (n ∷ []) g.whole (len, tt);
     }
   where
-    next : (i : ℕ) → 65536 * i + 65536 ≡ 65536 * (i + 1)
+    next : (i : ℕ) → slot_size * i + slot_size ≡ slot_size * (i + 1)
     next i = omega arith
 
 -- the bytes of one of the slots
-pub length-part : (bytes : List ℕ) (i n : ℕ) → i < n → length bytes ≡ 65536 * n → length (take 65536 (drop (65536 * i) bytes)) ≡ 65536
-length-part bytes i n lt e = omega (arith, length-take 65536 (drop (65536 * i) bytes), length-drop (65536 * i) bytes)
+pub length-part : (bytes : List ℕ) (i n : ℕ) → i < n → length bytes ≡ slot_size * n → length (take slot_size (drop (slot_size * i) bytes)) ≡ slot_size
+length-part bytes i n lt e = omega (arith, length-take slot_size (drop (slot_size * i) bytes), length-drop (slot_size * i) bytes)
 
-pub width_of : (at : ℕ) → at + 65536 - at ≡ 65536
+pub width_of : (at : ℕ) → at + slot_size - at ≡ slot_size
 width_of at = omega arith

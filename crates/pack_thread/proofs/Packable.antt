@@ -2,6 +2,7 @@
 use Rattle.std.proofs.Common.{◌≡◌, ℕ, true, false, List, [], ◌∷◌, length, arith}
 use Rattle.std.specs.Prelude.{slice_index}
 use Rattle.std.proofs.lemmas.Bool.{eqb-true}
+use Rattle.slot_space.specs.Limits.{slot_limit}
 use Rattle.slot_space.specs.Sets.{has, insert, minus, IsAscending, IsSlotSet}
 use Rattle.slot_space.proofs.Ascending.{ascending-insert, ascending-minus, below-minus, same_members}
 use Rattle.slot_space.proofs.Sets.{has-insert, has-minus}
@@ -33,4 +34,4 @@ stack_among stack slots asc is = same_members _ _ (ascending-insert stack (minus
     (λ s. grind (arith, is, has-insert stack s (minus slots (stack ∷ [])), has-minus s slots (stack ∷ []), eqb-true stack s))
 
 pub heap_proper : (stack : ℕ) (slots : List ℕ) → IsSlotSet slots → IsSlotSet (minus slots (stack ∷ []))
-heap_proper stack slots proper = record { ascending = ascending-minus slots (stack ∷ []) proper.ascending; small = below-minus 4096 slots (stack ∷ []) proper.small }
+heap_proper stack slots proper = record { ascending = ascending-minus slots (stack ∷ []) proper.ascending; small = below-minus slot_limit slots (stack ∷ []) proper.small }

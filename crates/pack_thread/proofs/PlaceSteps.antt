@@ -1,5 +1,6 @@
 -- The fields of a place, one after another, as a reader takes them.
 use Rattle.std.proofs.Common.{◌≡◌, ℕ, ◌%◌, Bool, true, ltb, eqb, List, [], ◌∷◌, Result, Ok, refl}
+use Rattle.slot_space.specs.Limits.{slot_limit}
 use Rattle.pack_thread.specs.Fields.{Fields, Field, Reading, number_at, read}
 use Rattle.pack_thread.specs.Grammar.{place_fields, slot_fields}
 use Rattle.pack_thread.specs.Reading.{behind_all}
@@ -10,7 +11,7 @@ abbrev pub is_pc : ℕ → Bool
 is_pc pc = eqb (pc % 4) 0
 
 abbrev pub is_slot : ℕ → Bool
-is_slot s = ltb s 4096
+is_slot s = ltb s slot_limit
 
 -- the fields from the number of heap slots on, from the stack slot on, and all
 abbrev pub behind_heap : (stack heap : ℕ) → Fields

@@ -2,6 +2,7 @@
 use Rattle.std.proofs.Common.{◌≡◌, ℕ, zero, suc, ◌+◌, ◌%◌, ◌<◌, ◌≤◌, Bool, true, false, cond, ltb, leb, eqb, not, ◌&&◌, List, [], ◌∷◌, ◌++◌, length, drop, refl, sym, arith, append_assoc}
 use Rattle.std.proofs.lemmas.Bool.{and_parts, and_from, eq-eqb, eqb-true, lt-ltb, ltb-true, le-leb, leb-true, not-true, not_from_false, true≢false}
 use Rattle.std.proofs.lemmas.List.{append-nil, length-drop}
+use Rattle.slot_space.specs.Limits.{slot_limit}
 use Rattle.slot_space.specs.Sets.{has, insert, IsAscending, AreBelow, has_run}
 use Rattle.iso_blocks.specs.Bytes.{in_slots}
 use Rattle.iso_blocks.specs.Heap.{IsBlock, StandFrom}
@@ -56,7 +57,7 @@ live_obeyed live slots o = blocks_obeyed live 0 slots o.1
 record AreSlots (low stack : ℕ) (slots : List ℕ) : Type 0 where
   from : (s : ℕ) → has s slots ≡ true → low ≤ s
   ascending : IsAscending slots
-  small : AreBelow 4096 slots
+  small : AreBelow slot_limit slots
   apart : has stack slots ≡ false
 
 has_first : (s : ℕ) (slots : List ℕ) → has s (s ∷ slots) ≡ true
@@ -86,7 +87,7 @@ obey_slots [] low stack before rest are o = rw append-nil at o
 obey_slots (s ∷ slots) low stack before rest are o =
     let out = no_first s stack slots are.apart in
     let later : AreSlots (s + 1) stack slots = record { from = λ t e. omega (arith, are.ascending.0 t e); ascending = are.ascending.1; small = λ t e. are.small t (has_later s t slots e); apart = out.1 } in (
-      and_from (ltb s 4096 && leb low s) (not (eqb s stack)) (and_from _ _ (lt-ltb _ _ (are.small s (has_first s slots))) (le-leb _ _ (are.from s (has_first s slots)))) (not_from_false _ out.0),
+      and_from (ltb s slot_limit && leb low s) (not (eqb s stack)) (and_from _ _ (lt-ltb _ _ (are.small s (has_first s slots))) (le-leb _ _ (are.from s (has_first s slots)))) (not_from_false _ out.0),
       obey_slots slots (s + 1) stack (before ++ s ∷ []) rest later (rw append_assoc o),
     )
 
@@ -94,15 +95,15 @@ slots_obeyed : (slots : List ℕ) (low stack : ℕ) (before rest : List ℕ) →
 unfolding Obey slot_fields
 slots_obeyed [] low stack before rest o = (record { from = λ s e. absurd (true≢false (sym e)); ascending = tt; small = λ s e. absurd (true≢false (sym e)); apart = refl }, rw append-nil o)
 slots_obeyed (s ∷ slots) low stack before rest o =
-    let p = and_parts (ltb s 4096 && leb low s) (not (eqb s stack)) o.0 in
-    let q = and_parts (ltb s 4096) (leb low s) p.0 in
-    let small : s < 4096 = ltb-true _ _ q.0 in
+    let p = and_parts (ltb s slot_limit && leb low s) (not (eqb s stack)) o.0 in
+    let q = and_parts (ltb s slot_limit) (leb low s) p.0 in
+    let small : s < slot_limit = ltb-true _ _ q.0 in
     let past : low ≤ s = leb-true _ _ q.1 in
     let r = slots_obeyed slots (s + 1) stack (before ++ s ∷ []) rest o.1 in (
       record {
         from = λ t e. has_cases (λ t. low ≤ t) s t slots past (λ later. omega (arith, r.0.from t later, past)) e;
         ascending = (λ t e. omega (arith, r.0.from t e), r.0.ascending);
-        small = λ t e. has_cases (λ t. t < 4096) s t slots small (r.0.small t) e;
+        small = λ t e. has_cases (λ t. t < slot_limit) s t slots small (r.0.small t) e;
         apart = rw (not-true _ p.1) r.0.apart;
       },
       rw append_assoc at r.1,
@@ -146,7 +147,7 @@ behind_regs t = t.state.pc ∷ t.stack ∷ length t.heap.slots ∷ heap_numbers 
 pub obeys : (t : Thread) → length t.state.regs ≡ 32 → KeepsRules t → Obey thread_fields (numbers_of t)
 unfolding Obey thread_fields place_fields
 obeys t regs k =
-    let few : length t.heap.slots < 4096 = omega (arith, slots_few (insert t.stack t.heap.slots) (with_stack t.stack t.heap.slots k.stack k.heap), length-insert t.stack t.heap.slots k.apart) in
+    let few : length t.heap.slots < slot_limit = omega (arith, slots_few (insert t.stack t.heap.slots) (with_stack t.stack t.heap.slots k.stack k.heap), length-insert t.stack t.heap.slots k.apart) in
     let are : AreSlots 0 t.stack t.heap.slots = record { from = λ s e. omega arith; ascending = k.heap.ascending; small = k.heap.small; apart = k.apart } in
     let heap = obey_slots t.heap.slots 0 t.stack [] (length t.heap.live ∷ block_numbers t.heap.live) are (obey_live t.heap.live t.heap.slots k.sound) in
     let place : Obey place_fields (behind_regs t) = (eq-eqb _ _ k.pc, (lt-ltb _ _ k.stack, (lt-ltb _ _ few, heap))) in (

@@ -1,6 +1,7 @@
--- One field more of a reading, as a loop reads it.
+-- What one more field adds to a reading, as a loop reads it.
 use Rattle.std.proofs.Common.{◌≡◌, ℕ, zero, suc, ◌+◌, ◌-◌, ◌*◌, ◌<◌, ◌≤◌, Bool, true, false, cond, ltb, leb, eqb, not, ◌&&◌, List, [], ◌∷◌, ◌++◌, length, get_or, set, take, drop, Result, Ok, Err, refl, sym, ap, ◌∙◌, append_assoc, arith}
 use Rattle.std.proofs.lemmas.Bool.{and_parts, not-true, ltb-true, leb-true, eq-eqb, ne_eqb, le-ltb, lt-ltb, ltb-false}
+use Rattle.slot_space.specs.Limits.{slot_limit}
 use Rattle.slot_space.specs.Sets.{has, insert, IsAscending, AreBelow}
 use Rattle.slot_space.proofs.Sets.{has-insert}
 use Rattle.slot_space.proofs.Ascending.{ascending-insert, below-insert}
@@ -146,14 +147,14 @@ slots_all bytes count k low stack slots whole e so_far =
 pub record WithSlot (low stack n : ℕ) (slots more : List ℕ) : Type 0 where
   pub last : more ≡ slots ++ n ∷ []
   pub below : AreBelow (n + 1) more
-  pub small : n < 4096
+  pub small : n < slot_limit
   pub apart : has stack more ≡ false
   pub ascending : IsAscending more
 
 pub with_slot : (low stack n : ℕ) (slots : List ℕ) → is_heap_slot low stack n ≡ true → AreBelow low slots → has stack slots ≡ false → IsAscending slots → WithSlot low stack n slots (insert n slots)
 with_slot low stack n slots obeys below apart ascending =
-    let p = and_parts (ltb n 4096 && leb low n) (not (eqb n stack)) obeys in
-    let q = and_parts (ltb n 4096) (leb low n) p.0 in
+    let p = and_parts (ltb n slot_limit && leb low n) (not (eqb n stack)) obeys in
+    let q = and_parts (ltb n slot_limit) (leb low n) p.0 in
     let past : low ≤ n = leb-true _ _ q.1 in
     let other : eqb n stack ≡ false = not-true _ p.1 in
     let under : AreBelow n slots = λ s e. omega (arith, below s e, past) in

@@ -1,6 +1,7 @@
 -- The thread that is computed from a thread's text is that thread.
 use Rattle.std.proofs.Common.{◌≡◌, ℕ, suc, ◌+◌, ◌*◌, List, [], ◌∷◌, ◌++◌, length, get_or, take, drop, Ok, refl, sym, ap, ◌∙◌, arith}
 use Rattle.std.proofs.lemmas.List.{length-drop, length-take, take-append-drop, drop-drop, take_at, drop_at, get_or-drop}
+use Rattle.slot_space.specs.Limits.{slot_size}
 use Rattle.slot_space.specs.Sets.{insert}
 use Rattle.lrpc.specs.declared.duty.Duty.{Duty}
 use Rattle.lrpc.specs.declared.duty.Duty.TheVariants as duties
@@ -43,22 +44,22 @@ pub memory_again : (m : Memory) → AreWhole m → memory_in (slots_of m) (bytes
 unfolding memory_in
 memory_again [] whole = refl
 memory_again (h ∷ m) whole =
-    let first : take 65536 (h.block ++ bytes_of m) ≡ h.block = take_at h.block (bytes_of m) 65536 whole.0 in
-    let rest : drop 65536 (h.block ++ bytes_of m) ≡ bytes_of m = drop_at h.block (bytes_of m) 65536 whole.0 in
-    cc (same_held (record { slot = h.slot; block = take 65536 (h.block ++ bytes_of m) }) h refl first, ap (memory_in (slots_of m)) rest ∙ memory_again m whole.1)
+    let first : take slot_size (h.block ++ bytes_of m) ≡ h.block = take_at h.block (bytes_of m) slot_size whole.0 in
+    let rest : drop slot_size (h.block ++ bytes_of m) ≡ bytes_of m = drop_at h.block (bytes_of m) slot_size whole.0 in
+    cc (same_held (record { slot = h.slot; block = take slot_size (h.block ++ bytes_of m) }) h refl first, ap (memory_in (slots_of m)) rest ∙ memory_again m whole.1)
 
 pub memory_slots : (slots bytes : List ℕ) → slots_of (memory_in slots bytes) ≡ slots
 unfolding memory_in
 memory_slots [] bytes = refl
-memory_slots (s ∷ slots) bytes = ap (λ (ss : List ℕ). s ∷ ss) (memory_slots slots (drop 65536 bytes))
+memory_slots (s ∷ slots) bytes = ap (λ (ss : List ℕ). s ∷ ss) (memory_slots slots (drop slot_size bytes))
 
-pub memory_bytes : (slots bytes : List ℕ) → length bytes ≡ 65536 * length slots → (bytes_of (memory_in slots bytes) ≡ bytes) × AreWhole (memory_in slots bytes)
+pub memory_bytes : (slots bytes : List ℕ) → length bytes ≡ slot_size * length slots → (bytes_of (memory_in slots bytes) ≡ bytes) × AreWhole (memory_in slots bytes)
 unfolding memory_in
 memory_bytes [] [] len = (refl, tt)
 memory_bytes [] (b ∷ bytes) len = absurd (omega arith)
 memory_bytes (s ∷ slots) bytes len =
-    let rest = memory_bytes slots (drop 65536 bytes) (omega (arith, length-drop 65536 bytes)) in
-    (ap (λ (b : List ℕ). take 65536 bytes ++ b) rest.0 ∙ take-append-drop 65536 bytes, (omega (arith, length-take 65536 bytes), rest.1))
+    let rest = memory_bytes slots (drop slot_size bytes) (omega (arith, length-drop slot_size bytes)) in
+    (ap (λ (b : List ℕ). take slot_size bytes ++ b) rest.0 ∙ take-append-drop slot_size bytes, (omega (arith, length-take slot_size bytes), rest.1))
 
 -- ## The whole thread
 
@@ -117,12 +118,12 @@ opened_thread bytes o = record {
   heap = record { live = live_of bytes o; slots = o.slots };
 }
 
-opened_text : (bytes : List ℕ) (o : Opened) → IsBytes bytes → read_text bytes ≡ Ok (reading_of bytes o) → IsOpen bytes o → slots_at o + 65536 * (length o.slots + 1) ≡ length bytes → IsTextOf bytes (opened_thread bytes o)
+opened_text : (bytes : List ℕ) (o : Opened) → IsBytes bytes → read_text bytes ≡ Ok (reading_of bytes o) → IsOpen bytes o → slots_at o + slot_size * (length o.slots + 1) ≡ length bytes → IsTextOf bytes (opened_thread bytes o)
 unfolding opened_thread
 opened_text bytes o fits e rules whole =
     let t = opened_thread bytes o in
     let held = insert o.place.stack o.slots in
-    let count : length (drop (slots_at o) bytes) ≡ 65536 * length held = omega (arith, length-drop (slots_at o) bytes, length-insert o.place.stack o.slots rules.apart, whole) in
+    let count : length (drop (slots_at o) bytes) ≡ slot_size * length held = omega (arith, length-drop (slots_at o) bytes, length-insert o.place.stack o.slots rules.apart, whole) in
     found bytes (opened_numbers bytes o) (slots_at o) (length o.slots + 1) t fits e (built bytes o t.heap t.state rules refl refl refl) (rules.zero, rules.regs)
     (memory_slots held (drop (slots_at o) bytes)) (memory_bytes held (drop (slots_at o) bytes) count)
 
@@ -132,5 +133,5 @@ text_again bytes t is =
     let same : thread_in bytes ≡ t = ap thread_in is.text ∙ thread_again t is.rules is.typed in
     rw same is
 
-pub opened_again : (bytes : List ℕ) (o : Opened) → IsBytes bytes → read_text bytes ≡ Ok (reading_of bytes o) → IsOpen bytes o → slots_at o + 65536 * (length o.slots + 1) ≡ length bytes → IsTextOf bytes (thread_in bytes)
+pub opened_again : (bytes : List ℕ) (o : Opened) → IsBytes bytes → read_text bytes ≡ Ok (reading_of bytes o) → IsOpen bytes o → slots_at o + slot_size * (length o.slots + 1) ≡ length bytes → IsTextOf bytes (thread_in bytes)
 opened_again bytes o fits e rules whole = text_again bytes (opened_thread bytes o) (opened_text bytes o fits e rules whole)

@@ -2,6 +2,7 @@
 use Rattle.std.proofs.Common.{◌≡◌, ℕ, zero, suc, ◌+◌, ◌*◌, Bool, true, false, cond, ltb, List, [], ◌∷◌, ◌++◌, length, get_or, drop, Result, Ok, Err, refl, sym, ap, ◌∙◌, arith, append_assoc, zero-add}
 use Rattle.std.proofs.lemmas.Bool.{le-ltb}
 use Rattle.std.proofs.lemmas.List.{append-nil, length-append, length-drop, length-map}
+use Rattle.slot_space.specs.Limits.{slot_size}
 use Rattle.slot_space.specs.Sets.{insert}
 use Rattle.lrpc.specs.declared.call.CallNo.{CallNo}
 use Rattle.lrpc.specs.declared.duty.Duty.{Duty}
@@ -53,15 +54,15 @@ blocks_of_thread t regs =
 
 -- ## The length of a text
 
-length-bytes_of : (m : Memory) → AreWhole m → length (bytes_of m) ≡ 65536 * length m
+length-bytes_of : (m : Memory) → AreWhole m → length (bytes_of m) ≡ slot_size * length m
 length-bytes_of [] whole = refl
 length-bytes_of (h ∷ m) whole = omega (arith, length-append h.block (bytes_of m), whole.0, length-bytes_of m whole.1)
 
-pub length-memory : (t : Thread) → IsThread t → IsTyped t → length (bytes_of t.state.memory) ≡ 65536 * (length t.heap.slots + 1)
+pub length-memory : (t : Thread) → IsThread t → IsTyped t → length (bytes_of t.state.memory) ≡ slot_size * (length t.heap.slots + 1)
 length-memory t rules typed =
     let count : length t.state.memory ≡ length t.heap.slots + 1 =
     sym (length-map t.state.memory (λ (h : Held). h.slot)) ∙ ap length rules.holds ∙ length-insert t.stack t.heap.slots (keeps t typed.regs rules.rules).apart in
-    length-bytes_of t.state.memory typed.blocks ∙ ap (λ n. 65536 * n) count
+    length-bytes_of t.state.memory typed.blocks ∙ ap (λ n. slot_size * n) count
 
 -- ## A text is read
 
@@ -74,8 +75,8 @@ head_read t rest rules typed =
     ∙ ap (λ at. Ok (record { numbers = numbers_of t; at = at; blocks = blocks_behind thread_fields (numbers_of t) })) (zero-add (length (head_of t)))
     ∙ ap (λ n. Ok (record { numbers = numbers_of t; at = length (head_of t); blocks = n })) (blocks_of_thread t typed.regs)
 
-pub ends_whole : (bytes : List ℕ) (r : Reading) → length bytes ≡ r.at + 65536 * r.blocks → ends bytes (Ok r) ≡ Ok r
-ends_whole bytes r e = rw (le-ltb (length bytes) (r.at + 65536 * r.blocks) (omega (arith, e)), le-ltb (r.at + 65536 * r.blocks) (length bytes) (omega (arith, e))) refl
+pub ends_whole : (bytes : List ℕ) (r : Reading) → length bytes ≡ r.at + slot_size * r.blocks → ends bytes (Ok r) ≡ Ok r
+ends_whole bytes r e = rw (le-ltb (length bytes) (r.at + slot_size * r.blocks) (omega (arith, e)), le-ltb (r.at + slot_size * r.blocks) (length bytes) (omega (arith, e))) refl
 
 pub text_read : (t : Thread) → IsThread t → IsTyped t → read_text (text_of t) ≡ Ok (reading t)
 text_read t rules typed =
@@ -226,7 +227,7 @@ chosen false false a b r x e ok = e
 
 ends_ok : (bytes : List ℕ) (r : Result Reading ℕ) (x : Reading) → ends bytes r ≡ Ok x → r ≡ Ok x
 ends_ok bytes (Err offset) x e = e
-ends_ok bytes (Ok r) x e = chosen (ltb (length bytes) (r.at + 65536 * r.blocks)) (ltb (r.at + 65536 * r.blocks) (length bytes)) (length bytes) (r.at + 65536 * r.blocks) (Ok r) (Ok x) e (λ o is. absurd cc)
+ends_ok bytes (Ok r) x e = chosen (ltb (length bytes) (r.at + slot_size * r.blocks)) (ltb (r.at + slot_size * r.blocks) (length bytes)) (length bytes) (r.at + slot_size * r.blocks) (Ok r) (Ok x) e (λ o is. absurd cc)
 
 -- what was read of bytes obeys the rules, and is spelled so
 pub record IsRead (bytes : List ℕ) (numbers : List ℕ) (at : ℕ) : Type 0 where

@@ -3,7 +3,7 @@
 use Rattle.std.specs.Prelude.{◌≡◌, ℕ, ◌+◌, ◌^◌, ◌<◌, Bool, true, List, [], ◌∷◌, ◌++◌, length, drop, Result, Ok, Err, nat_lt, if◌then◌else◌}
 use Rattle.byteorder.specs.Endian.{little_bytes, little_number}
 
--- a field of so many bytes, with the numbers that it may have and what follows each; or the end of the fields, behind which so many blocks of bytes stand
+-- a field of `width` bytes, with the numbers that it may have and what follows each; or the end of the fields, behind which `count` blocks of bytes stand
 pub data Fields : Type 0 where
   Blocks : (count : ℕ) → Fields
   Field : (width : ℕ) → (rule : ℕ → Bool) → (next : ℕ → Fields) → Fields

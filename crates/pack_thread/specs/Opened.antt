@@ -1,5 +1,6 @@
 -- What the fields of a text have, as the code keeps it.
 use Rattle.std.specs.Prelude.{◌≡◌, ℕ, ◌+◌, ◌*◌, ◌<◌, false, List, [], ◌∷◌, ◌++◌, length, drop, slice_index}
+use Rattle.slot_space.specs.Limits.{slot_limit}
 use Rattle.slot_space.specs.Sets.{has, IsSlotSet}
 use Rattle.iso_blocks.specs.Heap.{StandFrom}
 use Rattle.pack_thread.specs.Fields.{Reading}
@@ -38,7 +39,7 @@ reading_of bytes o = record { numbers = opened_numbers bytes o; at = slots_at o;
 pub record IsOpen (bytes : List ℕ) (o : Opened) : Type 0 where
   pub regs : length o.regs ≡ 32
   pub zero : slice_index o.regs 0 ≡ 0
-  pub stack : o.place.stack < 4096
+  pub stack : o.place.stack < slot_limit
   pub heap : IsSlotSet o.slots
   pub apart : has o.place.stack o.slots ≡ false
   pub counted : length o.slots ≡ o.place.heap

@@ -1,5 +1,6 @@
 -- The thread of a text.
 use Rattle.std.specs.Prelude.{ℕ, zero, suc, List, [], ◌∷◌, take, drop, slice_index, Result, Ok, Err, Option, Some, None}
+use Rattle.slot_space.specs.Limits.{slot_size}
 use Rattle.slot_space.specs.Sets.{insert}
 use Rattle.rv_step.specs.Memory.{Memory}
 use Rattle.rv_step.specs.Step.{State}
@@ -31,7 +32,7 @@ blocks_numbered (address ∷ size ∷ ns) = (address, size) ∷ blocks_numbered 
 -- the slots whose bytes stand one after another
 unfoldable pub memory_in : List ℕ → List ℕ → Memory
 memory_in [] bytes = []
-memory_in (s ∷ slots) bytes = (record { slot = s; block = take 65536 bytes }) ∷ memory_in slots (drop 65536 bytes)
+memory_in (s ∷ slots) bytes = (record { slot = s; block = take slot_size bytes }) ∷ memory_in slots (drop slot_size bytes)
 
 -- the number of the heap slots, the slots, the number of the live blocks, the blocks
 abbrev pub heap_numbered : List ℕ → Heap

@@ -17,7 +17,7 @@ GoesOn numbers (Err offset) whole left = whole ≡ Err offset
 abbrev pub block_at : List ℕ → ℕ → ℕ × ℕ
 block_at bytes at = (little_number 8 (drop at bytes), little_number 8 (drop (at + 8) bytes))
 
--- so many blocks, from a place of the bytes on
+-- `count` blocks, from a place of the bytes on
 unfoldable pub blocks_at : List ℕ → (at count : ℕ) → List (ℕ × ℕ)
 blocks_at bytes at zero = []
 blocks_at bytes at (suc count) = blocks_at bytes at count ++ block_at bytes (at + 16 * count) ∷ []

@@ -1,5 +1,6 @@
 -- What the rules of the fields say of a thread.
 use Rattle.std.specs.Prelude.{◌≡◌, ◌%◌, ◌<◌, ◌≤◌, false}
+use Rattle.slot_space.specs.Limits.{slot_limit, node_limit}
 use Rattle.slot_space.specs.Sets.{has, IsSlotSet}
 use Rattle.iso_blocks.specs.Heap.{IsSound}
 use Rattle.lrpc.specs.declared.call.CallNo.{CallNo}
@@ -9,7 +10,7 @@ use Rattle.pack_thread.specs.Threads.{Thread}
 
 -- the caller's home and the node where it asked are nodes
 abbrev pub NamesNodes : CallNo → Type 0
-NamesNodes call = (call.by.home < 8) × (call.at < 8)
+NamesNodes call = (call.by.home < node_limit) × (call.at < node_limit)
 
 -- so they are of the call that a thread serves
 abbrev pub ServesNodes : Duty → Type 0
@@ -20,11 +21,11 @@ ServesNodes (duties.Paid call) = NamesNodes call
 
 -- nodes, priority and slots are in range, the pc is a multiple of 4, and the live blocks lie in the heap slots, of which the stack slot is none
 pub record KeepsRules (t : Thread) : Type 0 where
-  pub home : t.tid.home < 8
+  pub home : t.tid.home < node_limit
   pub priority : t.priority ≤ 7
   pub duty : ServesNodes t.duty
   pub pc : t.state.pc % 4 ≡ 0
-  pub stack : t.stack < 4096
+  pub stack : t.stack < slot_limit
   pub heap : IsSlotSet t.heap.slots
   pub apart : has t.stack t.heap.slots ≡ false
   pub sound : IsSound t.heap

@@ -1,6 +1,7 @@
 -- A thread as it travels, and its one text.
 use Rattle.std.specs.Prelude.{◌≡◌, ℕ, Result, Ok, Err, List, [], ◌∷◌, ◌++◌, length, drop, slice_index}
 use Rattle.std.specs.List.{flat_map, AllByRecursion}
+use Rattle.slot_space.specs.Limits.{slot_size}
 use Rattle.slot_space.specs.declared.names.Tid.{Tid}
 use Rattle.slot_space.specs.Sets.{insert}
 use Rattle.rv_step.specs.Memory.{Memory, slots_of}
@@ -54,9 +55,9 @@ numbers_of t =
 
 -- ## Its text
 
--- each slot has 65,536 bytes
+-- each slot has all its bytes
 abbrev pub AreWhole : Memory → Type 0
-AreWhole memory = AllByRecursion (λ held. length held.block ≡ 65536) memory
+AreWhole memory = AllByRecursion (λ held. length held.block ≡ slot_size) memory
 
 -- the bytes of the slots, one after another
 abbrev pub bytes_of : Memory → List ℕ
@@ -75,7 +76,7 @@ pub record IsThread (t : Thread) : Type 0 where
   pub zero : slice_index t.state.regs 0 ≡ 0
   pub holds : slots_of t.state.memory ≡ insert t.stack t.heap.slots
 
--- what the types of a thread's parts keep: each number fits its field, there are 32 registers, and each slot has 65,536 bytes
+-- what the types of a thread's parts keep: each number fits its field, there are 32 registers, and each slot has all its bytes
 pub record IsTyped (t : Thread) : Type 0 where
   pub numbers : Fit thread_fields (numbers_of t)
   pub regs : length t.state.regs ≡ 32

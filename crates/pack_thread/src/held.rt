@@ -1,6 +1,7 @@
 //! The slots that a thread holds.
 
 ghost use Rattle.std.specs.Prelude.{◌≡◌, ◌+◌, ◌<◌, ◌≤◌, false, IfOk, length};
+ghost use Rattle.slot_space.specs.Limits.{slot_limit};
 ghost use Rattle.slot_space.specs.Sets.{has, insert, IsAscending, IsSlotSet};
 
 use basics::NoMemory;
@@ -14,10 +15,10 @@ pub(crate) fn held_slots(
     stack: SlotNo,
 ) -> Result<Vec<SlotNo>, NoMemory>
     requires proper { IsSlotSet heap.now }
-    requires small { stack < 4096 }
+    requires small { stack < slot_limit }
     ensures slots { IfOk result (λ held. held.items ≡ insert stack heap.now) }
     ensures ascending { IfOk result (λ held. IsAscending held.items) }
-    ensures few { IfOk result (λ held. length held.items ≤ 4096) }
+    ensures few { IfOk result (λ held. length held.items ≤ slot_limit) }
     ensures count { IfOk result (λ held. has stack heap.now ≡ false → length held.items ≡ length heap.now + 1) }
 {
     let mut held = *heap;

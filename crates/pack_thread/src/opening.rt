@@ -1,6 +1,7 @@
 //! The fields of a thread's text, read and checked without memory.
 
 ghost use Rattle.std.specs.Prelude.{◌≡◌, ℕ, suc, ◌+◌, ◌^◌, ◌<◌, ◌≤◌, List, [], ◌∷◌, ◌*◌, ◌%◌, true, false, Ok, IfOk, OnOk, MatchResult, length, drop, slice_index};
+ghost use Rattle.slot_space.specs.Limits.{slot_limit, slot_size};
 ghost use Rattle.slot_space.specs.Sets.{has, IsSlotSet};
 ghost use Rattle.iso_blocks.specs.Heap.{IsBlock, StandFrom};
 ghost use Rattle.pack_thread.specs.Fields.{number_at as number_from, read};
@@ -12,7 +13,7 @@ ghost use Rattle.pack_thread.specs.Threads.{call_numbers, duty_numbers, block_nu
 use byteorder::{ByteOrder, LittleEndian};
 use iso_blocks::is_block;
 use lrpc::{CallNo, Duty};
-use slot_space::{NodeNo, SlotNo, SlotSet, Tid};
+use slot_space::{NODE_LIMIT, NodeNo, SLOT_LIMIT, SLOT_SIZE, SlotNo, SlotSet, Tid};
 
 /// The bytes PM2T, as a number.
 pub(crate) const MAGIC: u64 = 0x5432_4d50;
@@ -65,10 +66,10 @@ impl Opened {
 pub(crate) fn open_text(bytes: &[u8]) -> Result<Opened, u64>
     ensures reading { MatchResult result (λ o. read_text bytes.now ≡ Ok (reading_of bytes.now o)) (λ offset. read_text bytes.now ≡ Err offset) }
     ensures rules { IfOk result (IsOpen bytes.now) }
-    ensures whole { IfOk result (λ o. slots_at o + 65536 * (length o.slots + 1) ≡ length bytes.now) }
+    ensures whole { IfOk result (λ o. slots_at o + slot_size * (length o.slots + 1) ≡ length bytes.now) }
 {
     let opened = open(bytes)?;
-    let end = opened.slots_at() + 65536 * (opened.place.heap as usize + 1);
+    let end = opened.slots_at() + SLOT_SIZE as usize * (opened.place.heap as usize + 1);
     if bytes.len() < end {
         return Err(bytes.len() as u64);
     }
@@ -109,7 +110,7 @@ fn read_who(bytes: &[u8]) -> Result<Who, u64>
 {
     require(number_at(bytes, 0, 4)? == MAGIC, 0)?;
     let home = number_at(bytes, 4, 1)?;
-    require(home < 8, 4)?;
+    require(home < NODE_LIMIT as u64, 4)?;
     let seq = number_at(bytes, 5, 4)?;
     let priority = number_at(bytes, 9, 1)?;
     require(priority <= 7, 9)?;
@@ -166,7 +167,11 @@ fn duty_of(duty: u64, call: CallNo) -> Duty
 fn is_call_node(duty: u64, node: u64) -> bool
     ensures { result ≡ may_be_call_node duty node }
 {
-    if duty == 0 { node == 0 } else { node < 8 }
+    if duty == 0 {
+        node == 0
+    } else {
+        node < NODE_LIMIT as u64
+    }
 }
 
 /// Whether the number may be one of the call that a thread serves, by the number of its duty.
@@ -191,14 +196,14 @@ fn read_registers(bytes: &[u8]) -> Result<[u64; 32], u64>
 /// The fields from 273 on.
 fn read_place(bytes: &[u8]) -> Result<Place, u64>
     ensures numbers { GoesOn place_numbers result (read place_fields bytes.now 273) (λ p. read (slot_fields p.heap 0 p.stack []) bytes.now 285) }
-    ensures small { IfOk result (λ p. (p.stack < 4096) × (p.heap < 4096)) }
+    ensures small { IfOk result (λ p. (p.stack < slot_limit) × (p.heap < slot_limit)) }
 {
     let pc = number_at(bytes, 273, 8)?;
     require(pc % 4 == 0, 273)?;
     let stack = number_at(bytes, 281, 2)?;
-    require(stack < 4096, 281)?;
+    require(stack < SLOT_LIMIT as u64, 281)?;
     let heap = number_at(bytes, 283, 2)?;
-    require(heap < 4096, 283)?;
+    require(heap < SLOT_LIMIT as u64, 283)?;
     Ok(Place {
         pc,
         stack: SlotNo(stack as u16),
@@ -206,7 +211,7 @@ fn read_place(bytes: &[u8]) -> Result<Place, u64>
     })
 }
 
-/// The fields from 285 on: so many heap slots.
+/// The fields from 285 on: `count` heap slots.
 fn read_slots(bytes: &[u8], count: u16, stack: SlotNo) -> Result<SlotSet, u64>
     ensures numbers { GoesOn (λ slots. slots) result (read (slot_fields count 0 stack []) bytes.now 285) (λ slots. read (live_fields slots) bytes.now (285 + 2 * count)) }
     ensures slots { IfOk result (λ slots. IsSlotSet slots × (has stack slots ≡ false) × (length slots ≡ count)) }
@@ -227,7 +232,7 @@ fn read_slots(bytes: &[u8], count: u16, stack: SlotNo) -> Result<SlotSet, u64>
 fn is_heap_slot(low: u64, stack: SlotNo, slot: u64) -> bool
     ensures { result ≡ may_be_heap_slot low stack slot }
 {
-    slot < 4096 && low <= slot && slot != stack.0 as u64
+    slot < SLOT_LIMIT as u64 && low <= slot && slot != stack.0 as u64
 }
 
 /// The number of live blocks, which stand behind it.
@@ -244,7 +249,7 @@ fn read_live(bytes: &[u8], at: usize, slots: &SlotSet) -> Result<u32, u64>
     Ok(live as u32)
 }
 
-/// Checks so many blocks from a place on.
+/// Checks `count` blocks from a place on.
 fn check_blocks(bytes: &[u8], at: usize, count: u32, slots: &SlotSet) -> Result<(), u64>
     requires proper { IsSlotSet slots.now }
     requires inside { at ≤ length bytes.now }

@@ -60,13 +60,6 @@ impl Packed {
         &self.bytes
     }
 
-    /// Its text again, without memory.
-    pub fn into_text(self) -> Vec<u8>
-        ensures { result.items ≡ text_of self }
-    {
-        self.bytes
-    }
-
     /// The thread. Its slots' blocks are taken from the pool, which has at least what it had where there is no memory.
     pub fn open(&self, alloc: Global, pool: &mut Pool) -> Result<Baggage, NoMemory>
         ensures thread { IfOk result (λ b. thread_of b ≡ self.now) }

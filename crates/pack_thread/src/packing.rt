@@ -16,7 +16,7 @@ use basics::NoMemory;
 use byteorder::{ByteOrder, LittleEndian};
 use lrpc::{CallNo, Duty};
 use rv_step::GuestMem;
-use slot_space::{NodeNo, SlotNo, SlotSet, Tid};
+use slot_space::{NodeNo, SLOT_SIZE, SlotNo, SlotSet, Tid};
 use std::alloc::Global;
 
 /// The text of a thread.
@@ -30,7 +30,7 @@ pub fn pack(alloc: Global, b: &Baggage) -> Result<Vec<u8>, NoMemory>
     let mut bytes = Vec::new(alloc);
     put_head(&mut bytes, b, &slots)?;
     let held = held_slots(alloc, &heap, b.stack)?;
-    bytes.reserve(65536 * held.len())?;
+    bytes.reserve(SLOT_SIZE as usize * held.len())?;
     put_memory(&mut bytes, &b.hart.mem, &held)?;
     Ok(bytes)
 }
@@ -165,7 +165,7 @@ fn put_memory(bytes: &mut Vec<u8>, memory: &GuestMem, held: &[SlotNo]) -> Result
     Ok(())
 }
 
-/// Adds a number in so many bytes.
+/// Adds a number in `width` bytes.
 fn put_number(bytes: &mut Vec<u8>, n: u64, width: usize) -> Result<(), NoMemory>
     requires some { 1 ≤ width }
     requires few { width ≤ 8 }

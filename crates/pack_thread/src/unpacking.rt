@@ -1,6 +1,7 @@
 //! A thread of its text.
 
 ghost use Rattle.std.specs.Prelude.{◌≡◌, ℕ, ◌+◌, ◌*◌, ◌<◌, ◌≤◌, max, OnOk, OnErr, Err, IfOk, ◌↔◌, length, drop, slice_index};
+ghost use Rattle.slot_space.specs.Limits.{slot_limit, slot_size};
 ghost use Rattle.slot_space.specs.Sets.{insert, IsAscending};
 ghost use Rattle.rv_step.specs.Memory.{slots_of};
 ghost use Rattle.pack_thread.specs.Grammar.{read_text};
@@ -17,7 +18,7 @@ use byteorder::{ByteOrder, LittleEndian};
 use iso_blocks::Blocks;
 use raw_slots::{Pool, SlotMem};
 use rv_step::{GuestMem, Hart};
-use slot_space::SlotNo;
+use slot_space::{SLOT_SIZE, SlotNo};
 use std::alloc::Global;
 
 /// The thread of a text. Its slots' blocks are taken from the pool; where no thread is given, the pool has at least what
@@ -43,7 +44,7 @@ pub fn unpack(alloc: Global, bytes: &[u8], pool: &mut Pool) -> Result<Baggage, U
 /// The thread whose fields have been read and checked.
 fn build(alloc: Global, bytes: &[u8], opened: Opened, pool: &mut Pool) -> Result<Baggage, NoMemory>
     requires rules { IsOpen bytes.now opened }
-    requires whole { slots_at opened + 65536 * (length opened.slots + 1) ≡ length bytes.now }
+    requires whole { slots_at opened + slot_size * (length opened.slots + 1) ≡ length bytes.now }
     ensures numbers { IfOk result (λ b. numbers_of (thread_of b) ≡ opened_numbers bytes.now opened) }
     ensures regs { IfOk result (λ b. (slice_index b.hart.regs 0 ≡ 0) × (length b.hart.regs ≡ 32)) }
     ensures holds { IfOk result (λ b. slots_of b.hart.mem.0 ≡ insert b.stack b.blocks.slots) }
@@ -114,8 +115,8 @@ fn memory_of(
     bytes: &[u8],
 ) -> Result<GuestMem, NoMemory>
     requires ascending { IsAscending held.now }
-    requires few { length held.now ≤ 4096 }
-    requires whole { length bytes.now ≡ 65536 * length held.now }
+    requires few { length held.now ≤ slot_limit }
+    requires whole { length bytes.now ≡ slot_size * length held.now }
     ensures slots { IfOk result (λ memory. slots_of memory.0 ≡ held.now) }
     ensures bytes { IfOk result (λ memory. bytes_of memory.0 ≡ bytes.now) }
     ensures blocks { IfOk result (λ memory. AreWhole memory.0) }
@@ -129,19 +130,19 @@ fn memory_of(
     for slot in held {
         match pool.take() {
             Ok(mut block) => {
-                fill(&mut block, &bytes[at..at + 65536]);
+                fill(&mut block, &bytes[at..at + SLOT_SIZE as usize]);
                 memory.grant(*slot, block);
             }
             Err(_) => unreachable!(),
         }
-        at += 65536;
+        at += SLOT_SIZE as usize;
     }
     Ok(memory)
 }
 
 /// Writes all bytes of a block.
 fn fill(block: &mut SlotMem, from: &[u8])
-    requires { length from.now ≡ 65536 }
+    requires { length from.now ≡ slot_size }
     ensures { block.new ≡ from.now }
 {
     block.bytes_mut().copy_from_slice(from);

@@ -1,15 +1,17 @@
 //! Free blocks in a list: the first bytes of each hold a pointer to the next.
 
 ghost use Rattle.std.specs.Prelude.{◌≡◌, ℕ, ◌+◌, ◌<◌};
+ghost use Rattle.slot_space.specs.Limits.{slot_size};
 ghost use Rattle.raw_slots.specs.Chained.{chain};
 
 use crate::memory::{Lease, Memory};
+use slot_space::SLOT_SIZE;
 use std::alloc::Allocator;
 use std::marker::{Model, PhantomData};
 use std::ptr::null_mut;
 
-/// The bytes of one block.
-pub(crate) const SIZE: usize = 65536;
+/// The bytes of one block, which are those of a slot.
+pub(crate) const SIZE: usize = SLOT_SIZE as usize;
 
 /// Owns `count` free blocks of `alloc`.
 pub(crate) struct Chain<A: Allocator> {
@@ -47,7 +49,7 @@ impl<A: Allocator> Chain<A> {
 
     /// Writes a link into the free block, which is then the first.
     pub(crate) fn push(self, memory: Memory, lease: Lease<A>) -> Chain<A>
-        requires { (memory.size ≡ 65536) × (lease.ptr ≡ memory.ptr) × (lease.size ≡ 65536) × (lease.alloc ≡ self.alloc) }
+        requires { (memory.size ≡ slot_size) × (lease.ptr ≡ memory.ptr) × (lease.size ≡ slot_size) × (lease.alloc ≡ self.alloc) }
         ensures { (result.count ≡ self.count + 1) × (result.alloc ≡ self.alloc) }
     {
         let Chain { first, marker } = self;
@@ -62,8 +64,8 @@ impl<A: Allocator> Chain<A> {
 
     /// Reads the link of the first block, and takes that block out.
     pub(crate) fn pop(self, size: usize) -> ((Memory, Lease<A>), Chain<A>)
-        requires { (0 < self.count) × (size ≡ 65536) }
-        ensures block { (result.0.0.size ≡ 65536) × (result.0.1.ptr ≡ result.0.0.ptr) × (result.0.1.size ≡ 65536) × (result.0.1.alloc ≡ self.alloc) }
+        requires { (0 < self.count) × (size ≡ slot_size) }
+        ensures block { (result.0.0.size ≡ slot_size) × (result.0.1.ptr ≡ result.0.0.ptr) × (result.0.1.size ≡ slot_size) × (result.0.1.alloc ≡ self.alloc) }
         ensures rest { (result.1.count + 1 ≡ self.count) × (result.1.alloc ≡ self.alloc) }
     {
         let Chain { first, marker } = self;

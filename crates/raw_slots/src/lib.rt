@@ -1,4 +1,4 @@
-//! Raw blocks of 65,536 bytes, the memory of slots, and a pool of spare ones.
+//! Raw blocks, each the memory of one slot, and a pool of spare ones.
 //! A layer above uses that a block is its bytes, and that a pool with a spare block can't fail to give one, of zeros.
 #![tactic(auto)]
 

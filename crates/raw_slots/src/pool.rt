@@ -1,6 +1,7 @@
 //! A pool of spare blocks.
 
 ghost use Rattle.std.specs.Prelude.{◌≡◌, ◌+◌, ◌-◌, ◌^◌, ◌<◌, ◌≤◌, max, min, IfOk, IsOk, OnOk, OnErr};
+ghost use Rattle.slot_space.specs.Limits.{slot_size};
 ghost use Rattle.raw_slots.specs.Zeros.{zeros};
 
 use crate::chain::{Chain, SIZE};
@@ -64,7 +65,7 @@ impl Pool {
 
     /// A block of zeros. It can't fail where a block is spare; where none is, it asks for memory.
     pub fn take(&mut self) -> Result<SlotMem, NoMemory>
-        ensures zeroed { IfOk result (λ block. block ≡ zeros 65536) }
+        ensures zeroed { IfOk result (λ block. block ≡ zeros slot_size) }
         ensures spare { 0 < self.old → IsOk result × (self.new + 1 ≡ self.old) }
         ensures none { self.old ≡ 0 → self.new ≡ 0 }
     {
@@ -90,10 +91,10 @@ impl Pool {
         self.add(memory, lease);
     }
 
-    /// Links one block more in.
+    /// Links one more block in.
     fn add(&mut self, memory: Memory, lease: Lease<Global>)
         requires room { self.old + 1 < 2 ^ 32 }
-        requires block { (memory.size ≡ 65536) × (lease.ptr ≡ memory.ptr) × (lease.size ≡ 65536) }
+        requires block { (memory.size ≡ slot_size) × (lease.ptr ≡ memory.ptr) × (lease.size ≡ slot_size) }
         ensures { self.new ≡ self.old + 1 }
     {
         let empty = Chain::empty(&self.alloc);

@@ -1,8 +1,9 @@
-//! One block of 65,536 bytes.
+//! One block, of the bytes of a slot.
 
 ghost use Rattle.std.specs.Prelude.{◌≡◌, [], length, IfOk, vec_len, vec_capacity};
 ghost use Rattle.std.specs.Vec.{vec_ptr};
 ghost use Rattle.std.specs.Borrow.{sem};
+ghost use Rattle.slot_space.specs.Limits.{slot_size};
 ghost use Rattle.raw_slots.specs.Lending.{LendsBytes};
 ghost use Rattle.raw_slots.specs.Zeros.{zeros};
 
@@ -14,7 +15,7 @@ use std::alloc::Global;
 use std::marker::Model;
 use std_alloc::vec::Lodged;
 
-/// Owns one raw block of 65,536 bytes. Contracts see its bytes.
+/// Owns one raw block, of a slot's bytes. Contracts see its bytes.
 pub struct SlotMem {
     bytes: Vec<u8, Lodged>,
     shell: Shell,
@@ -25,18 +26,19 @@ pub struct SlotMem {
 impl Model for SlotMem {
     ghost use Rattle.std.specs.Prelude.{◌≡◌, ℕ, List, vec_len, vec_capacity};
     ghost use Rattle.std.specs.Vec.{vec_ptr};
+    ghost use Rattle.slot_space.specs.Limits.{slot_size};
 
     ghost Value = { List ℕ };
 
     ghost view = { λ s. s.bytes.items };
 
-    ghost invariant = { λ s. (vec_len s.bytes ≡ 65536) × (vec_ptr s.bytes ≡ s.shell.ptr) × (vec_capacity s.bytes ≡ s.shell.size) × (s.shell.size ≡ 65536) × (s.lease.ptr ≡ s.shell.ptr) × (s.lease.size ≡ 65536) × (s.lease.alloc ≡ s.alloc) };
+    ghost invariant = { λ s. (vec_len s.bytes ≡ slot_size) × (vec_ptr s.bytes ≡ s.shell.ptr) × (vec_capacity s.bytes ≡ s.shell.size) × (s.shell.size ≡ slot_size) × (s.lease.ptr ≡ s.shell.ptr) × (s.lease.size ≡ slot_size) × (s.lease.alloc ≡ s.alloc) };
 }
 
 impl SlotMem {
     /// A new block of zeros.
     pub(crate) fn new(alloc: Global) -> Result<SlotMem, NoMemory>
-        ensures { IfOk result (λ block. block ≡ zeros 65536) }
+        ensures { IfOk result (λ block. block ≡ zeros slot_size) }
     {
         match Memory::new(&alloc, SIZE) {
             Some((memory, lease)) => Ok(SlotMem::zeroed(memory, lease, alloc)),
@@ -46,8 +48,8 @@ impl SlotMem {
 
     /// A block over this memory, whose bytes are overwritten by zeros.
     pub(crate) fn zeroed(memory: Memory, lease: Lease<Global>, alloc: Global) -> SlotMem
-        requires { (memory.size ≡ 65536) × (lease.ptr ≡ memory.ptr) × (lease.size ≡ 65536) × (lease.alloc ≡ alloc) }
-        ensures { result ≡ zeros 65536 }
+        requires { (memory.size ≡ slot_size) × (lease.ptr ≡ memory.ptr) × (lease.size ≡ slot_size) × (lease.alloc ≡ alloc) }
+        ensures { result ≡ zeros slot_size }
     {
         let (mut bytes, shell) = open(memory);
         push_zeros(&mut bytes, SIZE);
@@ -59,26 +61,26 @@ impl SlotMem {
         }
     }
 
-    /// Its 65,536 bytes.
+    /// Its bytes.
     pub fn bytes(&self) -> &[u8]
         ensures value { result.now ≡ self.now }
-        ensures len { length self.now ≡ 65536 }
+        ensures len { length self.now ≡ slot_size }
     {
         self.bytes.as_slice()
     }
 
-    /// Its 65,536 bytes, for writing.
+    /// Its bytes, for writing.
     pub fn bytes_mut(&mut self) -> &mut [u8]
         ensures* writes_back { sem 𝓛 (LendsBytes self.entry result) }
         ensures value { result.now ≡ self.old }
-        ensures len { length self.old ≡ 65536 }
+        ensures len { length self.old ≡ slot_size }
     {
         self.bytes.as_mut_slice()
     }
 
     /// The raw block, apart from its bytes.
     pub(crate) fn into_block(self, to: Global) -> (Memory, Lease<Global>)
-        ensures { (result.0.size ≡ 65536) × (result.1.ptr ≡ result.0.ptr) × (result.1.size ≡ 65536) × (result.1.alloc ≡ to) }
+        ensures { (result.0.size ≡ slot_size) × (result.1.ptr ≡ result.0.ptr) × (result.1.size ≡ slot_size) × (result.1.alloc ≡ to) }
     {
         let SlotMem {
             bytes,

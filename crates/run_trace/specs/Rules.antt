@@ -1,5 +1,6 @@
 -- The rules of a trace, each by what the labels before tell: what a label on node n must have found.
 use Rattle.std.specs.Prelude.{◌≡◌, ◌<◌, ◌==◌, ℕ, List, [], ◌∷◌, ◌++◌, length, Option, Some, None, Bool, true, false, slice_get, ⊤}
+use Rattle.slot_space.specs.Limits.{slot_limit}
 use Rattle.slot_space.specs.Replies.{reply_code}
 use Rattle.slot_space.specs.Sets.{has, run, lowest_run}
 use Rattle.iso_blocks.specs.Heap.{rounded, place, emptied}
@@ -175,7 +176,7 @@ is_free n _ = false
 
 -- the lowest run of so many slots of node n
 abbrev pub lowest_free : ℕ → ℕ → Spots → Option ℕ
-lowest_free n count w = lowest_run (λ s. is_free n (w.slots s)) count 4096
+lowest_free n count w = lowest_run (λ s. is_free n (w.slots s)) count slot_limit
 
 -- a block takes as many slots as it needs, and only where it has no place
 abbrev pub IsClaim : Life → Guest → ℕ → Type 0

@@ -8,8 +8,9 @@ use Rattle.std.proofs.lemmas.Grind.{get_or-set_at}
 use Rattle.std.proofs.lemmas.List.{length-set, get_or-set_other}
 use Rattle.std.proofs.lemmas.List.Quantifiers.{position-Some}
 use Rattle.std.proofs.lemmas.Option.{slice_get-get_or, slice_get_past, slice_get_within, get_or_from_slice_get}
+use Rattle.slot_space.specs.Limits.{slots_start, slot_size}
 use Rattle.rv_step.specs.declared.memory.Held.{Held}
-use Rattle.rv_step.specs.Memory.{Memory, block_len, byte_in, held_byte, place_of, slot_of, slots_start}
+use Rattle.rv_step.specs.Memory.{Memory, byte_in, held_byte, place_of, slot_of}
 use Rattle.rv_step.specs.Access.{stored, with_byte, writable, written}
 use Rattle.rv_step.proofs.AccessLemmas.{writable_before}
 use Rattle.rv_step.proofs.InsideLemmas.{in_range, place_in_range, address_set, get_set, with_byte_inside, with_block_at}
@@ -20,7 +21,7 @@ record Holder (m : Memory) (a : ℕ) : Type 0 where
   held : Held
   at : place_of m a ≡ Some place
   there : slice_get m place ≡ Some held
-  within : a % 65536 < length held.block
+  within : a % slot_size < length held.block
 
 within_block : (block : List ℕ) (at : ℕ) → is_some (slice_get block at) ≡ true → at < length block
 within_block block at h =
@@ -30,13 +31,13 @@ within_block block at h =
     ]
 
 holder_in : (m : Memory) (a p : ℕ) → place_of m a ≡ Some p → (s : Option Held) → slice_get m p ≡ s
-    → is_some (byte_in s (a % block_len)) ≡ true → Holder m a
+    → is_some (byte_in s (a % slot_size)) ≡ true → Holder m a
 holder_in m a p e None there h = absurd (cc)
 holder_in m a p e (Some held) there h =
-    record { place = p; held = held; at = e; there = there; within = within_block held.block (a % 65536) h }
+    record { place = p; held = held; at = e; there = there; within = within_block held.block (a % slot_size) h }
 
 holder_at : (m : Memory) (a : ℕ) (o : Option ℕ) → place_of m a ≡ o
-    → is_some (option_and_then (λ (i : ℕ). byte_in (slice_get m i) (a % block_len)) o) ≡ true → Holder m a
+    → is_some (option_and_then (λ (i : ℕ). byte_in (slice_get m i) (a % slot_size)) o) ≡ true → Holder m a
 holder_at m a None e h = absurd (cc)
 holder_at m a (Some p) e h = holder_in m a p e (slice_get m p) refl h
 
@@ -70,27 +71,27 @@ one_slot m a x p e f =
     sym (eqb-true (get_or m p d).slot (slot_of a) here.1) ∙ eqb-true (get_or m p d).slot (slot_of x) there.1
 
 held_is : (m : Memory) (a p : ℕ) (held : Held) → place_of m a ≡ Some p → slice_get m p ≡ Some held
-    → held_byte m a ≡ slice_get held.block (a % 65536)
+    → held_byte m a ≡ slice_get held.block (a % slot_size)
 unfolding held_byte
 held_is m a p held e there = rw (e, there) refl
 
 -- at every other address the byte is as before
 other_at : (m : Memory) (a x p b : ℕ) (held : Held) → place_of m a ≡ Some p → slice_get m p ≡ Some held → x ≢ a → (o : Option ℕ) → place_of m x ≡ o
-    → held_byte (with_block_at m p held (slice_set held.block (a % 65536) b)) x ≡ held_byte m x
+    → held_byte (with_block_at m p held (slice_set held.block (a % slot_size) b)) x ≡ held_byte m x
 unfolding held_byte
 other_at m a x p b held e there apart None f =
-    let new : Held = record held { block = slice_set held.block (a % 65536) b } in
+    let new : Held = record held { block = slice_set held.block (a % slot_size) b } in
     let inside : p < length m = slice_get_within m p held there in
     let here : get_or m p held ≡ held = get_or_from_slice_get m p held held there in
     rw (address_set m x p held new inside here refl, f) refl
 other_at m a x p b held e there apart (Some q) f =
-    let new : Held = record held { block = slice_set held.block (a % 65536) b } in
+    let new : Held = record held { block = slice_set held.block (a % slot_size) b } in
     let inside : p < length m = slice_get_within m p held there in
     let here : get_or m p held ≡ held = get_or_from_slice_get m p held held there in
     let still : place_of (set m p new) x ≡ Some q = address_set m x p held new inside here refl ∙ f in
-    let elsewhere : q ≢ p → option_and_then (λ (i : ℕ). byte_in (slice_get (set m p new) i) (x % block_len)) (place_of (set m p new) x)
-    ≡ option_and_then (λ (i : ℕ). byte_in (slice_get m i) (x % block_len)) (place_of m x)
-    = λ (far : q ≢ p). rw (still, f) (ap (λ (s : Option Held). byte_in s (x % block_len)) (get_set_other m p q new held far)) in
+    let elsewhere : q ≢ p → option_and_then (λ (i : ℕ). byte_in (slice_get (set m p new) i) (x % slot_size)) (place_of (set m p new) x)
+    ≡ option_and_then (λ (i : ℕ). byte_in (slice_get m i) (x % slot_size)) (place_of m x)
+    = λ (far : q ≢ p). rw (still, f) (ap (λ (s : Option Held). byte_in s (x % slot_size)) (get_set_other m p q new held far)) in
     elim (cases_order q p) [
       | inl at ↦ (
           let same_x : place_of m x ≡ Some p = f ∙ ap Some at in
@@ -99,9 +100,9 @@ other_at m a x p b held e there apart (Some q) f =
           let low_a : slots_start ≤ a = ra.0 in
           let low_x : slots_start ≤ x = rx.0 in
           let slots : slot_of a ≡ slot_of x = one_slot m a x p e same_x in
-          let far : x % 65536 ≢ a % 65536 = λ same. apart (omega arith) in
+          let far : x % slot_size ≢ a % slot_size = λ same. apart (omega arith) in
           held_is (set m p new) x p new (still ∙ ap Some at) (get_set m p new inside)
-          ∙ get_set_other held.block (a % 65536) (x % 65536) b 0 far ∙ sym (held_is m x p held same_x there))
+          ∙ get_set_other held.block (a % slot_size) (x % slot_size) b 0 far ∙ sym (held_is m x p held same_x there))
       | inr (inl before) ↦ elsewhere (λ same. absurd (omega arith))
       | inr (inr after) ↦ elsewhere (λ same. absurd (omega arith))
     ]
@@ -109,13 +110,13 @@ other_at m a x p b held e there apart (Some q) f =
 with_byte_is : (m : Memory) (a b x : ℕ) → Holder m a → held_byte (with_byte m a b) x ≡ (if x == a then Some b else held_byte m x)
 with_byte_is m a b x h =
     let p : ℕ = h.place in
-    let new : Held = record h.held { block = slice_set h.held.block (a % 65536) b } in
+    let new : Held = record h.held { block = slice_set h.held.block (a % slot_size) b } in
     let inside : p < length m = slice_get_within m p h.held h.there in
     let here : get_or m p h.held ≡ h.held = get_or_from_slice_get m p h.held h.held h.there in
-    let is : with_byte m a b ≡ set m p new = with_byte_inside m a p (a % 65536) b h.held h.at h.there refl in
+    let is : with_byte m a b ≡ set m p new = with_byte_inside m a p (a % slot_size) b h.held h.at h.there refl in
     elim (eqb_tells x a) [
       | inl same ↦ rw (is, same.0, same.1) (held_is (set m p new) a p new (address_set m a p h.held new inside here refl ∙ h.at) (get_set m p new inside)
-          ∙ get_set_at h.held.block (a % 65536) b h.within)
+          ∙ get_set_at h.held.block (a % slot_size) b h.within)
       | inr apart ↦ rw (is, apart.0) (other_at m a x p b h.held h.at h.there apart.1 (place_of m x) refl)
     ]
 

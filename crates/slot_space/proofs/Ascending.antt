@@ -4,6 +4,7 @@ use Rattle.std.specs.Prelude.{nat_lt, All, IsTrue}
 use Rattle.std.specs.Option.{is_some}
 use Rattle.std.specs.List.{filter}
 use Rattle.std.proofs.lemmas.Bool.{eq-eqb, eqb-true, eqb-false, cases_eq, cases_lt, lt-ltb, le-ltb, ltb-true, ltb-false}
+use Rattle.slot_space.specs.Limits.{slot_limit}
 use Rattle.slot_space.specs.Sets.{has, IsAscending, AreBelow, IsSlotSet, insert, union, minus, least_from, run}
 use Rattle.slot_space.specs.Places.{starting_slots}
 use Rattle.slot_space.specs.WordsBack.{has-filter, has-run}
@@ -70,7 +71,7 @@ below-run limit first count h s e = grind (arith, e, h, has-run s first count)
 
 -- ## A set built up slot by slot
 
--- one member more of any list
+-- any list with one more member
 pub union-last : (xs : List ℕ) (x : ℕ) → insert x (union xs []) ≡ union (xs ++ x ∷ []) []
 union-last xs x = same_members _ _ (ascending-insert x (union xs []) (ascending-union xs [] tt)) (ascending-union (xs ++ x ∷ []) [] tt)
     (λ s. grind (arith, has-insert x s (union xs []), has-union s xs [], has-union s (xs ++ x ∷ []) [], has-append s xs (x ∷ [])))
@@ -86,8 +87,8 @@ below-all limit (x ∷ xs) h s e =
     let first : x < limit = h 0 0 (omega arith) in
     grind (arith, e, first, eqb-true x s, below-all limit xs (λ k d l. h (suc k) d (omega arith)) s)
 
-pub proper-of : (xs : List ℕ) → All (λ s. s < 4096) xs → IsSlotSet (union xs [])
-proper-of xs h = record { ascending = ascending-union xs [] tt; small = below-union 4096 xs [] (below-all 4096 xs h) (λ s e. absurd (cc e)) }
+pub proper-of : (xs : List ℕ) → All (λ s. s < slot_limit) xs → IsSlotSet (union xs [])
+proper-of xs h = record { ascending = ascending-union xs [] tt; small = below-union slot_limit xs [] (below-all slot_limit xs h) (λ s e. absurd (cc e)) }
 
 -- ## The slots that start with a node
 
@@ -126,7 +127,7 @@ module _ (nodes node : ℕ) where
         ]) ∙ sym (has-starting (s + 1) k)
       ])
 
-  pub proper-starting : (slots : ℕ) → slots ≤ 4096 → IsSlotSet (starting_slots nodes slots node)
+  pub proper-starting : (slots : ℕ) → slots ≤ slot_limit → IsSlotSet (starting_slots nodes slots node)
   proper-starting slots h = record { ascending = ascending-starting slots; small = λ s e. grind (arith, e, h, has-starting slots s) }
 
 -- ## The least member from a slot on
@@ -196,7 +197,7 @@ below-all_of from (x ∷ xs) e = elim (nat_lt x from) as (λ o. cond o (least_fr
   | false ↦ λ g. absurd (cc g)
 ] e
 
-pub least_from-within : (from s : ℕ) (xs : List ℕ) → IsSlotSet xs → least_from from xs ≡ Some s → s < 4096
+pub least_from-within : (from s : ℕ) (xs : List ℕ) → IsSlotSet xs → least_from from xs ≡ Some s → s < slot_limit
 least_from-within from s xs h e = h.small s (least_from-found from s xs e).1
 
 pub empty-least : (xs : List ℕ) → least_from 0 xs ≡ None → xs ≡ []

@@ -4,6 +4,7 @@ use Rattle.std.specs.Prelude.{bit_and, MatchOption}
 use Rattle.std.specs.Int.{bit_at, bit_not}
 use Rattle.std.proofs.lemmas.Bool.{eqb-true, cases_lt}
 use Rattle.std.proofs.lemmas.Nat.Bits.{bit_at_not, bit_at-lt, bit_at-zero, bit_at_above, bit_at_and}
+use Rattle.slot_space.specs.Limits.{slot_limit}
 use Rattle.slot_space.specs.Sets.{has_run}
 use Rattle.slot_space.specs.Words.{bit_of, AreOnes, NoOnes, HasNoneBetween, SearchedTo, IsLowestStart}
 use Rattle.slot_space.proofs.Ones.{bit_at-shr}
@@ -129,7 +130,7 @@ none_more words i from none old s a b = elim (cases_lt s (64 * i)) [
 
 -- the lowest bit of a word is the next member
 pub first_in : (words : List ℕ) (i from low : ℕ) → i < 64 → low < 64 → from ≤ 64 * i → bit_at (get_or words i 0) low ≡ 1 → ((k : ℕ) → k < low → bit_at (get_or words i 0) k ≡ 0)
-    → HasNoneBetween (bit_of words) from (64 * i) → (from ≤ 64 * i + low) × (64 * i + low < 4096) × (bit_of words (64 * i + low) ≡ true) × HasNoneBetween (bit_of words) from (64 * i + low)
+    → HasNoneBetween (bit_of words) from (64 * i) → (from ≤ 64 * i + low) × (64 * i + low < slot_limit) × (bit_of words (64 * i + low) ≡ true) × HasNoneBetween (bit_of words) from (64 * i + low)
 first_in words i from low in_row in_word le here below old = (
   omega arith,
   omega arith,
@@ -148,7 +149,7 @@ rest_bit words from s a b =
 
 pub first_of_rest : (words : List ℕ) (from low : ℕ) → from / 64 < 64 → get_or words (from / 64) 0 < 2 ^ 64 → bit_at (get_or words (from / 64) 0 / 2 ^ (from % 64)) low ≡ 1
     → ((k : ℕ) → k < low → bit_at (get_or words (from / 64) 0 / 2 ^ (from % 64)) k ≡ 0)
-    → (from ≤ from + low) × (from + low < 4096) × (bit_of words (from + low) ≡ true) × HasNoneBetween (bit_of words) from (from + low)
+    → (from ≤ from + low) × (from + low < slot_limit) × (bit_of words (from + low) ≡ true) × HasNoneBetween (bit_of words) from (from + low)
 first_of_rest words from low in_row fits here below =
     let word : ℕ = get_or words (from / 64) 0 in
     let in_word : from % 64 + low < 64 = elim (cases_lt (from % 64 + low) 64) [

@@ -6,6 +6,7 @@ use Rattle.std.specs.Cmp.Lexicographic.{pointwise, bytes_decides}
 use Rattle.std.proofs.lemmas.List.{length-replicate, get_or-replicate, get_or_past}
 use Rattle.std.proofs.lemmas.Bool.{eqb-true, eqb-false, cases_eq, cases_lt, lt-ltb, le-ltb}
 use Rattle.std.proofs.lemmas.Nat.Bits.{bit_at_set_same, bit_at_set_other, bit_at_clear_same, bit_at_clear_other, bit_at-zero, bit_at-lt, bit_at_or, bit_at_and, bit_at_not}
+use Rattle.slot_space.specs.Limits.{slot_limit}
 use Rattle.slot_space.specs.Sets.{has, IsAscending, AreBelow, IsSlotSet, insert, union, minus, meets, least_from, run}
 use Rattle.slot_space.specs.Words.{bit_of, members, words_of, AreWords, AreSlotWords, HasCommon, HasNoneBetween}
 use Rattle.slot_space.specs.WordsBack.{bit_past, has-members, has-run, words_back}
@@ -106,7 +107,7 @@ members-union_words words others new k = members-union words new (members others
 pub members-minus_words : (words others new : List ℕ) → ((s : ℕ) → bit_of new s ≡ cond (bit_of others s) false (bit_of words s)) → members new ≡ minus (members words) (members others)
 members-minus_words words others new k = members-minus words new (members others) (λ s. k s ∙ ap (λ b. cond b false (bit_of words s)) (sym (has-members others s)))
 
--- one place more of a run
+-- a run that is longer by one place
 pub run_more : (first count s : ℕ) (hit old now new : Bool) → now ≡ cond (has s (run first count)) hit old → new ≡ cond (eqb (first + count) s) hit now → new ≡ cond (has s (run first (count + 1))) hit old
 run_more first count s hit old now new e g = grind (arith, e, g, has-run s first count, has-run s first (count + 1), eqb-true (first + count) s, eqb-false (first + count) s)
 
@@ -186,11 +187,11 @@ meets-members words others false h = elim (meets (members words) (members others
 ] refl
 
 -- the next member
-pub next_some : (words : List ℕ) (from s : ℕ) → (from ≤ s) × (s < 4096) × (bit_of words s ≡ true) × HasNoneBetween (bit_of words) from s → least_from from (members words) ≡ Some s
+pub next_some : (words : List ℕ) (from s : ℕ) → (from ≤ s) × (s < slot_limit) × (bit_of words s ≡ true) × HasNoneBetween (bit_of words) from s → least_from from (members words) ≡ Some s
 next_some words from s h = least_from-some from s (members words) (ascending-members words) (has-members words s ∙ h.2) h.0 (λ k a b. has-members words k ∙ h.3 k a b)
 
-pub next_none : (words : List ℕ) (from : ℕ) → length words ≡ 64 → HasNoneBetween (bit_of words) from 4096 → least_from from (members words) ≡ None
-next_none words from len h = least_from-none from (members words) (λ k a. has-members words k ∙ elim (cases_lt k 4096) [
+pub next_none : (words : List ℕ) (from : ℕ) → length words ≡ 64 → HasNoneBetween (bit_of words) from slot_limit → least_from from (members words) ≡ None
+next_none words from len h = least_from-none from (members words) (λ k a. has-members words k ∙ elim (cases_lt k slot_limit) [
   | inl within ↦ h k a within
   | inr past ↦ bit_past words k (omega arith)
 ])

@@ -1,5 +1,6 @@
 -- Sets of slots as the ascending lists of their members, and the lowest run of a set.
 use Rattle.std.specs.Prelude.{◌≡◌, ℕ, ◌<◌, Bool, true, false, zero, suc, List, [], ◌∷◌, Option, Some, None, nat_lt, ◌==◌, if◌then◌else◌}
+use Rattle.slot_space.specs.Limits.{slot_limit}
 
 -- s is a member
 abbrev pub has : ℕ → List ℕ → Bool
@@ -59,7 +60,7 @@ lowest_from set count s (suc left) = if has_run set s count then Some s else low
 unfoldable pub lowest_run : (ℕ → Bool) → ℕ → ℕ → Option ℕ
 lowest_run set count limit = lowest_from set count 0 limit
 
--- what the list of a set of slots always is: ascending, of numbers below 4096
+-- what the list of a set of slots always is: ascending, of numbers below the limit
 pub record IsSlotSet (xs : List ℕ) : Type 0 where
   pub ascending : IsAscending xs
-  pub small : AreBelow 4096 xs
+  pub small : AreBelow slot_limit xs

@@ -2,6 +2,7 @@
 use Rattle.std.specs.Prelude.{◌≡◌, ℕ, ◌+◌, ◌*◌, ◌/◌, ◌%◌, ◌^◌, ◌<◌, ◌≤◌, zero, suc, Bool, true, false, Option, Some, None, List, length, map, ◌==◌, if◌then◌else◌, slice_index}
 use Rattle.std.specs.List.{filter}
 use Rattle.std.specs.Int.{bit_at}
+use Rattle.slot_space.specs.Limits.{slot_limit}
 use Rattle.slot_space.specs.Sets.{has, run, has_run}
 use Rattle.slot_space.specs.declared.bits.Step.{Step}
 use Rattle.slot_space.specs.declared.bits.Step.TheVariants.{Found, From}
@@ -19,7 +20,7 @@ unfoldable pub number_of : (ℕ → Bool) → ℕ → ℕ
 number_of bits zero = 0
 number_of bits (suc n) = (if bits 0 then 1 else 0) + 2 * number_of (λ i. bits (suc i)) n
 
--- the row of so many words that has these members
+-- the row of n words that has these members
 unfoldable pub words_of : ℕ → List ℕ → List ℕ
 words_of n xs = map (λ i. number_of (λ b. has (64 * i + b) xs) 64) (run 0 n)
 
@@ -36,7 +37,7 @@ pub record AreSlotWords (words : List ℕ) : Type 0 where
 abbrev pub AreOnes : ℕ → ℕ → ℕ → Type 0
 AreOnes word k count = (u : ℕ) → u < count → bit_at word (k + u) ≡ 1
 
--- so many ones start nowhere below the limit
+-- `count` consecutive ones begin nowhere below the limit
 abbrev pub NoOnes : ℕ → ℕ → ℕ → Type 0
 NoOnes word count limit = (k : ℕ) → k < limit → AreOnes word k count → ⊥
 
@@ -49,10 +50,10 @@ HasCommon set other false = (s : ℕ) → set s ≡ true → other s ≡ false
 abbrev pub HasNoneBetween : (ℕ → Bool) → ℕ → ℕ → Type 0
 HasNoneBetween set from to = (s : ℕ) → from ≤ s → s < to → set s ≡ false
 
--- the answer is the first number from `from` on that is in a set of numbers below 4096
+-- the answer is the first number from `from` on that is in a set of slots
 abbrev pub IsFirstFrom : (ℕ → Bool) → ℕ → Option ℕ → Type 0
-IsFirstFrom set from None = HasNoneBetween set from 4096
-IsFirstFrom set from (Some s) = (from ≤ s) × (s < 4096) × (set s ≡ true) × HasNoneBetween set from s
+IsFirstFrom set from None = HasNoneBetween set from slot_limit
+IsFirstFrom set from (Some s) = (from ≤ s) × (s < slot_limit) × (set s ≡ true) × HasNoneBetween set from s
 
 -- no run starts below `start`, and all from there to `place` are in the set, fewer than the count
 pub record SearchedTo (set : ℕ → Bool) (count place start : ℕ) : Type 0 where

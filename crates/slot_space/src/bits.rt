@@ -1,6 +1,7 @@
 //! Sets of small numbers as the bits of a row of words.
 
 ghost use Rattle.std.specs.Prelude.{◌≡◌, ℕ, ◌+◌, ◌*◌, ◌^◌, ◌<◌, ◌≤◌, Bool, true, false, length, if◌then◌else◌, ◌==◌, MatchOption};
+ghost use Rattle.slot_space.specs.Limits.{slot_limit};
 ghost use Rattle.slot_space.specs.Sets.{has, run, lowest_run};
 ghost use Rattle.slot_space.specs.Words.{bit_of, AreWords, AreSlotWords, IsFirstFrom, HasCommon, SearchedTo, IsStep};
 
@@ -60,7 +61,7 @@ pub(crate) fn clear_all(words: &mut [u64], others: &[u64])
     }
 }
 
-/// Sets so many bits from `first` on.
+/// Sets `count` bits from `first` on.
 pub(crate) fn set_run(words: &mut [u64], first: usize, count: usize)
     requires within { first + count ≤ 64 * length words.old }
     requires small { first + count < 2 ^ 64 }
@@ -73,7 +74,7 @@ pub(crate) fn set_run(words: &mut [u64], first: usize, count: usize)
     }
 }
 
-/// Clears so many bits from `first` on.
+/// Clears `count` bits from `first` on.
 pub(crate) fn clear_run(words: &mut [u64], first: usize, count: usize)
     requires within { first + count ≤ 64 * length words.old }
     requires small { first + count < 2 ^ 64 }
@@ -120,12 +121,12 @@ pub(crate) fn first_from(words: &[u64], from: usize) -> Option<usize>
     None
 }
 
-/// What one word more tells of the lowest run.
+/// What is known of the lowest run after one more word.
 enum Step {
     /// It starts here.
     Found(usize),
 
-    /// It doesn't start below this place, from which all bits so far are set.
+    /// It doesn't start below this place, and all bits read from there on are set.
     From(usize),
 }
 
@@ -134,7 +135,7 @@ fn step_over(words: &[u64], i: usize, start: usize, count: usize) -> Step
     requires words { AreSlotWords words.now }
     requires within { i < 64 }
     requires some { 0 < count }
-    requires small { count < 65536 }
+    requires small { count < 2 ^ 16 }
     requires so_far { SearchedTo (bit_of words.now) count (64 * i) start }
     ensures { IsStep (bit_of words.now) count (64 * i + 64) result }
 {
@@ -161,12 +162,12 @@ fn step_over(words: &[u64], i: usize, start: usize, count: usize) -> Step
     Step::From(base + high + 1)
 }
 
-/// The lowest place at which so many bits that are set start. Each word is read once.
+/// The lowest place where `count` consecutive set bits begin. Each word is read once.
 pub(crate) fn lowest_run(words: &[u64], count: usize) -> Option<usize>
     requires words { AreSlotWords words.now }
     requires some { 0 < count }
-    requires small { count < 65536 }
-    ensures { result ≡ lowest_run (bit_of words.now) count 4096 }
+    requires small { count < 2 ^ 16 }
+    ensures { result ≡ lowest_run (bit_of words.now) count slot_limit }
 {
     let mut start = 0;
     for i in 0..64 {

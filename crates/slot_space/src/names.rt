@@ -6,7 +6,7 @@ ghost use Rattle.slot_space.specs.Replies.{reply_code, tid_value};
 
 use std::marker::Model;
 
-/// A node's number, from 0 to 7. Contracts see the number.
+/// A node's number, below the limit of nodes. Contracts see the number.
 #[derive(Clone, Copy, Debug, PartialEq, Eq, PartialOrd, Ord)]
 pub struct NodeNo(pub u8);
 
@@ -23,7 +23,7 @@ impl Model for NodeNo {
     ghost inverse = { λ n. record { 0 = n } };
 }
 
-/// A slot's number, from 0 to 4095. Contracts see the number.
+/// A slot's number, below the limit of slots. Contracts see the number.
 #[derive(Clone, Copy, Debug, PartialEq, Eq, PartialOrd, Ord)]
 pub struct SlotNo(pub u16);
 

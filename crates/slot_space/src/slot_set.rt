@@ -4,17 +4,18 @@ ghost use Rattle.std.specs.Prelude.{◌≡◌, ℕ, ◌+◌, ◌<◌, ◌≤◌,
 ghost use Rattle.std.specs.Cmp.Lexicographic.{pointwise, nat_list_eq_equiv};
 ghost use Rattle.std.specs.Cmp.{partial_equiv_from_equiv};
 ghost use Rattle.slot_space.specs.Sets.{has, insert, union, minus, meets, run, least_from, lowest_run, IsSlotSet};
+ghost use Rattle.slot_space.specs.Limits.{slot_limit};
 ghost use Rattle.slot_space.specs.Places.{starting_slots};
 
 use crate::bits;
-use crate::geometry::Geometry;
+use crate::geometry::{Geometry, SLOT_LIMIT};
 use crate::names::{NodeNo, SlotNo};
 use basics::NoMemory;
 use std::alloc::Global;
 use std::marker::Model;
 use std::mem;
 
-/// A set of numbers below 4096, one bit for each. Contracts see the ascending list of its members.
+/// A set of slots, one bit for each that there can be. Contracts see the ascending list of its members.
 #[derive(Clone, Copy, Debug)]
 pub struct SlotSet {
     words: [u64; 64],
@@ -60,7 +61,7 @@ impl SlotSet {
 
     /// The set of these slots.
     pub fn of(slots: &[SlotNo]) -> SlotSet
-        requires { All (λ s. s < 4096) slots.now }
+        requires { All (λ s. s < slot_limit) slots.now }
         ensures members { result ≡ union slots.now [] }
         ensures proper { IsSlotSet result }
     {
@@ -77,7 +78,7 @@ impl SlotSet {
         ensures proper { IsSlotSet self.now }
     {
         let place = s.0 as usize;
-        place < 4096 && bits::is_set(&self.words, place)
+        place < SLOT_LIMIT as usize && bits::is_set(&self.words, place)
     }
 
     /// Whether no slot is a member.
@@ -89,7 +90,7 @@ impl SlotSet {
 
     /// Adds the slot.
     pub fn insert(&mut self, s: SlotNo)
-        requires { s < 4096 }
+        requires { s < slot_limit }
         ensures { self.new ≡ insert s self.old }
     {
         bits::set_bit(&mut self.words, s.0 as usize);
@@ -100,14 +101,14 @@ impl SlotSet {
         ensures { self.new ≡ minus self.old (s ∷ []) }
     {
         let place = s.0 as usize;
-        if place < 4096 {
+        if place < SLOT_LIMIT as usize {
             bits::clear_bit(&mut self.words, place);
         }
     }
 
     /// Adds the slots from `first` to `first + count - 1`.
     pub fn insert_run(&mut self, first: SlotNo, count: u16)
-        requires { first + count ≤ 4096 }
+        requires { first + count ≤ slot_limit }
         ensures { self.new ≡ union self.old (run first count) }
     {
         bits::set_run(&mut self.words, first.0 as usize, count as usize);
@@ -115,7 +116,7 @@ impl SlotSet {
 
     /// Takes the slots from `first` to `first + count - 1` out.
     pub fn remove_run(&mut self, first: SlotNo, count: u16)
-        requires { first + count ≤ 4096 }
+        requires { first + count ≤ slot_limit }
         ensures { self.new ≡ minus self.old (run first count) }
     {
         bits::clear_run(&mut self.words, first.0 as usize, count as usize);
@@ -153,7 +154,7 @@ impl SlotSet {
     /// The least slot that starts `count` consecutive members. None exactly where there is none.
     pub fn lowest_run(&self, count: u16) -> Option<SlotNo>
         requires { 0 < count }
-        ensures { result ≡ lowest_run (λ s. has s self.now) count 4096 }
+        ensures { result ≡ lowest_run (λ s. has s self.now) count slot_limit }
     {
         match bits::lowest_run(&self.words, count as usize) {
             Some(place) => Some(SlotNo(place as u16)),

@@ -24,7 +24,7 @@ pub(crate) fn highest(word: u64) -> usize
     word.ilog2() as usize
 }
 
-/// The bit of each place at which so many ones start.
+/// A word with a one at each place where `count` consecutive ones of the other begin.
 fn starts_of_ones(word: u64, count: usize) -> u64
     requires some { 0 < count }
     requires few { count ≤ 64 }
@@ -41,7 +41,7 @@ fn starts_of_ones(word: u64, count: usize) -> u64
     starts
 }
 
-/// The lowest place at which so many ones start.
+/// The lowest place where `count` consecutive ones begin.
 pub(crate) fn lowest_ones(word: u64, count: usize) -> Option<usize>
     requires some { 0 < count }
     requires few { count ≤ 64 }

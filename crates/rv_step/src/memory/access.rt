@@ -11,15 +11,7 @@ ghost use Rattle.rv_step.specs.Access.{byte_at, readable, read, with_byte, writa
 use super::block::{set_slot_byte, set_slot_bytes, slot_byte};
 use super::{GuestMem, place_in};
 use rv_inst::Image;
-
-/// Where the first slot starts.
-const SLOTS_START: u64 = 0x1_0000_0000;
-
-/// Where the last of the 4,096 slots ends.
-const SLOTS_END: u64 = 0x1_1000_0000;
-
-/// How many bytes a slot has.
-const BLOCK_LEN: u64 = 0x1_0000;
+use slot_space::{SLOT_SIZE, SLOTS_END, SLOTS_START};
 
 impl GuestMem {
     /// Where the slot of an address stands.
@@ -30,7 +22,7 @@ impl GuestMem {
         if address < SLOTS_START || address >= SLOTS_END {
             return None;
         }
-        let slot = (address - SLOTS_START) / BLOCK_LEN;
+        let slot = (address - SLOTS_START) / SLOT_SIZE;
         place_in(&self.held, slot)
     }
 
@@ -40,7 +32,7 @@ impl GuestMem {
         ensures { result ≡ held_byte self.now.0 address }
     {
         let place = self.place(address)?;
-        Some(slot_byte(&self.held[place].block, (address % BLOCK_LEN) as u16))
+        Some(slot_byte(&self.held[place].block, (address % SLOT_SIZE) as u16))
     }
 
     /// The byte that a thread reads at an address: a held slot's, else the image's.
@@ -53,7 +45,7 @@ impl GuestMem {
         }
     }
 
-    /// Each of so many bytes from an address on is readable.
+    /// Whether each of `len` bytes from an address on is readable.
     #[tactic(auto, using(crate::proofs::AccessLemmas::access_steps))]
     fn readable(&self, image: &Image, address: u64, len: usize) -> bool
         ensures exact { result ≡ readable image.now.bytes self.now.0 address len }
@@ -77,8 +69,8 @@ impl GuestMem {
         ensures len { IfSome result (λ bytes. length bytes.now ≡ len) }
     {
         let place = self.place(address)?;
-        let at = (address % BLOCK_LEN) as usize;
-        if len > 65536 - at {
+        let at = (address % SLOT_SIZE) as usize;
+        if len > SLOT_SIZE as usize - at {
             return None;
         }
         Some(&self.held[place].block.bytes()[at..at + len])
@@ -113,7 +105,7 @@ impl GuestMem {
         self.read_across(image, address, into)
     }
 
-    /// A number of so many bytes, the lowest first.
+    /// The number of `len` bytes from an address on, the lowest first. None where one of them isn't readable.
     #[inline(always)]
     pub fn read_number(&self, image: &Image, address: u64, len: usize) -> Option<u64>
         requires { len ≤ 8 }
@@ -134,13 +126,13 @@ impl GuestMem {
         if let Some(place) = self.place(address) {
             set_slot_byte(
                 &mut self.held[place].block,
-                (address % BLOCK_LEN) as u16,
+                (address % SLOT_SIZE) as u16,
                 byte,
             );
         }
     }
 
-    /// Each of so many bytes from an address on is writable.
+    /// Whether each of `len` bytes from an address on is writable.
     #[tactic(auto, using(crate::proofs::AccessLemmas::access_steps))]
     fn writable(&self, address: u64, len: usize) -> bool
         ensures exact { result ≡ writable self.now.0 address len }
@@ -167,8 +159,8 @@ impl GuestMem {
         let Some(place) = self.place(address) else {
             return false;
         };
-        let at = (address % BLOCK_LEN) as usize;
-        if from.len() > 65536 - at {
+        let at = (address % SLOT_SIZE) as usize;
+        if from.len() > SLOT_SIZE as usize - at {
             return false;
         }
         set_slot_bytes(&mut self.held[place].block, at, from);

@@ -2,6 +2,7 @@
 
 ghost use Rattle.std.specs.Prelude.{◌≡◌, ◌+◌, ◌≤◌, length, slice_get, slice_set, Some};
 ghost use Rattle.std.specs.List.{splice};
+ghost use Rattle.slot_space.specs.Limits.{slot_size};
 
 use raw_slots::SlotMem;
 
@@ -24,9 +25,9 @@ pub(super) fn set_slot_byte(block: &mut SlotMem, at: u16, byte: u8)
 /// Writes over the bytes from a place of the slot on.
 #[inline(always)]
 pub(super) fn set_slot_bytes(block: &mut SlotMem, at: usize, from: &[u8])
-    requires { at + length from.now ≤ 65536 }
+    requires { at + length from.now ≤ slot_size }
     ensures bytes { block.new ≡ splice block.old at (at + length from.now) from.now }
-    ensures len { length block.old ≡ 65536 }
+    ensures len { length block.old ≡ slot_size }
 {
     block.bytes_mut()[at..at + from.len()].copy_from_slice(from);
 }

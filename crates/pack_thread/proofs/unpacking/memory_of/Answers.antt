@@ -1,4 +1,5 @@
 use Rattle.std.proofs.Common.{◌≡◌, ◌+◌, ◌-◌, ◌*◌, ◌<◌, ◌∙◌, ap, length, take, drop, arith}
+use Rattle.slot_space.specs.Limits.{slot_size}
 use Rattle.pack_thread.proofs.Memories.{all_below, width_of, not_held, granted_last, granted_next, length-part}
 use Rattle.pack_thread.proofs.unpacking.memory_of.Goals as goal
 
@@ -17,9 +18,9 @@ loop-slot-preserved c =
     let bytes = c.args.bytes.now in
     let at = c.loop-slot.at in
     let place = c.loop-slot.invariant.place in
-    let width : at + 65536 - at ≡ 65536 = width_of at in
-    let part : c.fill.new.block ≡ take 65536 (drop (65536 * i) bytes) = c.fill.ensures ∙ ap (λ k. take k (drop at bytes)) width ∙ ap (λ k. take 65536 (drop k bytes)) place in
-    let len : length c.fill.new.block ≡ 65536 = ap length part ∙ length-part bytes i (length held) c.loop-slot-test.true c.requires.whole in
+    let width : at + slot_size - at ≡ slot_size = width_of at in
+    let part : c.fill.new.block ≡ take slot_size (drop (slot_size * i) bytes) = c.fill.ensures ∙ ap (λ k. take k (drop at bytes)) width ∙ ap (λ k. take slot_size (drop k bytes)) place in
+    let len : length c.fill.new.block ≡ slot_size = ap length part ∙ length-part bytes i (length held) c.loop-slot-test.true c.requires.whole in
     let some : 0 < c.loop-slot.pool = omega (arith, c.loop-slot.invariant.spare, c.loop-slot-test.true) in
     let taken = (c.in-Ok.ensures.spare some).1 in
     record {

@@ -1,4 +1,5 @@
 use Rattle.std.proofs.Common.{arith, ◌+◌, sym, ap, ◌∙◌, refl, length}
+use Rattle.slot_space.specs.Limits.{slot_size}
 use Rattle.iso_blocks.proofs.FreeBytes.{heap}
 use Rattle.iso_blocks.proofs.Edits.{length-join}
 use Rattle.iso_blocks.proofs.Lengths.{insert-same, length-insert}
@@ -27,6 +28,6 @@ returns-clause-kept c =
 pub returns-clause-added : goal.returns-clause-added
 returns-clause-added c =
     let new = sym c.contains.ensures.member ∙ c.if-contains.false in
-    let a = length-join c.base-start.result (c.base-start.result + 65536) c.args.self.now.holes.items in
+    let a = length-join c.base-start.result (c.base-start.result + slot_size) c.args.self.now.holes.items in
     let b = length-insert c.args.slot c.args.self.now.heap new in
     omega (arith, a, b, ap length c.release.ensures.items, ap length c.insert.ensures)
