@@ -1,14 +1,14 @@
 -- A turn of one of the nodes, in the list of all.
 use Rattle.std.proofs.Common.{◌≡◌, ℕ, zero, suc, ◌<◌, List, [], ◌∷◌, ◌++◌, length, map, set, get_or, Some, Ok, Err, true, refl, sym, ap, ◌∙◌, subst, arith}
 use Rattle.std.specs.Prelude.{slice_get, Result, OnErr}
-use Rattle.std.proofs.lemmas.Option.{slice_get_within}
+use Rattle.std.proofs.lemmas.Option.{slice_get_within, same_Some}
 use Rattle.run_trace.specs.declared.entry.Act.{Act}
 use Rattle.run_trace.specs.declared.entry.Act.TheVariants.{Boot, Run, Take, Move}
 use Rattle.run_trace.specs.declared.packet.Packet.{Packet}
 use Rattle.run_trace.specs.Program.{Program}
 use Rattle.wires.specs.declared.ends.Ends.{Ends}
 use Rattle.wires.specs.Wires.{AreWired, StaysWired}
-use Rattle.wires.proofs.Gets.{by_eq, same_some, some_at, get_set_same, get_set_other}
+use Rattle.basics.proofs.Laws.{by_eq, some_at, get_set_same, get_set_other}
 use Rattle.node_loop.specs.View.{NodeView, raised}
 use Rattle.node_loop.specs.Turns.{IsInRange, IsLost, Turns, entry_limit}
 use Rattle.node_loop.specs.declared.node.Turned.{Turned}
@@ -68,12 +68,12 @@ module _ (clock at : ℕ) (vs : List NodeView) (v new : NodeView) (here : slice_
   pub at_place : (n : ℕ) (u : NodeView) → slice_get (raised_but clock at new vs) n ≡ Some u → AtPlace n u
   at_place n u g = by_eq n at
       (λ e.
-      let ue : new ≡ u = same_some new u (sym (get_set_same (map (raised clock) vs) at new within) ∙ subst (λ k. slice_get (raised_but clock at new vs) k ≡ Some u) e g) in
+      let ue : new ≡ u = same_Some new u (sym (get_set_same (map (raised clock) vs) at new within) ∙ subst (λ k. slice_get (raised_but clock at new vs) k ≡ Some u) e g) in
       (v, ap (slice_get vs) e ∙ here, ap (λ (z : NodeView). z.me) (sym ue) ∙ keeps.me, ap (λ (z : NodeView). z.program) (sym ue) ∙ keeps.program))
       (λ ne.
       let gn : slice_get (map (raised clock) vs) n ≡ Some u = sym (get_set_other (map (raised clock) vs) n at new ne) ∙ g in
       let o = some_at vs n (omega (arith, raised_length clock vs, slice_get_within (map (raised clock) vs) n u gn)) in
-      let ue : raised clock o.0 ≡ u = same_some (raised clock o.0) u (sym (get_raised clock vs n o.0 o.1) ∙ gn) in
+      let ue : raised clock o.0 ≡ u = same_Some (raised clock o.0) u (sym (get_raised clock vs n o.0 o.1) ∙ gn) in
       (o.0, o.1, ap (λ (z : NodeView). z.me) (sym ue), ap (λ (z : NodeView). z.program) (sym ue)))
 
   pub mid_numbered : AreNumbered vs → AreNumbered (raised_but clock at new vs)

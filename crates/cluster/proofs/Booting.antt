@@ -2,7 +2,7 @@
 use Rattle.std.proofs.Common.{◌≡◌, ℕ, zero, suc, ◌<◌, ◌≤◌, ◌%◌, max, List, [], ◌∷◌, ◌++◌, length, reverse, map, drop, Option, Some, None, Bool, true, false, cond, eqb, refl, sym, ap, ◌∙◌, subst, arith, append-nil, length-drop}
 use Rattle.std.specs.Prelude.{slice_get}
 use Rattle.std.proofs.lemmas.Bool.{eq-eqb, ne_eqb}
-use Rattle.std.proofs.lemmas.Option.{slice_get_past, slice_get_within}
+use Rattle.std.proofs.lemmas.Option.{slice_get_past, slice_get_within, same_Some}
 use Rattle.run_trace.specs.declared.entry.Act.TheVariants.{Boot}
 use Rattle.run_trace.specs.declared.entry.Entry.{Entry}
 use Rattle.run_trace.specs.declared.label.Label.{Label}
@@ -18,15 +18,13 @@ use Rattle.run_trace.specs.Program.{Program, nodes_of, quantum_limit}
 use Rattle.run_trace.specs.Spots.{at_first}
 use Rattle.run_trace.specs.Trace.{done_for, events_of, prints_or, sends_or}
 use Rattle.trace_laws.specs.Beginnings.{BeginsSo}
-use Rattle.trace_laws.proofs.Beginnings.{begins_so, beginnings_legal}
-use Rattle.trace_laws.proofs.Wholes.{starts, run_whole}
+use Rattle.trace_laws.proofs.Laws.{begins_so, beginnings_legal, starts, run_whole}
 use Rattle.wires.specs.declared.ends.Ends.{Ends}
 use Rattle.wires.specs.Ends.{of_link, sent_to, received_from, width}
 use Rattle.wires.specs.Link.{link_sent, link_received}
 use Rattle.wires.specs.Wires.{row_link, sent_on, received_on, AreWired, AreFreshFor, StaysWired}
-use Rattle.wires.proofs.Above.{all_stay_wired, sent_on-node, received_on-node}
-use Rattle.wires.proofs.Gets.{by_eq, by_less, same_some, some_at}
-use Rattle.wires.proofs.Rings.{stays_refl}
+use Rattle.wires.proofs.Laws.{all_stay_wired, sent_on-node, received_on-node, stays_refl}
+use Rattle.basics.proofs.Laws.{by_eq, by_less, some_at}
 use Rattle.node_loop.specs.View.{NodeView}
 use Rattle.cluster.specs.Between.{AllOf, AreNumbered, AreReady, HasBegun, HaveBegun, wires_in}
 use Rattle.cluster.specs.Standing.{StandsFor, AgreesWith, IsNodeOf, NoneLater, entries_at, net_after, turns_in}
@@ -184,10 +182,10 @@ module _ (p : Program) (wires : List (Ends Packet)) (wide : nodes_of p ≤ lengt
       (λ l.
       let v = some_at nodes i (omega (arith, l, many)) in
       let k = at i v.0 v.1 in
-      let ae : k.ends ≡ a = same_some k.ends a (sym k.was ∙ f) in
-      let be : v.0.ends ≡ b = same_some v.0.ends b (sym (wires-get nodes rest i v.0 v.1) ∙ g) in
+      let ae : k.ends ≡ a = same_Some k.ends a (sym k.was ∙ f) in
+      let be : v.0.ends ≡ b = same_Some v.0.ends b (sym (wires-get nodes rest i v.0 v.1) ∙ g) in
       subst (λ z. StaysWired z b) ae (subst (λ z. StaysWired k.ends z) be k.began.wired))
-      (λ past. subst (λ z. StaysWired a z) (same_some a b (sym f ∙ sym (back i past) ∙ g)) (stays_refl a))) w
+      (λ past. subst (λ z. StaysWired a z) (same_Some a b (sym f ∙ sym (back i past) ∙ g)) (stays_refl a))) w
 
   none_sent : AreFreshFor (length wires) wires → (i j : ℕ) → sent_on (wires_in nodes rest) i j ≡ []
   none_sent fr i j = by_less i (nodes_of p)

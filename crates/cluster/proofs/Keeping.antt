@@ -17,8 +17,7 @@ use Rattle.run_trace.specs.Legality.{Legal, Begins}
 use Rattle.run_trace.specs.Spots.{at_first}
 use Rattle.run_trace.specs.Trace.{IsRun, done_for, events_of, prints_or}
 use Rattle.trace_laws.specs.Gathers.{AllWithin}
-use Rattle.trace_laws.proofs.Determined.{fits_exactly}
-use Rattle.trace_laws.proofs.Wholes.{starts, run_whole}
+use Rattle.trace_laws.proofs.Laws.{fits_exactly, starts, run_whole, whole}
 use Rattle.wires.specs.Ends.{known_from}
 use Rattle.node_loop.specs.View.{NodeView, next_round, raised}
 use Rattle.node_loop.specs.Turns.{IsActInRange, TakesKnown, Does, can}
@@ -28,7 +27,6 @@ use Rattle.cluster.proofs.Clocks.{clock_within, clocks_low, next_not_below}
 use Rattle.cluster.proofs.Linking.{known_first}
 use Rattle.cluster.proofs.Runs.{above, later_front, links_within, higher}
 use Rattle.run_trace.specs.Links.{first_of}
-use Rattle.trace_laws.proofs.Legals.{whole}
 
 -- a packet that comes in time
 abbrev IsTimely : ℕ → Option Packet → Type 0

@@ -3,14 +3,14 @@ use Rattle.std.proofs.Common.{◌≡◌, ◌≢◌, ℕ, zero, suc, ◌+◌, ◌
 use Rattle.std.specs.Prelude.{◌||◌, filter, slice_get, not, ◌==◌}
 use Rattle.std.proofs.lemmas.Bool.{ne_eqb, eq-eqb}
 use Rattle.std.proofs.lemmas.List.{set-append_left, map-set}
-use Rattle.std.proofs.lemmas.Option.{slice_get_within}
+use Rattle.std.proofs.lemmas.Option.{slice_get_within, same_Some}
 use Rattle.slot_space.specs.Sets.{run}
 use Rattle.slot_space.specs.declared.names.Tid.{Tid}
 use Rattle.run_trace.specs.declared.entry.Act.{Act}
 use Rattle.run_trace.specs.declared.entry.Act.TheVariants.{Take, Move}
 use Rattle.run_trace.specs.declared.packet.Packet.{Packet}
 use Rattle.wires.specs.declared.ends.Ends.{Ends}
-use Rattle.wires.proofs.Gets.{by_eq, same_some, get_set_same, get_set_other, some_at}
+use Rattle.basics.proofs.Laws.{by_eq, get_set_same, get_set_other, some_at}
 use Rattle.node_loop.specs.View.{NodeView, raised, with_ends}
 use Rattle.node_loop.specs.Turns.{can}
 use Rattle.cluster.specs.Between.{knows_of, takes_from, moves_among, wires_in, KeepNodes}
@@ -122,7 +122,7 @@ wires-get (w ∷ ws) rest (suc i) v e = wires-get ws rest i v e
 -- ## Nothing but the ends has changed
 
 pub keeps_all : (vs : List NodeView) → KeepNodes vs vs
-keeps_all vs = record { count = refl; each = λ n v w h g. let same : v ≡ w = same_some v w (sym h ∙ g) in sym same ∙ ap (λ (z : NodeView). with_ends z.ends v) same }
+keeps_all vs = record { count = refl; each = λ n v w h g. let same : v ≡ w = same_Some v w (sym h ∙ g) in sym same ∙ ap (λ (z : NodeView). with_ends z.ends v) same }
 
 pub keeps_on : (us vs ws : List NodeView) → KeepNodes us vs → KeepNodes vs ws → KeepNodes us ws
 keeps_on us vs ws h k = record {
@@ -137,8 +137,8 @@ keeps_one vs i v w at e = record {
   count = length-set vs i w;
   each = λ n u x f g. by_eq n i
       (λ s.
-      let xe : w ≡ x = same_some w x (sym (get_set_same vs i w (slice_get_within vs i v at)) ∙ subst (λ k. slice_get (set vs i w) k ≡ Some x) s g) in
-      let ue : v ≡ u = same_some v u (sym at ∙ subst (λ k. slice_get vs k ≡ Some u) s f) in
+      let xe : w ≡ x = same_Some w x (sym (get_set_same vs i w (slice_get_within vs i v at)) ∙ subst (λ k. slice_get (set vs i w) k ≡ Some x) s g) in
+      let ue : v ≡ u = same_Some v u (sym at ∙ subst (λ k. slice_get vs k ≡ Some u) s f) in
       sym xe ∙ e ∙ ap (λ (z : NodeView). with_ends z.ends v) xe ∙ ap (with_ends x.ends) ue)
       (λ ne. (keeps_all vs).each n u x f (sym (get_set_other vs n i w ne) ∙ g));
 }

@@ -1,15 +1,14 @@
 -- A walk over the links of one node, after which they are settled.
 use Rattle.std.proofs.Common.{◌≡◌, ◌≢◌, ℕ, ◌+◌, ◌<◌, ◌≤◌, List, length, Some, refl, sym, ap, ◌∙◌, subst, arith}
-use Rattle.std.proofs.lemmas.Option.{slice_get_within}
+use Rattle.std.proofs.lemmas.Option.{slice_get_within, same_Some}
 use Rattle.run_trace.specs.declared.packet.Packet.{Packet}
 use Rattle.wires.specs.declared.ends.Ends.{Ends}
 use Rattle.wires.specs.declared.link.Link.{Link}
 use Rattle.wires.specs.Link.{IsSettled, BothBecome, OwnBecomes}
 use Rattle.wires.specs.Pairs.{PairChanged, SelfChanged}
 use Rattle.wires.specs.Wires.{link_at, known_on, AreWired, CarriedNoMore}
-use Rattle.wires.proofs.Gets.{by_eq, same_some, some_at}
-use Rattle.wires.proofs.Order.{prefix_trans}
-use Rattle.wires.proofs.Walk.{Going, going_on, pair_going, self_going, carried_no_more}
+use Rattle.basics.proofs.Laws.{by_eq, some_at, prefix_trans}
+use Rattle.wires.proofs.Laws.{Going, going_on, pair_going, self_going, carried_no_more}
 use Rattle.node_loop.specs.View.{NodeView}
 use Rattle.cluster.specs.Between.{AreNumbered, KeepNodes, SettlesAll, SettlesOf, wires_in}
 use Rattle.cluster.proofs.Lists.{keeps_all, keeps_on}
@@ -32,8 +31,8 @@ one_more : (n i : ℕ) (fs gs : List (Ends Packet)) (u v : Link Packet) → link
     → ((q : ℕ) → q ≢ i → link_at gs n q ≡ link_at fs n q) → ((q : ℕ) → q ≢ i → link_at gs q n ≡ link_at fs q n) → DoneBelow n i fs → DoneBelow n (i + 1) gs
 one_more n i fs gs u v ui vi there back from to d q x y l f g = by_eq q i
     (λ e.
-    let xe : u ≡ x = same_some u x (sym ui ∙ subst (λ k. link_at gs n k ≡ Some x) e f) in
-    let ye : v ≡ y = same_some v y (sym vi ∙ subst (λ k. link_at gs k n ≡ Some y) e g) in
+    let xe : u ≡ x = same_Some u x (sym ui ∙ subst (λ k. link_at gs n k ≡ Some x) e f) in
+    let ye : v ≡ y = same_Some v y (sym vi ∙ subst (λ k. link_at gs k n ≡ Some y) e g) in
     (subst (λ a. IsSettled a y) xe (subst (λ b. IsSettled u b) ye there), subst (λ b. IsSettled b x) ye (subst (λ a. IsSettled v a) xe back)))
     (λ ne. d q x y (omega (arith, l, ne)) (sym (from q ne) ∙ f) (sym (to q ne) ∙ g))
 

@@ -1,11 +1,11 @@
 -- Nodes begin one after another.
 use Rattle.std.proofs.Common.{◌≡◌, ℕ, zero, suc, ◌<◌, ◌≤◌, List, [], ◌∷◌, ◌++◌, length, drop, Some, refl, sym, ap, ◌∙◌, subst, arith, length-append}
 use Rattle.std.specs.Prelude.{slice_get}
-use Rattle.std.proofs.lemmas.Option.{slice_get_within}
+use Rattle.std.proofs.lemmas.Option.{slice_get_within, same_Some}
 use Rattle.run_trace.specs.Program.{Program}
 use Rattle.run_trace.specs.declared.packet.Packet.{Packet}
 use Rattle.wires.specs.declared.ends.Ends.{Ends}
-use Rattle.wires.proofs.Gets.{by_eq, same_some, get_last, get_before}
+use Rattle.basics.proofs.Laws.{by_eq, get_last, get_before}
 use Rattle.node_loop.specs.View.{NodeView}
 use Rattle.cluster.specs.Between.{HasBegun, HaveBegun}
 
@@ -30,8 +30,8 @@ one_begins p count es vs rest e v vs' n l more at b h =
     subst (λ us. HaveBegun p count (es ++ e ∷ []) us rest) (sym more) (record {
       begun = λ m f u g k. by_eq m (length vs)
           (λ s.
-          let fe : e ≡ f = same_some e f (sym (get_last es e) ∙ subst (λ i. slice_get (es ++ e ∷ []) i ≡ Some f) (s ∙ same) g) in
-          let ue : v ≡ u = same_some v u (sym (get_last vs v) ∙ subst (λ i. slice_get (vs ++ v ∷ []) i ≡ Some u) s k) in
+          let fe : e ≡ f = same_Some e f (sym (get_last es e) ∙ subst (λ i. slice_get (es ++ e ∷ []) i ≡ Some f) (s ∙ same) g) in
+          let ue : v ≡ u = same_Some v u (sym (get_last vs v) ∙ subst (λ i. slice_get (vs ++ v ∷ []) i ≡ Some u) s k) in
           subst (λ i. HasBegun p i f u) (at ∙ sym s) (subst (λ z. HasBegun p n z u) fe (subst (λ z. HasBegun p n e z) ue b)))
           (λ ne. h.begun m f u (sym (get_before es m e (λ s. ne (s ∙ sym same))) ∙ g) (sym (get_before vs m v ne) ∙ k));
       many = omega (arith, same, longer, grown, l);

@@ -2,14 +2,14 @@
 use Rattle.std.proofs.Common.{◌≡◌, ℕ, suc, ◌+◌, ◌-◌, ◌^◌, ◌<◌, ◌↔◌, List, ◌++◌, length, reverse, map, min, get_or, Some, Bool, true, false, refl, sym, ap, ◌∙◌, subst, arith, length-set}
 use Rattle.std.specs.Prelude.{slice_get}
 use Rattle.std.proofs.Math.Nat.{min-eq_left}
-use Rattle.std.proofs.lemmas.Option.{slice_get_past, slice_get_within}
+use Rattle.std.proofs.lemmas.Option.{slice_get_past, slice_get_within, same_Some}
 use Rattle.run_trace.specs.declared.entry.Act.{Act}
 use Rattle.run_trace.specs.declared.entry.Entry.{Entry}
 use Rattle.run_trace.specs.declared.packet.Packet.{Packet}
 use Rattle.run_trace.specs.Program.{Program, nodes_of}
 use Rattle.wires.specs.declared.ends.Ends.{Ends}
 use Rattle.wires.specs.Wires.{AreWired}
-use Rattle.wires.proofs.Gets.{by_eq, by_less, some_at, same_some, get_set_same, get_set_other}
+use Rattle.basics.proofs.Laws.{by_eq, by_less, some_at, get_set_same, get_set_other}
 use Rattle.node_loop.specs.View.{NodeView, raised}
 use Rattle.node_loop.specs.Turns.{IsActInRange, IsInRange, can, entry_limit}
 use Rattle.node_loop.specs.declared.node.Turned.{Turned}
@@ -76,7 +76,7 @@ failed c kept trace clock n nodes h = record {
     at : (m : ℕ) (v : NodeView) → slice_get c.nodes m ≡ Some v → entries_at (slice_get c.nodes m) ≡ entries_at (slice_get (raised_but clock n h.new c.nodes) m)
     at m v e = by_eq m n
         (λ k.
-        let same_node : h.node ≡ v = same_some h.node v (sym h.was ∙ subst (λ i. slice_get c.nodes i ≡ Some v) k e) in
+        let same_node : h.node ≡ v = same_Some h.node v (sym h.was ∙ subst (λ i. slice_get c.nodes i ≡ Some v) k e) in
         let there : slice_get (raised_but clock n h.new c.nodes) m ≡ Some h.new =
         ap (slice_get (raised_but clock n h.new c.nodes)) k ∙ get_set_same (map (raised clock) c.nodes) n h.new (omega (arith, long, slice_get_within c.nodes m v e, k)) in
         ap entries_at e ∙ ap (λ (z : NodeView). z.entries) (sym same_node) ∙ sym h.lost.entries ∙ sym (ap entries_at there))

@@ -4,8 +4,7 @@ use Rattle.std.proofs.lemmas.Bool.{true≢false, le-leb, lt-ltb, and_parts, not-
 use Rattle.slot_space.specs.Limits.{slots_end, slot_size, slot_limit}
 use Rattle.slot_space.specs.Sets.{has, insert, union, minus, run, IsSlotSet}
 use Rattle.slot_space.specs.Places.{slot_base, HoldsAddress}
-use Rattle.slot_space.proofs.Sets.{has-union}
-use Rattle.slot_space.proofs.Ascending.{ascending-insert, ascending-minus, below-insert, below-minus}
+use Rattle.slot_space.proofs.Laws.{has-union, ascending-insert, ascending-minus, below-insert, below-minus, length-insert, length-minus}
 use Rattle.iso_blocks.specs.declared.layout.Layout.{Layout}
 use Rattle.iso_blocks.specs.Bytes.{lies_in, in_slots, in_blocks, is_met}
 use Rattle.iso_blocks.specs.Heap.{IsBlock, with_block, without, Fits}
@@ -19,7 +18,7 @@ use Rattle.iso_blocks.proofs.FreeBytes.{is_free-with_block, is_free-without, is_
 use Rattle.std.specs.Prelude.{nat_lt, nat_le}
 use Rattle.iso_blocks.specs.Neighbours.{end_before, start_of, Owns}
 use Rattle.iso_blocks.proofs.Beside.{is_met-gone}
-use Rattle.iso_blocks.proofs.Lengths.{length-with_block, length-without, length-insert, length-minus}
+use Rattle.iso_blocks.proofs.Lengths.{length-with_block, length-without}
 
 -- bytes that fit lie in holes
 pub fits_free : (l : Layout) (size a : ℕ) → IsKept l → Fits (heap_of l) size a → AreFree l.holes.items a (a + size)

@@ -1,3 +1,4 @@
+pub mod Laws
 pub mod Fit
 pub mod Edits
 pub mod Parts

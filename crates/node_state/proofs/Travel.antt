@@ -4,8 +4,7 @@ use Rattle.std.specs.Prelude.{slice_index}
 use Rattle.std.proofs.lemmas.Bool.{eq-eqb}
 use Rattle.slot_space.specs.declared.names.Tid.{Tid}
 use Rattle.slot_space.specs.Sets.{has, insert, minus, IsSlotSet}
-use Rattle.slot_space.proofs.Ascending.{ascending-insert, ascending-minus, same_members}
-use Rattle.slot_space.proofs.Sets.{has-insert, has-minus}
+use Rattle.slot_space.proofs.Laws.{ascending-insert, ascending-minus, same_members, has-insert, has-minus, has-left_out, insert-left_out, proper-left_out, length-insert}
 use Rattle.iso_blocks.specs.Heap.{Heap, IsSound}
 use Rattle.rv_step.specs.declared.hart.Hart.{Hart}
 use Rattle.rv_step.specs.Memory.{slots_of}
@@ -13,8 +12,7 @@ use Rattle.rv_step.specs.Step.{state_of}
 use Rattle.lrpc.specs.declared.duty.Duty.TheVariants as duties
 use Rattle.pack_thread.specs.Rules.{KeepsRules}
 use Rattle.pack_thread.specs.Threads.{Thread as Packed, IsThread, IsTyped}
-use Rattle.pack_thread.proofs.Packable.{packable, rules_of_typed, stack_apart, stack_among, heap_proper}
-use Rattle.pack_thread.proofs.Limits.{length-insert}
+use Rattle.pack_thread.proofs.Laws.{packable, rules_of_typed}
 use Rattle.run_trace.specs.declared.node.Wait.{Wait}
 use Rattle.run_trace.specs.Guests.{packed, guest_slots, unpacked}
 use Rattle.node_state.specs.Views.{thread_of, IsOwn, CanTravel}
@@ -43,13 +41,13 @@ can_travel t priority stack hart slots blocks home regs proper sound own can =
       duty = tt;
       pc = can.pc;
       stack = proper.small stack own.stack;
-      heap = subst (λ xs. IsSlotSet xs) (sym own.heap) (heap_proper stack slots proper);
-      apart = ap (has stack) own.heap ∙ stack_apart stack slots;
+      heap = subst (λ xs. IsSlotSet xs) (sym own.heap) (proper-left_out stack slots proper);
+      apart = ap (has stack) own.heap ∙ has-left_out stack slots;
       sound = sound;
     }
 
     holds : slots_of hart.mem.0 ≡ insert stack blocks.slots
-    holds = own.held ∙ sym (ap (insert stack) own.heap ∙ stack_among stack slots proper.ascending own.stack)
+    holds = own.held ∙ sym (ap (insert stack) own.heap ∙ insert-left_out stack slots proper.ascending own.stack)
 
 -- a thread that has come holds its heap slots and its stack
 pub comes_own : (stack : ℕ) (hart : Hart) (blocks : Heap) (slots : List ℕ) (x : Packed) → IsThread x → IsTyped x → x.state ≡ state_of hart → x.stack ≡ stack → x.heap ≡ blocks

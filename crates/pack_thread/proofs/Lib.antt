@@ -1,3 +1,4 @@
+pub mod Laws
 pub mod FieldLaws
 pub mod Steps
 pub mod PlaceSteps

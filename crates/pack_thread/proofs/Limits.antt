@@ -3,10 +3,10 @@ use Rattle.std.proofs.Common.{◌≡◌, ℕ, ◌+◌, ◌*◌, ◌^◌, ◌<◌
 use Rattle.std.proofs.lemmas.Bool.{eq-eqb, ne_eqb, eqb-false, true≢false}
 use Rattle.slot_space.specs.Limits.{slots_end, slot_limit}
 use Rattle.slot_space.specs.Places.{slot_base}
-use Rattle.slot_space.proofs.Ascending.{ascending-insert, below-insert}
+use Rattle.slot_space.proofs.Laws.{ascending-insert, below-insert}
 use Rattle.slot_space.specs.Sets.{has, insert, IsAscending, AreBelow, IsSlotSet}
 use Rattle.iso_blocks.specs.Heap.{StandFrom}
-use Rattle.iso_blocks.proofs.KeptBy.{slots_within}
+use Rattle.iso_blocks.proofs.Laws.{slots_within}
 
 -- numbers that ascend from one on and stay below a limit are no more than there are
 count_between : (low limit : ℕ) (xs : List ℕ) → low ≤ limit → IsAscending xs → ((s : ℕ) → has s xs ≡ true → low ≤ s) → AreBelow limit xs → low + length xs ≤ limit
@@ -35,20 +35,6 @@ blocks_between low slots (b ∷ live) proper le stand =
 
 pub blocks_few : (slots : List ℕ) (live : List (ℕ × ℕ)) → IsSlotSet slots → StandFrom 0 slots live → length live < 2 ^ 32
 blocks_few slots live proper stand = let h = blocks_between 0 slots live proper (omega arith) stand in omega (arith, h)
-
--- the stack slot makes one slot more
-pub length-insert : (x : ℕ) (xs : List ℕ) → has x xs ≡ false → length (insert x xs) ≡ length xs + 1
-unfolding insert
-length-insert x [] out = refl
-length-insert x (y ∷ ys) out =
-    let other : eqb y x ≡ false = first (eqb y x) out in
-    let apart : eqb x y ≡ false = ne_eqb x y (λ e. eqb-false y x other (sym e)) in
-    let later = length-insert x ys (rw other at out) in
-    rw apart (elim (ltb x y) as (λ b. length (cond b (x ∷ y ∷ ys) (y ∷ insert x ys)) ≡ length (y ∷ ys) + 1) [ true ↦ omega arith | false ↦ omega (arith, later) ])
-  where
-    first : (b : Bool) → cond b true (has x ys) ≡ false → b ≡ false
-    first true e = absurd (true≢false e)
-    first false e = refl
 
 pub with_stack : (stack : ℕ) (heap : List ℕ) → stack < slot_limit → IsSlotSet heap → IsSlotSet (insert stack heap)
 with_stack stack heap small proper = record { ascending = ascending-insert stack heap proper.ascending; small = below-insert slot_limit stack heap small proper.small }

@@ -4,8 +4,7 @@ use Rattle.std.specs.Prelude.{slice_index}
 use Rattle.std.proofs.lemmas.Bool.{eqb-true}
 use Rattle.slot_space.specs.Limits.{slot_limit}
 use Rattle.slot_space.specs.Sets.{has, insert, minus, IsAscending, IsSlotSet}
-use Rattle.slot_space.proofs.Ascending.{ascending-insert, ascending-minus, below-minus, same_members}
-use Rattle.slot_space.proofs.Sets.{has-insert, has-minus}
+use Rattle.slot_space.proofs.Laws.{ascending-insert, ascending-minus, below-minus, same_members, has-insert, has-minus}
 use Rattle.rv_step.specs.Memory.{slots_of}
 use Rattle.pack_thread.specs.Rules.{KeepsRules}
 use Rattle.pack_thread.specs.Threads.{Thread, IsThread, IsTyped}
@@ -21,17 +20,3 @@ rules_of t regs is = keeps t regs is.rules
 
 pub rules_of_typed : (t : Thread) → IsThread t → IsTyped t → KeepsRules t
 rules_of_typed t is typed = rules_of t typed.regs is
-
--- ## The heap slots are the slots but the stack slot
-
--- the stack slot is none of the others
-pub stack_apart : (stack : ℕ) (slots : List ℕ) → has stack (minus slots (stack ∷ [])) ≡ false
-stack_apart stack slots = grind (arith, has-minus stack slots (stack ∷ []))
-
--- with it they are all again
-pub stack_among : (stack : ℕ) (slots : List ℕ) → IsAscending slots → has stack slots ≡ true → insert stack (minus slots (stack ∷ [])) ≡ slots
-stack_among stack slots asc is = same_members _ _ (ascending-insert stack (minus slots (stack ∷ [])) (ascending-minus slots (stack ∷ []) asc)) asc
-    (λ s. grind (arith, is, has-insert stack s (minus slots (stack ∷ [])), has-minus s slots (stack ∷ []), eqb-true stack s))
-
-pub heap_proper : (stack : ℕ) (slots : List ℕ) → IsSlotSet slots → IsSlotSet (minus slots (stack ∷ []))
-heap_proper stack slots proper = record { ascending = ascending-minus slots (stack ∷ []) proper.ascending; small = below-minus slot_limit slots (stack ∷ []) proper.small }

@@ -13,7 +13,8 @@ use Rattle.pack_thread.specs.Grammar.{thread_fields, duty_fields, register_field
 use Rattle.pack_thread.specs.Rules.{ServesNodes, KeepsRules}
 use Rattle.pack_thread.specs.Threads.{Thread, duty_numbers, block_numbers, heap_numbers, numbers_of}
 use Rattle.pack_thread.proofs.BlockRules.{run_all, all_run}
-use Rattle.pack_thread.proofs.Limits.{slots_few, with_stack, length-insert}
+use Rattle.pack_thread.proofs.Limits.{slots_few, with_stack}
+use Rattle.slot_space.proofs.Laws.{length-insert}
 
 -- ## Blocks
 

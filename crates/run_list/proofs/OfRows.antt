@@ -1,34 +1,23 @@
 -- The names of rows: as rows come and go.
 use Rattle.std.proofs.Common.{◌≡◌, ℕ, suc, length, true, false, Bool, List, [], ◌∷◌, ◌++◌, cond, refl, sym, ap, ◌∙◌, arith}
 use Rattle.std.specs.Cmp.{IsTotalOrder}
-use Rattle.std.specs.declared.cmp.Ordering.{Ordering}
-use Rattle.std.specs.declared.cmp.Ordering.TheVariants.{Less, Equal, Greater}
-use Rattle.std.specs.Ordering.{nat_cmp, ordering_then, is_eq}
-use Rattle.std.proofs.lemmas.Bool.{eqb-true}
+use Rattle.std.specs.declared.cmp.Ordering.TheVariants.{Equal}
+use Rattle.std.specs.Ordering.{nat_cmp, is_eq}
 use Rattle.std.proofs.lemmas.Cmp.{then_total, on_total, nat_cmp_total}
 use Rattle.slot_space.specs.declared.names.Tid.{Tid}
 use Rattle.run_trace.specs.declared.node.Row.{Row}
-use Rattle.run_trace.specs.Names.{tid, tid_cmp, is_tid}
+use Rattle.run_trace.specs.Names.{tid_cmp, is_tid}
 use Rattle.run_trace.specs.Places.{is_listed, without_row}
 use Rattle.run_list.specs.Names.{names_of}
 use Rattle.run_list.specs.Sorted.{put, without, holds, AreUp}
+use Rattle.run_trace.proofs.Laws.{is-true}
 use Rattle.run_list.proofs.Sorted.{put_put, up_put, holds_put, put_length, without_put}
 
 pub total : IsTotalOrder tid_cmp
 total = then_total (on_total (λ (t : Tid). t.home) nat_cmp_total) (on_total (λ (t : Tid). t.seq) nat_cmp_total)
 
-same_number : (a b : ℕ) → nat_cmp a b ≡ Equal → a ≡ b
-same_number a b h = let e : is_eq (nat_cmp a b) ≡ true = ap is_eq h in grind (arith, e, eqb-true a b)
-
-then_parts : (x y : Ordering) → ordering_then x y ≡ Equal → (x ≡ Equal) × (y ≡ Equal)
-then_parts Less y h = absurd (cc h)
-then_parts Equal y h = (refl, h)
-then_parts Greater y h = absurd (cc h)
-
 pub tied : (a b : Tid) → tid_cmp a b ≡ Equal → a ≡ b
-tied a b h =
-    let parts = then_parts (nat_cmp a.home b.home) (nat_cmp a.seq b.seq) h in
-    ap (λ (n : ℕ). tid n a.seq) (same_number a.home b.home parts.0) ∙ ap (λ (n : ℕ). tid b.home n) (same_number a.seq b.seq parts.1)
+tied a b h = is-true a b (ap is_eq h)
 
 pub names_up : (rows : List Row) → AreUp tid_cmp (names_of rows)
 names_up [] = tt

@@ -18,7 +18,8 @@ use Rattle.run_texts.specs.Parts.{Text, is_filled, is_number, lines_of, number_i
 use Rattle.run_texts.specs.Acts.{said_in, said_words, tid_in}
 use Rattle.run_texts.specs.Schedules.{acts_from, schedule_of}
 use Rattle.run_texts.specs.Written.{AreInRange, IsInRange, act_words, at_line, line_or_nothing, numbered, schedule_text}
-use Rattle.run_texts.proofs.Digits.{AreDigits, and_both, numerals}
+use Rattle.run_texts.proofs.Digits.{AreDigits, numerals}
+use Rattle.std.proofs.lemmas.Bool.{and_parts}
 use Rattle.run_texts.proofs.Words.{AreWords, IsWord, apart-append, decimal_digits, digits_apart, is_apart, no_carriage_return, no_newline, not_here, nothing_stripped, part_behind, words_again}
 
 -- ---- numbers
@@ -59,7 +60,7 @@ is_dot b = eqb b 46
 place_behind : (w rest : Text) → is_apart 46 w ≡ true → position_or_len is_dot (w ++ 46 ∷ rest) ≡ length w
 place_behind [] rest h = refl
 place_behind (b ∷ w) rest h =
-    let p = and_both (not (eqb b 46)) (is_apart 46 w) h in
+    let p = and_parts (not (eqb b 46)) (is_apart 46 w) h in
     let more = place_behind w rest p.1 in
     rw (not_here b 46 p.0, more) (omega arith)
 

@@ -3,6 +3,7 @@ use Rattle.std.proofs.Common.{◌≡◌, ℕ, ◌+◌, ◌-◌, ◌*◌, ◌<◌
 use Rattle.std.specs.List.{list_all}
 use Rattle.std.specs.Int.{IsInRange}
 use Rattle.std.specs.Str.Parse.{digits_value}
+use Rattle.std.proofs.lemmas.Bool.{and_parts}
 use Rattle.std.proofs.lemmas.Bool.Decides.{nat_tests}
 use Rattle.std.proofs.lemmas.Str.Parse.{IsDigitsTest, IsNumeralModel, digits_value_short, numerals_by_value}
 use Rattle.std.proofs.lemmas.Int.Digits.{digits_value_more}
@@ -15,10 +16,6 @@ digit_is b h = grind (arith, nat_tests)
 is_one : (b : ℕ) → IsInRange 48 57 b → is_digit b ≡ true
 is_one b h = let low : 48 ≤ b = h.0 in let high : b ≤ 57 = h.1 in grind (arith, nat_tests)
 
-pub and_both : (a b : Bool) → (a && b) ≡ true → (a ≡ true) × (b ≡ true)
-and_both true b h = (refl, h)
-and_both false b h = cc
-
 pub both_and : (a b : Bool) → a ≡ true → b ≡ true → (a && b) ≡ true
 both_and a b ea eb = cc
 
@@ -28,7 +25,7 @@ AreDigits text = list_all is_digit text ≡ true
 digits_told : IsDigitsTest AreDigits
 digits_told = record {
   empty = refl;
-  parts = λ c cs h. let p = and_both (is_digit c) (list_all is_digit cs) h in (digit_is c p.0, p.1);
+  parts = λ c cs h. let p = and_parts (is_digit c) (list_all is_digit cs) h in (digit_is c p.0, p.1);
   more = λ c cs one h. both_and (is_digit c) (list_all is_digit cs) (is_one c one) h;
 }
 
@@ -38,7 +35,7 @@ numerals = numerals_by_value AreDigits digits_told
 first_digits : (text : Text) (i : ℕ) → AreDigits text → AreDigits (take i text)
 first_digits text zero h = refl
 first_digits [] (suc i) h = refl
-first_digits (b ∷ bs) (suc i) h = let p = and_both (is_digit b) (list_all is_digit bs) h in both_and (is_digit b) (list_all is_digit (take i bs)) p.0 (first_digits bs i p.1)
+first_digits (b ∷ bs) (suc i) h = let p = and_parts (is_digit b) (list_all is_digit bs) h in both_and (is_digit b) (list_all is_digit (take i bs)) p.0 (first_digits bs i p.1)
 
 -- the digits before the tenth one write less than 10^9
 pub value_before : (text : Text) (i : ℕ) → AreDigits text → length text ≤ 10 → i < length text → digits_value 10 (take i text) < 1000000000
@@ -46,8 +43,8 @@ value_before text i h few less = digits_value_short numerals (take i text) 9 (fi
 
 digit_at : (text : Text) (i : ℕ) → AreDigits text → i < length text → IsInRange 48 57 (get_or text i 0)
 digit_at [] i h less = absurd (omega arith)
-digit_at (b ∷ bs) zero h less = digit_is b (and_both (is_digit b) (list_all is_digit bs) h).0
-digit_at (b ∷ bs) (suc i) h less = digit_at bs i (and_both (is_digit b) (list_all is_digit bs) h).1 (omega arith)
+digit_at (b ∷ bs) zero h less = digit_is b (and_parts (is_digit b) (list_all is_digit bs) h).0
+digit_at (b ∷ bs) (suc i) h less = digit_at bs i (and_parts (is_digit b) (list_all is_digit bs) h).1 (omega arith)
 
 -- one digit more
 pub value_more : (text : Text) (i : ℕ) → AreDigits text → i < length text → digits_value 10 (take i text) * 10 + (get_or text i 0 - 48) ≡ digits_value 10 (take (i + 1) text)

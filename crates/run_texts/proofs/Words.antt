@@ -7,7 +7,8 @@ use Rattle.std.proofs.lemmas.Bool.Decides.{nat_tests}
 use Rattle.std.proofs.lemmas.Fmt.{digits_decimal}
 use Rattle.trace_text.specs.Lines.{spaced, words_text}
 use Rattle.run_texts.specs.Parts.{Text, is_digit, is_filled, onto, parts_of, words_of}
-use Rattle.run_texts.proofs.Digits.{AreDigits, and_both, both_and, numerals}
+use Rattle.run_texts.proofs.Digits.{AreDigits, both_and, numerals}
+use Rattle.std.proofs.lemmas.Bool.{and_parts}
 
 -- no byte of a text is this one
 abbrev pub is_apart : ℕ → Text → Bool
@@ -23,7 +24,7 @@ not_here b c h = by_test (eqb b c) h
 pub apart-append : (c : ℕ) (xs ys : Text) → is_apart c xs ≡ true → is_apart c ys ≡ true → is_apart c (xs ++ ys) ≡ true
 apart-append c [] ys hx hy = hy
 apart-append c (x ∷ xs) ys hx hy =
-    let p = and_both (not (eqb x c)) (is_apart c xs) hx in
+    let p = and_parts (not (eqb x c)) (is_apart c xs) hx in
     both_and (not (eqb x c)) (is_apart c (xs ++ ys)) p.0 (apart-append c xs ys p.1 hy)
 
 -- ---- parts
@@ -31,13 +32,13 @@ apart-append c (x ∷ xs) ys hx hy =
 pub part_behind : (c : ℕ) (w rest : Text) → is_apart c w ≡ true → parts_of c (w ++ c ∷ rest) ≡ w ∷ parts_of c rest
 part_behind c [] rest h = let same : eqb c c ≡ true = grind (arith, nat_tests) in rw same refl
 part_behind c (b ∷ w) rest h =
-    let p = and_both (not (eqb b c)) (is_apart c w) h in
+    let p = and_parts (not (eqb b c)) (is_apart c w) h in
     rw (not_here b c p.0) (ap (onto b) (part_behind c w rest p.1))
 
 pub part_alone : (c b : ℕ) (w : Text) → is_apart c (b ∷ w) ≡ true → parts_of c (b ∷ w) ≡ (b ∷ w) ∷ []
-part_alone c b [] h = rw (not_here b c (and_both (not (eqb b c)) true h).0) refl
+part_alone c b [] h = rw (not_here b c (and_parts (not (eqb b c)) true h).0) refl
 part_alone c b (d ∷ w) h =
-    let p = and_both (not (eqb b c)) (is_apart c (d ∷ w)) h in
+    let p = and_parts (not (eqb b c)) (is_apart c (d ∷ w)) h in
     rw (not_here b c p.0) (ap (onto b) (part_alone c d w p.1))
 
 -- ---- words
@@ -80,8 +81,8 @@ no_carriage_return w ws h hs = apart-append 13 w (spaced ws) h.carriage_return (
 
 index_apart : (text : Text) (i : ℕ) → is_apart 13 text ≡ true → eqb (slice_index text i) 13 ≡ false
 index_apart [] i h = refl
-index_apart (b ∷ bs) zero h = not_here b 13 (and_both (not (eqb b 13)) (is_apart 13 bs) h).0
-index_apart (b ∷ bs) (suc i) h = index_apart bs i (and_both (not (eqb b 13)) (is_apart 13 bs) h).1
+index_apart (b ∷ bs) zero h = not_here b 13 (and_parts (not (eqb b 13)) (is_apart 13 bs) h).0
+index_apart (b ∷ bs) (suc i) h = index_apart bs i (and_parts (not (eqb b 13)) (is_apart 13 bs) h).1
 
 pub nothing_stripped : (text : Text) → is_apart 13 text ≡ true → strip_carriage_return text ≡ text
 nothing_stripped text h = rw (index_apart text (length text - 1) h) refl
@@ -98,7 +99,7 @@ digit_apart c b hc hb = by_test (eqb b c) refl
 pub digits_apart : (c : ℕ) (text : Text) → is_digit c ≡ false → AreDigits text → is_apart c text ≡ true
 digits_apart c [] other h = refl
 digits_apart c (b ∷ bs) other h =
-    let p = and_both (is_digit b) (list_all is_digit bs) h in
+    let p = and_parts (is_digit b) (list_all is_digit bs) h in
     both_and (not (eqb b c)) (is_apart c bs) (digit_apart c b other p.0) (digits_apart c bs other p.1)
 
 pub decimal_digits : (n : ℕ) → n < 2 ^ 64 → AreDigits (decimal n)

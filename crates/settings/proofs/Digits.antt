@@ -4,6 +4,7 @@ use Rattle.std.specs.Prelude.{if◌then◌else◌}
 use Rattle.std.specs.List.{list_all}
 use Rattle.std.specs.Char.{digit_value}
 use Rattle.std.specs.Str.Parse.{AllDigits, IsNumeral, digits_value, without_leading_plus}
+use Rattle.std.proofs.lemmas.Bool.{and_parts}
 use Rattle.std.proofs.lemmas.Bool.Decides.{nat_tests}
 use Rattle.settings.specs.Numbers.{is_digit, is_number, number_of, within}
 
@@ -13,17 +14,13 @@ digit_is b h = grind (arith, nat_tests)
 small : (b : ℕ) → is_digit b ≡ true → digit_value b < 10
 small b h = let d = digit_is b h in let low : 48 ≤ b = d.0 in let high : b ≤ 57 = d.1 in grind (arith, nat_tests)
 
-and_both : (a b : Bool) → (a && b) ≡ true → (a ≡ true) × (b ≡ true)
-and_both true b h = (refl, h)
-and_both false b h = cc
-
 digits : (text : List ℕ) → list_all is_digit text ≡ true → AllDigits 10 text
 digits [] h = tt
-digits (b ∷ bs) h = let p = and_both (is_digit b) (list_all is_digit bs) h in (small b p.0, digits bs p.1)
+digits (b ∷ bs) h = let p = and_parts (is_digit b) (list_all is_digit bs) h in (small b p.0, digits bs p.1)
 
 no_plus : (text : List ℕ) → list_all is_digit text ≡ true → without_leading_plus text ≡ text
 no_plus [] h = refl
-no_plus (b ∷ bs) h = let d = digit_is b (and_both (is_digit b) (list_all is_digit bs) h).0 in let low : 48 ≤ b = d.0 in let e : (b == 43) ≡ false = grind (arith, nat_tests) in rw e refl
+no_plus (b ∷ bs) h = let d = digit_is b (and_parts (is_digit b) (list_all is_digit bs) h).0 in let low : 48 ≤ b = d.0 in let e : (b == 43) ≡ false = grind (arith, nat_tests) in rw e refl
 
 past : (low high n : ℕ) → high < n → within low high n ≡ None
 past low high n h = grind (arith, nat_tests)

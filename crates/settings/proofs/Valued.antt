@@ -5,8 +5,8 @@ use Rattle.std.specs.Str.{bytes_eq}
 use Rattle.std.specs.List.{list_all, list_any}
 use Rattle.std.proofs.lemmas.List.Elements.{All-cons, All-nil}
 use Rattle.words.specs.Words.{Form, GrammarOf, Item, Text, end, file, form_of, has, is_clean, is_name, items_from, items_of, long, long_items, plain, value_items, values, with_item, word_items}
-use Rattle.words.proofs.Rules.{same_text}
-use Rattle.words.proofs.Walks.{and_both}
+use Rattle.words.proofs.Laws.{same_text}
+use Rattle.std.proofs.lemmas.Bool.{and_parts}
 use Rattle.settings.specs.declared.verb.Verb.{Verb}
 use Rattle.settings.specs.declared.verb.Verb.TheVariants as verb
 use Rattle.settings.specs.declared.command.Command.{Command}
@@ -27,11 +27,11 @@ no_value name (b ∷ bs) h = at_byte (b == 45) refl
 no_values : (name : Text) (words : List Text) → list_all is_name (values file (map (λ w. (file, w)) words)) ≡ true → list_any (gives_value name) words ≡ false
 no_values name [] h = refl
 no_values name (w ∷ ws) h =
-    let both = and_both (is_name w) (list_all is_name (values file (map (λ v. (file, v)) ws))) h in
+    let both = and_parts (is_name w) (list_all is_name (values file (map (λ v. (file, v)) ws))) h in
     rw (no_value name w both.0) (no_values name ws both.1)
 
 later_names : (p : Item) (items : List Item) (b : Bool) → bytes_eq p.0 file ≡ b → list_all is_name (values file (p ∷ items)) ≡ true → list_all is_name (values file items) ≡ true
-later_names p items true e h = (and_both (is_name p.1) (list_all is_name (values file items)) (rw e at h)).1
+later_names p items true e h = (and_parts (is_name p.1) (list_all is_name (values file items)) (rw e at h)).1
 later_names p items false e h = rw e at h
 
 other_name : (names : List Text) (n name : Text) → has n names ≡ true → has name names ≡ false → (b : Bool) → bytes_eq n name ≡ b → bytes_eq n name ≡ false

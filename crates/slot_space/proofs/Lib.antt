@@ -1,4 +1,6 @@
+pub mod Laws
 pub mod Ascending
+pub mod Lengths
 mod Ones
 pub mod Runs
 mod Search

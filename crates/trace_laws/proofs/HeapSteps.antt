@@ -3,8 +3,7 @@ use Rattle.std.proofs.Common.{◌≡◌, ℕ, ◌<◌, List, [], ◌∷◌, Opti
 use Rattle.std.proofs.lemmas.Bool.{eq-eqb}
 use Rattle.slot_space.specs.Sets.{has, minus, run}
 use Rattle.slot_space.specs.declared.names.Tid.{Tid}
-use Rattle.slot_space.proofs.Runs.{lowest_run-found, lowest_run-same}
-use Rattle.slot_space.proofs.Sets.{has-minus}
+use Rattle.slot_space.proofs.Laws.{lowest_run-found, lowest_run-same, has-minus}
 use Rattle.iso_blocks.specs.Heap.{rounded, place, emptied}
 use Rattle.run_trace.specs.declared.label.Label.TheVariants.{Took, Gave}
 use Rattle.run_trace.specs.declared.node.Wait.TheVariants as wait
@@ -23,13 +22,12 @@ use Rattle.run_trace.specs.Cluster.{Net}
 use Rattle.run_trace.specs.Spots.{Stage, Served, On, Spot, Spots, Of_node, Of_thread, update, gave_life}
 use Rattle.run_trace.specs.Rules.{Occasion, is_free, lowest_free, MayGive}
 use Rattle.run_trace.specs.Stands.{Busy, busy, busy_name, busy_part, thread_part, row_part, listed, listed_name, held, slots_held, IsWellHeld, is_thread}
-use Rattle.trace_laws.proofs.Tids.{is-true, is-refl}
+use Rattle.run_trace.proofs.Laws.{is-true, is-refl, has_gives, has_takes}
 use Rattle.trace_laws.proofs.KeyedLemmas.{kept, map_set}
 use Rattle.run_trace.specs.World.{World, world_after}
 use Rattle.trace_laws.proofs.Midst.{Links, Midst, keeps, spots_with, Then, updated}
 use Rattle.trace_laws.proofs.Steps.{own_stays, Ties, in_hand, thread_was, row_was, busy_was, at_ok, settles_ok}
 use Rattle.trace_laws.proofs.Lifetimes.{slots_step, given, taken, gives_change, takes_change, thread_holds, lowest_held}
-use Rattle.run_trace.proofs.HeldSlots.{has_gives, has_takes}
 use Rattle.trace_laws.proofs.Heaps.{empty_held, gave_well, gave_all, placed_well, takes_well, has_place}
 use Rattle.run_trace.specs.Calls.{place_code}
 use Rattle.run_trace.specs.Items.{is_busy, Item}

@@ -20,13 +20,12 @@ use Rattle.run_trace.specs.Steps.{say, change_name, reply_by_link, hears, knows}
 use Rattle.run_trace.specs.Machine.{judges_join, tells_joiner}
 use Rattle.run_trace.specs.Cluster.{Net}
 use Rattle.run_trace.specs.Keyed.{StandsFor}
-use Rattle.run_trace.specs.Spots.{Stays, Asks, Awaits, Answers, Life, Unborn, On, Noting, Gone, Spot, Spots, update, at_node, heard_life, heard_at, joined_at, end_in, joiner_served}
+use Rattle.run_trace.specs.Spots.{Stays, Asks, Awaits, Answers, Life, Unborn, On, Noting, Gone, Spot, Spots, update, at_node, heard_life, heard_at, joined_at, end_in, joiner_served, after_label}
 use Rattle.run_trace.specs.Rules.{Occasion, JoinerAwaits}
 use Rattle.run_trace.specs.Stands.{way, Agrees, Busy, busy, busy_name, busy_part, thread_part, thread_in_life, row_part, row_in_life, listed, listed_name, Joins, Ended_word, ways_of, phase_of, phase_at, During, After, held, holding_of, slots_held, IsWellHeld, is_thread}
-use Rattle.trace_laws.proofs.Tids.{is-true, is-refl, is-false, is-other, is-flip, same_name}
+use Rattle.run_trace.proofs.Laws.{is-true, is-refl, is-false, is-other, is-flip, same_name}
 use Rattle.trace_laws.proofs.KeyedLemmas.{kept, fronted, map_kept}
 use Rattle.trace_laws.proofs.Births.{get-with, with-none}
-use Rattle.run_trace.specs.Spots.{after_label}
 use Rattle.run_trace.specs.World.{World}
 use Rattle.trace_laws.proofs.Midst.{Own, beside, Links, Midst, spots_with, labelled, here_kept, links_kept, take_link, nothing_sent, updated}
 use Rattle.trace_laws.proofs.Parts.{busy_none}

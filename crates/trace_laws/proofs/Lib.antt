@@ -1,8 +1,8 @@
+pub mod Laws
 pub mod Merge
 pub mod Determined
 pub mod Weave
 pub mod Bounded
-pub mod Tids
 pub mod KeyedLemmas
 pub mod Births
 pub mod Subjects

@@ -1,3 +1,4 @@
+pub mod Laws
 pub mod Again
 pub mod Digits
 pub mod LineFacts

@@ -1,21 +1,21 @@
 -- What a layer above reads from the clauses.
 use Rattle.std.proofs.Common.{inl, Option, Some, None, ◌≡◌, ◌≢◌, ℕ, zero, suc, ◌<◌, ◌≤◌, List, [], ◌∷◌, ◌++◌, length, set, refl, sym, ap, ◌∙◌, subst, arith}
 use Rattle.std.specs.Prelude.{slice_get}
-use Rattle.std.proofs.lemmas.Option.{slice_get_past, slice_get_within}
+use Rattle.std.proofs.lemmas.Option.{slice_get_past, slice_get_within, same_Some}
 use Rattle.rtrb.specs.Ring.{sent}
 use Rattle.wires.specs.declared.link.Link.{Link}
 use Rattle.wires.specs.declared.ends.Ends.{Ends}
 use Rattle.wires.specs.Link.{link_sent, link_received, link_known, link_waiting, SameLink}
 use Rattle.wires.specs.Ends.{link_of, of_link, sent_to, received_from, known_from, LinkChanged, AreFlushed, AreUnused}
 use Rattle.wires.specs.Wires.{row_link, link_at, sent_on, received_on, known_on, waiting_on, AreWired, StaysWired, AreInOrder, AreSettled, AreFreshFor}
-use Rattle.wires.proofs.Gets.{by_eq, by_less, same_some, some_at, get_set_same, get_set_other}
+use Rattle.basics.proofs.Laws.{by_eq, by_less, some_at, get_set_same, get_set_other}
 
 -- lists that have the same at each place are the same
 same_list : {A : Type 0} (xs ys : List A) → ((i : ℕ) → slice_get xs i ≡ slice_get ys i) → xs ≡ ys
 same_list [] [] h = refl
 same_list [] (y ∷ ys) h = let e : None ≡ Some y = h zero in cc
 same_list (x ∷ xs) [] h = let e : Some x ≡ None = h zero in cc
-same_list (x ∷ xs) (y ∷ ys) h = let e : x ≡ y = same_some x y (h zero) in ap (λ z. z ∷ xs) e ∙ ap (λ zs. y ∷ zs) (same_list xs ys (λ i. h (suc i)))
+same_list (x ∷ xs) (y ∷ ys) h = let e : x ≡ y = same_Some x y (h zero) in ap (λ z. z ∷ xs) e ∙ ap (λ zs. y ∷ zs) (same_list xs ys (λ i. h (suc i)))
 
 no_more : {A : Type 0} (xs ys : List A) → xs ++ ys ≡ [] → ys ≡ []
 no_more [] ys h = h

@@ -1,6 +1,6 @@
 -- Nodes are added one by one.
 use Rattle.std.proofs.Common.{◌≡◌, ◌≢◌, ℕ, ◌+◌, ◌<◌, Option, None, List, [], ◌∷◌, ◌++◌, length, set, refl, sym, ap, ◌∙◌, subst, arith, Some, length-append}
-use Rattle.std.proofs.lemmas.Option.{slice_get_within}
+use Rattle.std.proofs.lemmas.Option.{slice_get_within, same_Some}
 use Rattle.std.specs.Prelude.{slice_get}
 use Rattle.rtrb.specs.Ring.{IsPair}
 use Rattle.wires.specs.declared.link.Link.{Link}
@@ -10,7 +10,7 @@ use Rattle.wires.specs.Link.{link_sent, link_received, link_known}
 use Rattle.wires.specs.Wires.{link_at, AreWired, AreFreshFor}
 use Rattle.wires.specs.Built.{IsFresh, IsBuilt, Gains, Joined, JoinedBelow}
 use Rattle.wires.proofs.Pairs.{row_case}
-use Rattle.wires.proofs.Gets.{by_eq, by_less, same_some, get_set_same, get_set_other, get_last, get_before, some_at}
+use Rattle.basics.proofs.Laws.{by_eq, by_less, get_set_same, get_set_other, get_last, get_before, some_at}
 
 -- a relation holds along equations
 pub along : {A B : Type 0} (R : A → B → Type 0) (a a' : A) (b b' : B) → a' ≡ a → b' ≡ b → R a b → R a' b'
@@ -37,15 +37,15 @@ module _ {P : Type 0} where
             let p' : slice_get before k ≡ Some x = subst (λ j. slice_get before j ≡ Some x) e p in
             let q' : slice_get (set now k b) k ≡ Some y = subst (λ j. slice_get (set now k b) j ≡ Some y) e q in
             let r' : slice_get (mine ++ m ∷ []) k ≡ Some z = subst (λ j. slice_get (mine ++ m ∷ []) j ≡ Some z) e r in
-            let ax : a ≡ x = same_some a x (sym at ∙ h.rest k (omega arith) ∙ p') in
-            let by : b ≡ y = same_some b y (sym (get_set_same now k b within) ∙ q') in
-            let mz : m ≡ z = same_some m z (sym here ∙ r') in
+            let ax : a ≡ x = same_Some a x (sym at ∙ h.rest k (omega arith) ∙ p') in
+            let by : b ≡ y = same_Some b y (sym (get_set_same now k b within) ∙ q') in
+            let mz : m ≡ z = same_Some m z (sym here ∙ r') in
             subst (λ u. Joined u y z) ax (subst (λ u. Joined a u z) by (subst (λ u. Joined a b u) mz
             (record { link = l; gains = gains; there = there; back = back; fresh = fl }))))
             (λ ne. h.joined i x y z p (sym (get_set_other now i k b ne) ∙ q) (sym (get_before mine i m (λ e. ne (e ∙ long))) ∙ r));
         rest = λ i lt. get_set_other now i k b (λ e. absurd (omega arith)) ∙ h.rest i (omega arith);
         fresh = λ i z r. by_eq i k
-            (λ e. subst IsFresh (same_some m z (sym here ∙ subst (λ j. slice_get (mine ++ m ∷ []) j ≡ Some z) e r)) fm)
+            (λ e. subst IsFresh (same_Some m z (sym here ∙ subst (λ j. slice_get (mine ++ m ∷ []) j ≡ Some z) e r)) fm)
             (λ ne. h.fresh i z (sym (get_before mine i m (λ e. ne (e ∙ long))) ∙ r));
       }
 
@@ -65,7 +65,7 @@ module _ {P : Type 0} where
   built_more n before now mine e own h lb ln lm j node links paired fo =
       let es = now ++ e ∷ [] in
       let newest : (i : ℕ) (a : Ends P) → i ≡ n → slice_get es i ≡ Some a → e ≡ a
-      = λ i a q p. same_some e a (sym (get_last now e) ∙ subst (λ k. slice_get es k ≡ Some a) (q ∙ sym ln) p) in
+      = λ i a q p. same_Some e a (sym (get_last now e) ∙ subst (λ k. slice_get es k ≡ Some a) (q ∙ sym ln) p) in
       let older : (i : ℕ) (a : Ends P) → i ≢ n → slice_get es i ≡ Some a → Was n i before mine a
       = λ i a ne p.
       let at : slice_get now i ≡ Some a = sym (get_before now i e (λ q. ne (q ∙ ln))) ∙ p in
@@ -81,12 +81,12 @@ module _ {P : Type 0} where
       let new_link : (i : ℕ) (a : Ends P) (l : Link P) (w : Was n i before mine a) → slice_get a.links.items n ≡ Some l → w.joined.link ≡ l
       = λ i a l w p.
       let wide : length w.first.links.items ≡ n = omega (arith, h.wide i w.first w.was, w.first.links.ok.0) in
-      same_some w.joined.link l (sym (subst (λ k. slice_get (w.first.links.items ++ w.joined.link ∷ []) k ≡ Some w.joined.link) wide (get_last w.first.links.items w.joined.link))
+      same_Some w.joined.link l (sym (subst (λ k. slice_get (w.first.links.items ++ w.joined.link ∷ []) k ≡ Some w.joined.link) wide (get_last w.first.links.items w.joined.link))
       ∙ subst (λ xs. slice_get xs n ≡ Some l) w.joined.gains.links p) in
       let my_link : (i : ℕ) (l : Link P) → i ≢ n → slice_get e.links.items i ≡ Some l → slice_get mine i ≡ Some l
       = λ i l ne p. sym (get_before mine i own (λ q. ne (q ∙ lm))) ∙ subst (λ xs. slice_get xs i ≡ Some l) links p in
       let my_own : (l : Link P) → slice_get e.links.items n ≡ Some l → own ≡ l
-      = λ l p. same_some own l (sym (subst (λ k. slice_get (mine ++ own ∷ []) k ≡ Some own) lm (get_last mine own)) ∙ subst (λ xs. slice_get xs n ≡ Some l) links p) in
+      = λ l p. same_Some own l (sym (subst (λ k. slice_get (mine ++ own ∷ []) k ≡ Some own) lm (get_last mine own)) ∙ subst (λ xs. slice_get xs n ≡ Some l) links p) in
       record {
         node = λ i a p. by_eq i n (λ q. subst (λ u. node_of u ≡ i) (newest i a q p) (node ∙ sym q)) (λ ne. let w = older i a ne p in w.joined.gains.node ∙ h.node i w.first w.was);
         wide = λ i a p. by_eq i n
@@ -110,7 +110,7 @@ module _ {P : Type 0} where
             let w = older i a ne p in
             let rx : w.joined.link ≡ x = new_link i a x w (subst (λ z. link_of a z ≡ Some x) s r) in
             let ty : slice_get mine i ≡ Some y = my_link i y ne (subst (λ u. link_of u i ≡ Some y) (sym (newest k b s q)) t) in
-            let ry : w.its ≡ y = same_some w.its y (sym w.at ∙ ty) in
+            let ry : w.its ≡ y = same_Some w.its y (sym w.at ∙ ty) in
             subst (λ u. IsPair u.to y.from × IsPair y.to u.from) rx (subst (λ u. IsPair w.joined.link.to u.from × IsPair u.to w.joined.link.from) ry (w.joined.there, w.joined.back)))
             (λ nk.
             let ni : i ≢ n = λ s. absurd (omega (arith, (older k b nk q).below)) in
@@ -127,10 +127,10 @@ module _ {P : Type 0} where
     pair = λ i j x y r s. row_case es i j x r (λ a ai p. row_case es j i y s (λ b bj q.
         by_eq i j
         (λ e.
-        let ab : a ≡ b = same_some a b (sym ai ∙ subst (λ z. slice_get es z ≡ Some b) (sym e) bj) in
+        let ab : a ≡ b = same_Some a b (sym ai ∙ subst (λ z. slice_get es z ≡ Some b) (sym e) bj) in
         let q' : link_of a i ≡ Some y = subst (λ u. link_of u i ≡ Some y) (sym ab) q in
         let p' : link_of a i ≡ Some x = subst (λ z. link_of a z ≡ Some x) (sym e) p in
-        subst (λ u. IsPair x.to u.from) (same_some x y (sym p' ∙ q')) (h.own i a x ai p'))
+        subst (λ u. IsPair x.to u.from) (same_Some x y (sym p' ∙ q')) (h.own i a x ai p'))
         (λ ne. by_less i j
         (λ lt. (h.pairs i j a b x y lt ai bj p q).0)
         (λ le. (h.pairs j i b a y x (omega arith) bj ai q p).1))));

@@ -1,14 +1,14 @@
 -- One link of a node's changed.
 use Rattle.std.proofs.Common.{Some, ◌≡◌, ℕ, ◌<◌, ◌≤◌, length, set, get_or, sym, ap, ◌∙◌, subst, arith, vec_len, length-set}
 use Rattle.std.specs.Prelude.{slice_get}
-use Rattle.std.proofs.lemmas.Option.{slice_get_read}
+use Rattle.std.proofs.lemmas.Option.{slice_get_read, same_Some}
 use Rattle.rtrb.specs.Ring.{IsPair}
 use Rattle.wires.specs.declared.link.Link.{Link}
 use Rattle.wires.specs.declared.ends.Ends.{Ends}
 use Rattle.wires.specs.Link.{link_spare, SameRings}
 use Rattle.wires.specs.Ends.{node_of, width, link_of, count_of_link, spare_to, SameOthers, LinkChanged, ArePaired, BothChanged}
 use Rattle.wires.specs.Wires.{StaysWired}
-use Rattle.wires.proofs.Gets.{by_eq, same_some, get_set_same, get_set_other}
+use Rattle.basics.proofs.Laws.{by_eq, get_set_same, get_set_other}
 use Rattle.wires.proofs.Rings.{rings_refl, pair_kept, keeps_wired}
 
 module _ {P : Type 0} where
@@ -43,10 +43,10 @@ module _ {P : Type 0} where
     width = w.others.width;
     each = λ i x y p q. by_eq i k
         (λ e.
-        let xe : before ≡ x = same_some before x (sym w.was ∙ subst (λ j. link_of a j ≡ Some x) e p) in
-        let ye : after ≡ y = same_some after y (sym w.is ∙ subst (λ j. link_of b j ≡ Some y) e q) in
+        let xe : before ≡ x = same_Some before x (sym w.was ∙ subst (λ j. link_of a j ≡ Some x) e p) in
+        let ye : after ≡ y = same_Some after y (sym w.is ∙ subst (λ j. link_of b j ≡ Some y) e q) in
         subst (λ u. SameRings u y) xe (subst (λ u. SameRings before u) ye r))
-        (λ ne. subst (λ u. SameRings x u) (same_some x y (sym p ∙ (sym (w.others.links i ne) ∙ q))) (rings_refl x));
+        (λ ne. subst (λ u. SameRings x u) (same_Some x y (sym p ∙ (sym (w.others.links i ne) ∙ q))) (rings_refl x));
   })
 
   pub spare_at : (k n : ℕ) (a b : Ends P) (before after : Link P) → Wrote k a b before after → n ≤ link_spare after → n ≤ spare_to b k
@@ -75,8 +75,8 @@ module _ {P : Type 0} where
     there = omega (arith, h.there, v.others.width, w.others.node);
     here = omega (arith, h.here, w.others.width, v.others.node);
     rings = λ u z p q.
-        let ue : x' ≡ u = same_some x' u (sym v.is ∙ subst (λ j. link_of a' j ≡ Some u) w.others.node p) in
-        let ze : y' ≡ z = same_some y' z (sym w.is ∙ subst (λ j. link_of b' j ≡ Some z) v.others.node q) in
+        let ue : x' ≡ u = same_Some x' u (sym v.is ∙ subst (λ j. link_of a' j ≡ Some u) w.others.node p) in
+        let ze : y' ≡ z = same_Some y' z (sym w.is ∙ subst (λ j. link_of b' j ≡ Some z) v.others.node q) in
         let old = h.rings x y v.was w.was in
         subst (λ l. IsPair l.to z.from × IsPair z.to l.from) ue (subst (λ m. IsPair x'.to m.from × IsPair m.to x'.from) ze
         (pair_kept x y x' y' r s old.0, pair_kept y x y' x' s r old.1));

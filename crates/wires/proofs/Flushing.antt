@@ -1,11 +1,11 @@
 -- The links of a node are flushed one by one.
 use Rattle.std.proofs.Common.{Some, ◌≡◌, ℕ, ◌+◌, ◌<◌, ◌≤◌, refl, sym, ◌∙◌, subst, arith}
-use Rattle.std.proofs.lemmas.Option.{slice_get_within}
+use Rattle.std.proofs.lemmas.Option.{slice_get_within, same_Some}
 use Rattle.wires.specs.declared.link.Link.{Link}
 use Rattle.wires.specs.declared.ends.Ends.{Ends}
 use Rattle.wires.specs.Link.{HasFlushed}
 use Rattle.wires.specs.Ends.{node_of, width, link_of, LinkChanged, AreFlushed}
-use Rattle.wires.proofs.Gets.{by_eq, same_some}
+use Rattle.basics.proofs.Laws.{by_eq}
 
 module _ {P : Type 0} where
   -- the links below n were flushed, and the others are the same
@@ -24,8 +24,8 @@ module _ {P : Type 0} where
     width = l.others.width ∙ h.width;
     each = λ k x z lt p r. by_eq k n
         (λ e.
-        let xe : l.before ≡ x = same_some l.before x (sym l.was ∙ (h.rest n (omega arith) ∙ subst (λ j. link_of a j ≡ Some x) e p)) in
-        let ze : l.after ≡ z = same_some l.after z (sym l.is ∙ subst (λ j. link_of c j ≡ Some z) e r) in
+        let xe : l.before ≡ x = same_Some l.before x (sym l.was ∙ (h.rest n (omega arith) ∙ subst (λ j. link_of a j ≡ Some x) e p)) in
+        let ze : l.after ≡ z = same_Some l.after z (sym l.is ∙ subst (λ j. link_of c j ≡ Some z) e r) in
         subst (λ u. HasFlushed u z) xe (subst (λ u. HasFlushed l.before u) ze l.changed))
         (λ ne. h.each k x z (omega arith) p (sym (l.others.links k ne) ∙ r));
     rest = λ k ge. l.others.links k (λ e. absurd (omega arith)) ∙ h.rest k (omega arith);

@@ -1,4 +1,4 @@
-pub mod Gets
+pub mod Laws
 pub mod Order
 pub mod Rings
 pub mod Changed

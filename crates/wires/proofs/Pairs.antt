@@ -2,39 +2,20 @@
 use Rattle.std.proofs.Common.{Some, None, ◌≡◌, ℕ, ◌-◌, ◌<◌, List, ◌++◌, length, set, get_or, refl, sym, ap, ◌∙◌, subst, arith, length-append, length-set}
 use Rattle.std.specs.Prelude.{slice_get}
 use Rattle.std.proofs.lemmas.List.{set-append_left, set-append_right, get_or_append_left, get_or-append_right}
-use Rattle.std.proofs.lemmas.Option.{slice_get_within, slice_get-get_or, slice_get_past}
+use Rattle.std.proofs.lemmas.Option.{slice_get_within, slice_get_past, none-some}
 use Rattle.wires.specs.declared.link.Link.{Link}
 use Rattle.wires.specs.declared.ends.Ends.{Ends}
 use Rattle.wires.specs.Ends.{node_of, link_of, SameOthers, LinkChanged, BothChanged, ArePaired}
 use Rattle.wires.specs.Wires.{row_link, link_at, AreWired, StaysWired}
 use Rattle.wires.specs.Pairs.{PairChanged, SelfChanged}
-use Rattle.wires.proofs.Gets.{by_eq, by_less, some_at, get_set_same, get_set_other}
-
--- two elements of a list, written through its two parts
-pub set_two : {A : Type 0} (xs f b : List A) (i j : ℕ) (u v : A) → xs ≡ f ++ b → length f ≡ j → i < j → set f i u ++ set b 0 v ≡ set (set xs i u) j v
-set_two xs f b i j u v e n h =
-    let l : i < length f = omega arith in
-    let z : j - j ≡ 0 = omega arith in
-    rw (e, set-append_left f b i u l, set-append_right (set f i u) b j j v (length-set f i u ∙ n) (omega arith), z) refl
-
-pub get_front : {A : Type 0} (xs f b : List A) (i : ℕ) (d : A) → xs ≡ f ++ b → i < length f → slice_get xs i ≡ Some (get_or f i d)
-get_front xs f b i d e h = subst (λ ys. slice_get ys i ≡ Some (get_or f i d)) (sym e)
-    (slice_get-get_or (f ++ b) i d (omega (arith, length-append f b)) ∙ ap Some (get_or_append_left f b d i h))
-
-pub get_back : {A : Type 0} (xs f b : List A) (j : ℕ) (d : A) → xs ≡ f ++ b → length f ≡ j → j < length xs → slice_get xs j ≡ Some (get_or b 0 d)
-get_back xs f b j d e n h =
-    let z : j - j ≡ 0 = omega arith in
-    slice_get-get_or xs j d h ∙ ap Some (ap (λ ys. get_or ys j d) e ∙ get_or-append_right f b j j d n (omega arith) ∙ ap (λ k. get_or b k d) z)
-
-no_some : {A : Type 0} (x : A) → None ≡ Some x → ⊥
-no_some x e = cc
+use Rattle.basics.proofs.Laws.{by_eq, by_less, some_at, get_set_same, get_set_other}
 
 module _ {P : Type 0} where
   -- a link that is there is one of a node that is there
   pub row_case : {X : Type 0} (es : List (Ends P)) (i j : ℕ) (x : Link P) → link_at es i j ≡ Some x → ((a : Ends P) → slice_get es i ≡ Some a → link_of a j ≡ Some x → X) → X
   row_case es i j x r k = by_less i (length es)
       (λ lt. let m = some_at es i lt in k m.0 m.1 (sym (ap (λ o. row_link o j) m.1) ∙ r))
-      (λ ge. let none : row_link None j ≡ Some x = sym (ap (λ o. row_link o j) (slice_get_past es i ge)) ∙ r in absurd (no_some x none))
+      (λ ge. let none : row_link None j ≡ Some x = sym (ap (λ o. row_link o j) (slice_get_past es i ge)) ∙ r in absurd (none-some x none))
 
   -- the links of the node that became b
   row_here : (es : List (Ends P)) (i k : ℕ) (a b : Ends P) → slice_get es i ≡ Some a → link_at (set es i b) i k ≡ link_of b k

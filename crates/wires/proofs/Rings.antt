@@ -1,14 +1,15 @@
 -- A node that keeps its rings stays wired.
 use Rattle.std.proofs.Common.{Option, Some, ◌≡◌, ℕ, List, length, set, refl, sym, ap, ◌∙◌, subst, arith, length-set}
 use Rattle.std.specs.Prelude.{slice_get}
-use Rattle.std.proofs.lemmas.Option.{slice_get_within}
+use Rattle.std.proofs.lemmas.Option.{slice_get_within, same_Some}
 use Rattle.rtrb.specs.Ring.{IsPair}
 use Rattle.wires.specs.declared.link.Link.{Link}
 use Rattle.wires.specs.declared.ends.Ends.{Ends}
 use Rattle.wires.specs.Link.{SameRings}
 use Rattle.wires.specs.Ends.{node_of, width, link_of}
 use Rattle.wires.specs.Wires.{row_link, link_at, AreWired, StaysWired}
-use Rattle.wires.proofs.Gets.{by_eq, same_some, some_at, get_set_same, get_set_other, set_set, set_get}
+use Rattle.basics.proofs.Laws.{by_eq, some_at, get_set_same, get_set_other, set_get}
+use Rattle.std.proofs.lemmas.List.{set-set}
 
 module _ {P : Type 0} where
   pub rings_refl : (a : Link P) → SameRings a a
@@ -49,12 +50,12 @@ module _ {P : Type 0} where
         record {
           node = λ j c p. by_eq j i
               (λ e.
-              let be : b ≡ c = same_some b c (sym now ∙ subst (λ k. slice_get (set es i b) k ≡ Some c) e p) in
+              let be : b ≡ c = same_Some b c (sym now ∙ subst (λ k. slice_get (set es i b) k ≡ Some c) e p) in
               subst (λ u. node_of u ≡ j) be (h.node ∙ (w.node i a at ∙ sym e)))
               (λ ne. w.node j c (sym (get_set_other es j i b ne) ∙ p));
           wide = λ j c p. by_eq j i
               (λ e.
-              let be : b ≡ c = same_some b c (sym now ∙ subst (λ k. slice_get (set es i b) k ≡ Some c) e p) in
+              let be : b ≡ c = same_Some b c (sym now ∙ subst (λ k. slice_get (set es i b) k ≡ Some c) e p) in
               subst (λ u. width u ≡ length (set es i b)) be (h.width ∙ (w.wide i a at ∙ sym (length-set es i b))))
               (λ ne. w.wide j c (sym (get_set_other es j i b ne) ∙ p) ∙ sym (length-set es i b));
           pair = λ p q x y r s.
@@ -71,5 +72,5 @@ module _ {P : Type 0} where
   stays_trans a b c h k = record {
     among = λ es i w at.
         let now : slice_get (set es i b) i ≡ Some b = get_set_same es i b (slice_get_within es i a at) in
-        subst AreWired (set_set es i b c) (k.among (set es i b) i (h.among es i w at) now);
+        subst AreWired (set-set es i b c) (k.among (set es i b) i (h.among es i w at) now);
   }

@@ -1,15 +1,14 @@
 -- A walk over all links, pair by pair, after which Q holds of each.
 use Rattle.std.proofs.Common.{◌⊎◌, inl, Option, Some, None, ◌≡◌, ℕ, ◌+◌, ◌<◌, ◌≤◌, List, [], ◌++◌, length, refl, sym, ap, ◌∙◌, subst, arith}
 use mathlib.Core.List.{IsPrefix}
-use Rattle.std.proofs.lemmas.Option.{slice_get_past}
+use Rattle.std.proofs.lemmas.Option.{slice_get_past, same_Some}
 use Rattle.wires.specs.declared.link.Link.{Link}
 use Rattle.wires.specs.declared.ends.Ends.{Ends}
 use Rattle.wires.specs.Link.{link_sent, link_received, link_known, link_waiting, link_spare, KeptLink, IsInOrder, IsSettled, BothBecome, OwnBecomes}
 use Rattle.wires.specs.Ends.{of_link, count_of_link}
 use Rattle.wires.specs.Wires.{row_link, link_at, AreWired, AreInOrder, AreSettled, CarriedNoMore}
 use Rattle.wires.specs.Pairs.{PairChanged, SelfChanged}
-use Rattle.wires.proofs.Gets.{by_eq, by_less, by_pair, same_some, some_at}
-use Rattle.wires.proofs.Order.{prefix_refl, prefix_trans}
+use Rattle.basics.proofs.Laws.{by_eq, by_less, by_pair, some_at, prefix_refl, prefix_trans}
 
 module _ {P : Type 0} where
   kept_refl : (a : Link P) → KeptLink a a
@@ -30,7 +29,7 @@ module _ {P : Type 0} where
     pub kept : (p q : ℕ) (x y : Link P) → link_at es p q ≡ Some x → link_at fs p q ≡ Some y → KeptLink x y
 
   pub going_on : (es : List (Ends P)) → AreWired es → Going es es
-  going_on es w = record { nodes = refl; wired = w; kept = λ p q x y r s. subst (λ z. KeptLink x z) (same_some x y (sym r ∙ s)) (kept_refl x) }
+  going_on es w = record { nodes = refl; wired = w; kept = λ p q x y r s. subst (λ z. KeptLink x z) (same_Some x y (sym r ∙ s)) (kept_refl x) }
 
   -- a link as it was before a step
   record Old (o : Option (Link P)) (z : Link P) : Type 0 where
@@ -42,7 +41,7 @@ module _ {P : Type 0} where
   moved es fs i j p q x x' z e f was is k r = record {
     link = x;
     was = subst (λ n. link_at es n q ≡ Some x) (sym e) (subst (λ n. link_at es i n ≡ Some x) (sym f) was);
-    kept = subst (λ w. KeptLink x w) (same_some x' z (sym is ∙ subst (λ n. link_at fs n j ≡ Some z) e (subst (λ n. link_at fs p n ≡ Some z) f r))) k;
+    kept = subst (λ w. KeptLink x w) (same_Some x' z (sym is ∙ subst (λ n. link_at fs n j ≡ Some z) e (subst (λ n. link_at fs p n ≡ Some z) f r))) k;
   }
 
   going_further : (es fs gs : List (Ends P)) → Going es fs → length gs ≡ length fs → AreWired gs → ((p q : ℕ) (z : Link P) → link_at gs p q ≡ Some z → Old (link_at fs p q) z) → Going es gs
@@ -90,8 +89,8 @@ module _ {P : Type 0} where
     pair_row i j fs gs lt d h = record {
       each = λ p x y pi r s. by_eq p i
           (λ e.
-          let xe : h.x' ≡ x = same_some h.x' x (sym h.is_x ∙ subst (λ k. link_at gs k j ≡ Some x) e r) in
-          let ye : h.y' ≡ y = same_some h.y' y (sym h.is_y ∙ subst (λ k. link_at gs j k ≡ Some y) e s) in
+          let xe : h.x' ≡ x = same_Some h.x' x (sym h.is_x ∙ subst (λ k. link_at gs k j ≡ Some x) e r) in
+          let ye : h.y' ≡ y = same_Some h.y' y (sym h.is_y ∙ subst (λ k. link_at gs j k ≡ Some y) e s) in
           subst (λ u. Q u y × Q y u) xe (subst (λ u. Q h.x' u × Q u h.x') ye (h.changed.there, h.changed.back)))
           (λ ne. d.each p x y (omega arith) (sym (h.others p j (λ e f. ne e) (λ e f. absurd (omega arith))) ∙ r) (sym (h.others j p (λ e f. absurd (omega arith)) (λ e f. ne f)) ∙ s));
     }
@@ -101,8 +100,8 @@ module _ {P : Type 0} where
       each = λ p q x y pj qj r s. by_eq p j
           (λ e. by_eq q j
           (λ f.
-          let xe : h.x' ≡ x = same_some h.x' x (sym h.is_x ∙ subst (λ k. link_at gs k j ≡ Some x) e (subst (λ k. link_at gs p k ≡ Some x) f r)) in
-          let ye : h.x' ≡ y = same_some h.x' y (sym h.is_x ∙ subst (λ k. link_at gs j k ≡ Some y) e (subst (λ k. link_at gs k p ≡ Some y) f s)) in
+          let xe : h.x' ≡ x = same_Some h.x' x (sym h.is_x ∙ subst (λ k. link_at gs k j ≡ Some x) e (subst (λ k. link_at gs p k ≡ Some x) f r)) in
+          let ye : h.x' ≡ y = same_Some h.x' y (sym h.is_x ∙ subst (λ k. link_at gs j k ≡ Some y) e (subst (λ k. link_at gs k p ≡ Some y) f s)) in
           subst (λ u. Q u y) xe (subst (λ u. Q h.x' u) ye h.changed.own))
           (λ nf.
           let r' = sym (h.others p q (λ _ f. nf f)) ∙ r in

@@ -17,7 +17,8 @@ use Rattle.words.specs.Words.{Item, GrammarOf, Text, file, has, is_clean, items_
 use Rattle.words.specs.Parser.{parser_of, file_rule, flag_rule, option_rule}
 use Rattle.words.proofs.Rules.{built_app, built_flag, built_option, rules, shape, with_rules}
 use Rattle.words.proofs.Rows.{rows}
-use Rattle.words.proofs.Walks.{Agrees, agrees, and_both}
+use Rattle.words.proofs.Walks.{Agrees, agrees}
+use Rattle.std.proofs.lemmas.Bool.{and_parts}
 use Rattle.words.proofs.Values.{values_at}
 use Rattle.clap.proofs.WalkLemmas.{raw_values-rows}
 use Rattle.clap.specs.Matches.{found_of, matched_of, raw_values}
@@ -193,7 +194,7 @@ pub matched : {X : Type 0} (text : X → Text) (t : GrammarOf) → has file t.op
 matched text t n words c a same m f h =
     let texts = map text words in
     let free_app : is_simple_and_free a ≡ true = ap is_simple_and_free same ∙ is_simple_app t in
-    let simple : is_simple a ≡ true = (and_both (is_simple a) (is_free_app (built a)) free_app).0 in
+    let simple : is_simple a ≡ true = (and_parts (is_simple a) (is_free_app (built a)) free_app).0 in
     let none : fault_of (parser_of t) texts ≡ [] = ap (λ (x : App). fault_of x texts) (sym same) ∙ f free_app in
     let r = some_items t n texts (items_from t None texts) refl (clean text words c) none in
     let found : rows_of (found_of m) ≡ rows r.0 = (h simple).0 ∙ ap (λ (x : App). matches_of x texts) same ∙ r.2 in

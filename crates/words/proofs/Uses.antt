@@ -8,7 +8,7 @@ use Rattle.std.proofs.lemmas.List.Recursion.{is_count_by}
 use Rattle.std.proofs.lemmas.List.Sums.{length-filter}
 use Rattle.words.specs.Uses.{is_use}
 use Rattle.words.specs.Words.{Form, GrammarOf, Item, Text, end, file, form_of, has, is_clean, is_name, items_from, items_of, long, long_items, plain, value_items, values, with_item, word_items}
-use Rattle.words.proofs.Walks.{and_both}
+use Rattle.std.proofs.lemmas.Bool.{and_parts}
 
 -- how many pass a test
 abbrev pub tally : {X : Type 0} → (X → Bool) → List X → ℕ
@@ -46,7 +46,7 @@ no_use name (b ∷ bs) h = at_byte (b == 45) refl
 no_uses : (name : Text) (words : List Text) → list_all is_good (map (λ w. (file, w)) words) ≡ true → tally (is_use name) words ≡ 0
 no_uses name [] h = refl
 no_uses name (w ∷ ws) h =
-    let both = and_both (is_name w) (list_all is_good (map (λ v. (file, v)) ws)) h in
+    let both = and_parts (is_name w) (list_all is_good (map (λ v. (file, v)) ws)) h in
     rw (no_use name w both.0) (zero-add (tally (is_use name) ws) ∙ no_uses name ws both.1)
 
 record Split (item : Item) (more : Option (List Item)) (items : List Item) : Type 0 where
@@ -69,7 +69,7 @@ with_one g name words h item items e good =
     let parts = split item (items_from g None words) items e in
     let P : List Item → Type 0 = λ l. list_all is_good l ≡ true in
     let goods : list_all is_good (item ∷ parts.rest) ≡ true = subst P parts.all good in
-    let rest = h parts.rest parts.is (and_both (is_good item) (list_all is_good parts.rest) goods).1 in
+    let rest = h parts.rest parts.is (and_parts (is_good item) (list_all is_good parts.rest) goods).1 in
     let one : count name (item ∷ parts.rest) ≡ cond (bytes_eq item.0 name) 1 0 + count name parts.rest = refl in
     let Q : List Item → Type 0 = λ l. cond (bytes_eq item.0 name) 1 0 + tally (is_use name) words ≤ count name l in
     subst Q (sym parts.all) (omega (arith, rest))
@@ -105,7 +105,7 @@ uses_counted g name (word ∷ words) (Some option) items e good = at_value g nam
 
 good_first : (p : Item) (items : List Item) → (list_all is_name (values file items) ≡ true → list_all is_good items ≡ true) → (b : Bool) → bytes_eq p.0 file ≡ b → list_all is_name (values file (p ∷ items)) ≡ true → list_all is_good (p ∷ items) ≡ true
 good_first p items rest true e h =
-    let both = and_both (is_name p.1) (list_all is_name (values file items)) (rw e at h) in
+    let both = and_parts (is_name p.1) (list_all is_name (values file items)) (rw e at h) in
     rw (e, both.0) (rest both.1)
 good_first p items rest false e h = rw e (rest (rw e at h))
 

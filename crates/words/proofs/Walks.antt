@@ -4,6 +4,7 @@ use Rattle.std.specs.Prelude.{if◌then◌else◌, codes, fold, option_and_then,
 use Rattle.std.specs.Str.{bytes_eq}
 use Rattle.std.specs.List.{list_all}
 use Rattle.std.proofs.Math.Bool.{and-false}
+use Rattle.std.proofs.lemmas.Bool.{and_parts}
 use Rattle.clap.specs.Lexer.{long_of, long_of_rest, short_of, short_of_rest, strip_byte}
 use Rattle.clap.specs.Walk.{Held, Row, Rule, Waiting, Walk, idle, option, positional, arg_by_id, arg_by_long, is_pending, nothing_held, option_word, pushed, settled, walk_from, walked}
 use Rattle.clap.specs.Faults.{settle_fault, turn_fault, long_fault, walk_fault}
@@ -47,10 +48,6 @@ short_at true (x ∷ xs) h = short_next (x == 45) x xs h
 no_short : (word : Text) → is_clean word ≡ true → short_of word ≡ None
 no_short [] h = cc
 no_short (b ∷ bs) h = short_at (b == 45) bs h
-
-pub and_both : (a b : Bool) → (a && b) ≡ true → (a ≡ true) × (b ≡ true)
-and_both true b h = (refl, h)
-and_both false b h = cc
 
 -- ---- one word
 
@@ -310,9 +307,9 @@ at_end t p w (waits items id false o n) = rw (no_value t items id o n) (λ bad. 
 
 agrees_at : (t : GrammarOf) → has file t.options ≡ false → (words : List Text) → list_all is_clean words ≡ true → (p : Place) (w : Walk) → Sim t p w → Agrees t (all_from t p words) (faults_from t w words) (fold (walked (rules t) []) w words).held
 agrees_at t n [] c p w m = at_end t p w m
-agrees_at t n (word ∷ words) c p w m = elim (one_step t n p w m word (and_both (is_clean word) (list_all is_clean words) c).0) [
+agrees_at t n (word ∷ words) c p w m = elim (one_step t n p w m word (and_parts (is_clean word) (list_all is_clean words) c).0) [
   | stops k ks f e ↦ agrees_none t p w word words k ks f (e words)
-  | goes p' w' f g e m' ↦ agrees_some t p p' w w' word words f g (e words) (agrees_at t n words (and_both (is_clean word) (list_all is_clean words) c).1 p' w' m')
+  | goes p' w' f g e m' ↦ agrees_some t p p' w w' word words f g (e words) (agrees_at t n words (and_parts (is_clean word) (list_all is_clean words) c).1 p' w' m')
 ]
 
 -- from the start

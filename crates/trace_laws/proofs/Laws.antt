@@ -1,0 +1,134 @@
+-- Laws of legal traces. Other crates cite these alone.
+use Rattle.std.proofs.Common.{List, Some, false, map, true, ℕ, ◌++◌, ◌<◌, ◌∷◌, ◌≡◌}
+use Rattle.run_trace.specs.Cluster.{Event, Merges, Net, Runs, fresh_net, net_of, own, received, sent, state}
+use Rattle.run_trace.specs.Guests.{Thread, is_unwaiting}
+use Rattle.run_trace.specs.Histories.{IsInOrder, Turn}
+use Rattle.run_trace.specs.Holding.{IsOn}
+use Rattle.run_trace.specs.Keyed.{item_of}
+use Rattle.run_trace.specs.Legality.{AreRising, Begins, Legal, boot_entries}
+use Rattle.run_trace.specs.Names.{is_tid}
+use Rattle.run_trace.specs.Outcome.{AllLinksEmpty, IsStuck, Lives}
+use Rattle.run_trace.specs.Places.{best_on, is_listed}
+use Rattle.run_trace.specs.Program.{Program, nodes_of, tree_of}
+use Rattle.run_trace.specs.Rules.{spots_of}
+use Rattle.run_trace.specs.Spots.{Spots, at_first}
+use Rattle.run_trace.specs.Stands.{Stands, listed, listed_name}
+use Rattle.run_trace.specs.Trace.{Fits, IsRun, entry_of, events_of, net_after_trace}
+use Rattle.run_trace.specs.declared.entry.Entry.{Entry}
+use Rattle.run_trace.specs.declared.node.Row.{Row}
+use Rattle.slot_space.specs.declared.names.Tid.{Tid}
+use Rattle.std.specs.Prelude.{is_some, map, ◌↔◌}
+use Rattle.trace_laws.specs.Beginnings.{BeginsSo}
+use Rattle.trace_laws.specs.Gathers.{Gathers, events_in}
+use Rattle.trace_laws.proofs.Beginnings
+use Rattle.trace_laws.proofs.Bounded
+use Rattle.trace_laws.proofs.Determined
+use Rattle.trace_laws.proofs.Legals
+use Rattle.trace_laws.proofs.Merge
+use Rattle.trace_laws.proofs.NothingOutside
+use Rattle.trace_laws.proofs.Parts
+use Rattle.trace_laws.proofs.RunLists
+use Rattle.trace_laws.proofs.Stillness
+use Rattle.trace_laws.proofs.Wholes
+pub use Rattle.trace_laws.proofs.NothingOutside.{Inside}
+pub use Rattle.trace_laws.proofs.Wholes.{Whole}
+
+-- ## The beginning
+
+-- each node begins with what the beginning of a trace says of it
+pub begins_so : (p : Program) (n : ℕ) → n < nodes_of p → BeginsSo p n
+begins_so = Beginnings.begins_so
+
+-- the entries with which all nodes begin are a legal trace
+pub beginnings_legal : (p : Program) → Legal p (boot_entries p (nodes_of p))
+beginnings_legal = Beginnings.beginnings_legal
+
+-- ## Turns side by side
+
+-- turns whose clocks and links fit one another merge into one run
+pub gathers_merges : (prog : Program) (base : Net) (c : ℕ) (clocks : ℕ → ℕ) (turns : List Turn) → Gathers prog base c clocks turns → Merges prog base (events_in turns)
+gathers_merges = Bounded.gathers_merges
+
+-- ## Runs and their entries
+
+-- the entries of a run determine its events
+pub determined : (prog : Program) (base : Net) (events : List Event) → Runs prog base events → events_of prog base (map entry_of events) ≡ events
+determined = Determined.determined
+
+-- a trace is a run with one entry more exactly where the entry is what the machine does there
+pub fits_exactly : (prog : Program) (base : Net) (x : Entry) (xs : List Entry) → IsRun prog base (x ∷ xs) ↔ (IsRun prog base xs × Fits prog (net_after_trace prog base xs) x)
+fits_exactly = Determined.fits_exactly
+
+-- ## Legal traces
+
+-- a run from the start, in order, that begins as it must and whose rounds rise, is legal
+pub whole : (p : Program) (lines : List Entry) → IsInOrder lines → Begins p lines → AreRising lines → IsRun p (fresh_net p) lines → Legal p lines
+whole = Legals.whole
+
+-- ## One run of many histories
+
+-- after events of all nodes, each node is as its own events leave it
+pub node_is : (prog : Program) (base : Net) → (events : List Event) (n : ℕ) → (net_of prog base events).nodes n ≡ state prog n (base.nodes n) (own n events)
+node_is = Merge.node_is
+
+-- what was received over a link and what is on it are what was on it and what was sent
+pub link_is : (prog : Program) (base : Net) → (events : List Event) → Runs prog base events → (i j : ℕ) → received i j events ++ (net_of prog base events).links i j ≡ base.links i j ++ sent i j events
+link_is = Merge.link_is
+
+-- ## Nodes past the last
+
+-- no run touches a node past the last
+pub run_inside : (p : Program) (lines : List Entry) → IsRun p (fresh_net p) lines → Inside p (spots_of p (at_first p) lines) (net_after_trace p (fresh_net p) lines)
+run_inside = NothingOutside.run_inside
+
+-- ## Rows and their parts
+
+-- a thread is on a run list exactly where the list has an item of its name
+pub listed_found : (rows : List Row) (t : Tid) → is_listed t rows ≡ is_some (item_of is_tid listed_name (map listed rows) t)
+listed_found = Parts.listed_found
+
+-- ## Run lists and threads
+
+-- a thread on a node stands on its run list exactly where it does not wait
+pub listed_is : (p : Program) (w : Spots) (net : Net) → Stands p w net → (n : ℕ) (t : Tid) (x : Thread) → IsOn net n t x → is_listed t (net.nodes n).places.rows ≡ is_unwaiting x
+listed_is = RunLists.listed_is
+
+-- a thread on the run list of a node is on that node
+pub listed_there : (p : Program) (w : Spots) (net : Net) → Stands p w net → (n : ℕ) (t : Tid) → is_listed t (net.nodes n).places.rows ≡ true → (x : Thread) × IsOn net n t x
+listed_there = RunLists.listed_there
+
+-- where the run list has a row, each processor has a choice
+pub some_pick : (p : Program) (w : Spots) (net : Net) → Stands p w net → (n vp : ℕ) → ((net.nodes n).places.rows ≡ [] → ⊥) → (r : Row) × (best_on (tree_of p) vp (net.nodes n).places.rows ≡ Some r)
+some_pick = RunLists.some_pick
+
+-- ## Where nothing goes on
+
+-- where no run list has a row, nothing is on the way and no node has halted, a living thread is stuck
+pub stuck : (p : Program) (w : Spots) (net : Net) (s : Stands p w net) → ((n : ℕ) → (net.nodes n).places.rows ≡ []) → AllLinksEmpty net → ((n : ℕ) → (net.nodes n).halted ≡ false) → (t : Tid) → Lives (w.threads t).life → IsStuck w net
+stuck = Stillness.stuck
+
+-- where nothing is on the way a living thread is on some node
+pub is_somewhere : (p : Program) (w : Spots) (net : Net) (s : Stands p w net) → AllLinksEmpty net → (t : Tid) → Lives (w.threads t).life → (n : ℕ) × (x : Thread) × IsOn net n t x
+is_somewhere = Stillness.is_somewhere
+
+-- a thread that is on a node lives
+pub lives_there : (p : Program) (w : Spots) (net : Net) (s : Stands p w net) → (t : Tid) (n : ℕ) (x : Thread) → IsOn net n t x → Lives (w.threads t).life
+lives_there = Stillness.lives_there
+
+-- a processor's choice is on the node
+pub picked_there : (p : Program) (w : Spots) (net : Net) (s : Stands p w net) → (n vp : ℕ) (r : Row) → best_on (tree_of p) vp (net.nodes n).places.rows ≡ Some r → (x : Thread) × IsOn net n r.tid x
+picked_there = Stillness.picked_there
+
+-- a node has halted exactly where the labels say so
+pub halts_are : (p : Program) (w : Spots) (net : Net) (s : Stands p w net) → (n : ℕ) → (net.nodes n).halted ≡ w.halts n
+halts_are = Stillness.halts_are
+
+-- ## What holds after each run
+
+-- before the first entry the labels and the machine agree
+pub starts : (p : Program) → Stands p (at_first p) (fresh_net p)
+starts = Wholes.starts
+
+-- whatever a run does, the labels keep the rules and agree with the machine
+pub run_whole : (p : Program) (old : Spots) (base : Net) → Stands p old base → (lines : List Entry) → IsRun p base lines → Whole p old base lines
+run_whole = Wholes.run_whole
