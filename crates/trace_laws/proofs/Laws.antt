@@ -20,18 +20,18 @@ use Rattle.slot_space.specs.declared.names.Tid.{Tid}
 use Rattle.std.specs.Prelude.{is_some, map, ◌↔◌}
 use Rattle.trace_laws.specs.Beginnings.{BeginsSo}
 use Rattle.trace_laws.specs.Gathers.{Gathers, events_in}
-use Rattle.trace_laws.proofs.Beginnings
-use Rattle.trace_laws.proofs.Bounded
-use Rattle.trace_laws.proofs.Determined
-use Rattle.trace_laws.proofs.Legals
-use Rattle.trace_laws.proofs.Merge
-use Rattle.trace_laws.proofs.NothingOutside
-use Rattle.trace_laws.proofs.Parts
-use Rattle.trace_laws.proofs.RunLists
-use Rattle.trace_laws.proofs.Stillness
-use Rattle.trace_laws.proofs.Wholes
-pub use Rattle.trace_laws.proofs.NothingOutside.{Inside}
-pub use Rattle.trace_laws.proofs.Wholes.{Whole}
+use Rattle.trace_laws.proofs.Outcomes.Beginnings
+use Rattle.trace_laws.proofs.Merging.Bounded
+use Rattle.trace_laws.proofs.Merging.Determined
+use Rattle.trace_laws.proofs.Outcomes.Legals
+use Rattle.trace_laws.proofs.Merging.Merge
+use Rattle.trace_laws.proofs.Outcomes.NothingOutside
+use Rattle.trace_laws.proofs.Lists.Parts
+use Rattle.trace_laws.proofs.Outcomes.RunLists
+use Rattle.trace_laws.proofs.Outcomes.Stillness
+use Rattle.trace_laws.proofs.Outcomes.Wholes
+pub use Rattle.trace_laws.proofs.Outcomes.NothingOutside.{Inside}
+pub use Rattle.trace_laws.proofs.Outcomes.Wholes.{Whole}
 
 -- ## The beginning
 

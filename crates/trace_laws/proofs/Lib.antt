@@ -1,38 +1,32 @@
+-- Where each law of `src/laws.rt` is proved.
+--   alone               Outcomes.Wholes
+--   begun               Outcomes.Beginnings
+--   expected            Strays.NoStrays
+--   gathered            Merging.Bounded
+--   ignored             Strays.Unexpected
+--   inside              Outcomes.NothingOutside
+--   joined              Merging.Weave
+--   judged              Merging.Determined
+--   legal               Outcomes.Wholes
+--   levels              Lists.ListTrees
+--   merged              Merging.Merge, Merging.Determined
+--   one_holder          Outcomes.Consequences, Outcomes.Wholes
+--   one_trace           Rules.OneTrace
+--   picked              Outcomes.RunLists, Outcomes.Stillness
+--   quiet               Outcomes.Stillness
+--   ran                 Lives.RunLemmas
+--   ready               Outcomes.RunLists, Outcomes.Legals
+--   rules_and_machine   Outcomes.Legals, over Rules.Entries
+--   same_wherever       Lives.SameLives
+--   started             Outcomes.Wholes
+--   told                Outcomes.Legals, over Underway.Simulate
+--   unforged            Strays.Strangers
+--   whole               Outcomes.Legals, over Underway.Simulate
 pub mod Laws
-pub mod Merge
-pub mod Determined
-pub mod Weave
-pub mod Bounded
-pub mod KeyedLemmas
-pub mod Births
-pub mod Subjects
-pub mod RunLemmas
-pub mod Midst
-pub mod Parts
-pub mod Steps
-pub mod Heaps
-pub mod Lifetimes
-pub mod HeapSteps
-pub mod Takes
-pub mod Joins
-pub mod Picking
-pub mod Events
-pub mod Simulate
-pub mod Wholes
-pub mod Consequences
-pub mod Stillness
-pub mod Beginnings
-pub mod NoStrays
-pub mod NothingOutside
-pub mod RunLists
-pub mod Nexts
-pub mod OneTrace
-pub mod Entries
-pub mod Arriving
-pub mod Legals
-pub mod OwnLives
-pub mod OwnLabels
-pub mod SameLives
-pub mod Unexpected
-pub mod ListTrees
-pub mod Strangers
+pub mod Merging
+pub mod Lists
+pub mod Lives
+pub mod Underway
+pub mod Outcomes
+pub mod Rules
+pub mod Strays

@@ -1,4 +1,4 @@
-use Rattle.trace_laws.proofs.Unexpected.{stray_ignored, beyond_ignored}
+use Rattle.trace_laws.proofs.Strays.Unexpected.{stray_ignored, beyond_ignored}
 use Rattle.trace_laws.proofs.laws.ignored.Goals as goal
 
 pub returns : goal.returns

@@ -1,4 +1,4 @@
-use Rattle.trace_laws.proofs.ListTrees.{down, one_leaf}
+use Rattle.trace_laws.proofs.Lists.ListTrees.{down, one_leaf}
 use Rattle.trace_laws.proofs.laws.levels.Goals as goal
 
 pub returns : goal.returns

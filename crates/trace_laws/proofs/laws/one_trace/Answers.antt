@@ -1,4 +1,4 @@
-use Rattle.trace_laws.proofs.OneTrace.{one_trace}
+use Rattle.trace_laws.proofs.Rules.OneTrace.{one_trace}
 use Rattle.trace_laws.proofs.laws.one_trace.Goals as goal
 
 pub returns : goal.returns

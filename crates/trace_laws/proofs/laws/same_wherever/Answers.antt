@@ -1,4 +1,4 @@
-use Rattle.trace_laws.proofs.SameLives.{same_guest, same_lines, same_end}
+use Rattle.trace_laws.proofs.Lives.SameLives.{same_guest, same_lines, same_end}
 use Rattle.trace_laws.proofs.laws.same_wherever.Goals as goal
 
 pub returns : goal.returns

@@ -1,4 +1,4 @@
-use Rattle.trace_laws.proofs.Legals.{whole, whole_by_rules, joined_whole}
+use Rattle.trace_laws.proofs.Outcomes.Legals.{whole, whole_by_rules, joined_whole}
 use Rattle.trace_laws.proofs.laws.whole.Goals as goal
 
 pub returns : goal.returns

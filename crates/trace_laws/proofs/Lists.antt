@@ -1,0 +1,8 @@
+-- What the lists of the machine and the labels tell of threads.
+pub mod KeyedLemmas
+pub mod Births
+pub mod Subjects
+pub mod Parts
+pub mod Picking
+pub mod Arriving
+pub mod ListTrees

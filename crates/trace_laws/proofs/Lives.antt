@@ -1,0 +1,6 @@
+-- A thread's run, its blocks and its life by itself.
+pub mod RunLemmas
+pub mod Heaps
+pub mod OwnLives
+pub mod OwnLabels
+pub mod SameLives

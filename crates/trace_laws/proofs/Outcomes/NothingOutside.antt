@@ -1,0 +1,234 @@
+-- Nothing happens outside the cluster's nodes.
+use Rattle.std.proofs.Common.{◌≡◌, ℕ, ◌<◌, ◌≤◌, ◌/◌, ◌^◌, ◌⊎◌, inl, inr, List, [], ◌∷◌, ◌++◌, Option, Some, None, Bool, true, false, eqb, ltb, cond, refl, sym, ap, subst, arith}
+use Rattle.std.specs.Prelude.{nat_lt, slice_get}
+use Rattle.std.specs.Map.{lookup}
+use Rattle.std.proofs.lemmas.Bool.{ne_eqb, ltb-true, ltb-false}
+use Rattle.std.proofs.lemmas.Bool.Decides.{nat_tests}
+use Rattle.slot_space.specs.declared.names.Tid.{Tid}
+use Rattle.slot_space.specs.declared.names.Reply.{Reply}
+use Rattle.rv_step.specs.declared.hart.Stop.{Stop}
+use Rattle.rv_step.specs.Step.{State}
+use Rattle.marcel_core.specs.declared.birth.Birth.{Birth}
+use Rattle.marcel_core.specs.declared.end.End.{End}
+use Rattle.marcel_core.specs.Homes.{joiner}
+use Rattle.run_trace.specs.declared.call.Call.{Call}
+use Rattle.run_trace.specs.declared.call.Call.TheVariants.{Join}
+use Rattle.run_trace.specs.declared.entry.Act.{Act}
+use Rattle.run_trace.specs.declared.entry.Act.TheVariants.{Boot, Run, Take, Move}
+use Rattle.run_trace.specs.declared.entry.Entry.{Entry}
+use Rattle.run_trace.specs.declared.label.Label.{Label}
+use Rattle.run_trace.specs.declared.label.Label.TheVariants.{Born, Ran, Asked, Heard, Judged, Told, Took, Gave, Ended, Known, Left, Came, Lent, InHand, Decided, Returned, Home, Down, Burst, Gathered, Shown, Halted, Dropped}
+use Rattle.run_trace.specs.declared.label.Why.{Why}
+use Rattle.run_trace.specs.declared.label.Why.TheVariants as why
+use Rattle.run_trace.specs.declared.packet.Packet.{Packet}
+use Rattle.run_trace.specs.Names.{is_tid}
+use Rattle.run_trace.specs.Program.{Program, nodes_of}
+use Rattle.run_trace.specs.Guests.{Solo, Thread}
+use Rattle.run_trace.specs.Calls.{call_of, refusal}
+use Rattle.run_trace.specs.Local.{Local, fresh}
+use Rattle.run_trace.specs.Cluster.{Net, fresh_net}
+use Rattle.run_trace.specs.Trace.{IsRun, net_after_trace}
+use Rattle.run_trace.specs.Holding.{IsOn}
+use Rattle.run_trace.specs.Spots.{Stage, Asks, Life, On, Moving, Spot, Spots, update, creator_served, joiner_served, heard_at, judged_life, told_stage, gave_life, shown_life, ran_stage, stage_of_call, asked_stage, passed_stage, end_in, at_first, after_label, after_labels}
+use Rattle.run_trace.specs.World.{World, world_after}
+use Rattle.trace_laws.specs.Obeys.{Obey, world_at, ObeyEach}
+use Rattle.run_trace.specs.Rules.{Occasion, saying, LifeRule, spots_of}
+use Rattle.run_trace.specs.Obeying.{occasion}
+use Rattle.run_trace.specs.Items.{Subject, Thread as Thread_of}
+use Rattle.run_trace.specs.Stands.{Stands, word_subject, word_of, Word, Travels, Line, Line_shown, Joins, Reply as Reply_word, Ended_word}
+use Rattle.trace_laws.proofs.Lists.Parts.{Tells}
+use Rattle.trace_laws.proofs.Underway.Simulate.{event_below, first_tells}
+use Rattle.trace_laws.proofs.Outcomes.Wholes.{Whole, run_whole, starts}
+use Rattle.trace_laws.proofs.Outcomes.Stillness.{is_there}
+use Rattle.run_trace.specs.Links.{first_of, rest_of, left_after}
+
+-- ## A join names a thread of the cluster, and a thread moves to a node of it
+
+-- the home that a join is under way to, or the node that a thread is; 0 where there is none
+abbrev asked_home : Life → ℕ
+asked_home (On m (Asks u)) = u.home
+asked_home (Moving from to) = to
+asked_home _ = 0
+
+abbrev AllAsk : Program → (Tid → Spot) → Type 0
+AllAsk p w = (t : Tid) → asked_home (w t).life < nodes_of p
+
+first_node : (p : Program) → 0 < nodes_of p
+first_node p = p.setup.geometry.some_node
+
+-- the home that a call names; 0 where it names none
+abbrev named_home : Call → ℕ
+named_home (Join name) = name / 2 ^ 32
+named_home _ = 0
+
+passed_asks : (p : Program) (n : ℕ) (t : Tid) (x : Solo) (c : Call) → asked_home (On n (passed_stage p n t x c)) ≤ named_home c
+passed_asks p n t x c = grind arith
+
+-- the checks of a call refuse a home that is no node
+named_inside : (p : Program) (t : Tid) (x : Solo) (c : Call) → refusal p t x c ≡ None → named_home c < nodes_of p
+named_inside p t x c h = grind (arith, nat_tests, h, first_node p)
+
+call_asks : (p : Program) (n : ℕ) (t : Tid) (x : Solo) → asked_home (On n (stage_of_call p n t x)) < nodes_of p
+call_asks p n t x = by (call_of x.state) (refusal p t x (call_of x.state)) refl
+  where
+    by : (c : Call) (o : Option Reply) → refusal p t x c ≡ o → asked_home (On n (asked_stage p n t x c o)) < nodes_of p
+    by c None e = omega (arith, passed_asks p n t x c, named_inside p t x c e)
+    by c (Some reply) e = first_node p
+
+-- nothing else begins to ask
+ran_asks : (n : ℕ) (stop : Stop) (s : State) → asked_home (On n (ran_stage stop s)) ≡ 0
+ran_asks n stop s = grind arith
+
+heard_asks : (births : ℕ → List Birth) (life : Life) → asked_home (heard_at births life) ≤ asked_home life
+heard_asks births life = grind arith
+
+judged_asks : (life : Life) → asked_home (judged_life life) ≤ asked_home life
+judged_asks life = grind arith
+
+told_asks : (n : ℕ) (life : Life) → asked_home (On n (told_stage life)) ≡ 0
+told_asks n life = grind arith
+
+gave_asks : (life : Life) → asked_home (gave_life life) ≤ asked_home life
+gave_asks life = grind arith
+
+shown_asks : (life : Life) → asked_home (shown_life life) ≤ asked_home life
+shown_asks life = grind arith
+
+asks_with : (p : Program) (w : Tid → Spot) (u : Tid) (s : Spot) → AllAsk p w → asked_home s.life < nodes_of p → AllAsk p (update w u s)
+asks_with p w u s h k t = elim (is_tid u t) as (λ v. asked_home (cond v s (w t)).life < nodes_of p) [ true ↦ k | false ↦ h t ]
+
+-- its new life asks for no other home
+asks_on : (p : Program) (w : Tid → Spot) (u : Tid) (s : Spot) → AllAsk p w → asked_home s.life ≤ asked_home (w u).life → AllAsk p (update w u s)
+asks_on p w u s h k = asks_with p w u s h (omega (arith, k, h u))
+
+creator_asks : (p : Program) (n : ℕ) (t : Tid) (why : Why) (w : Tid → Spot) → AllAsk p w → AllAsk p (creator_served n t why w)
+creator_asks p n t why.Main w h = h
+creator_asks p n t (why.Create by) w h = asks_with p w by _ h (first_node p)
+creator_asks p n t (why.Inside by bubble) w h = h
+creator_asks p n t (why.Service by count) w h = h
+
+joiner_asks : (p : Program) (t : Tid) (end : End) (o : Option (Tid × ℕ)) (w : Tid → Spot) → AllAsk p w → AllAsk p (joiner_served t end o w)
+joiner_asks p t end None w h = h
+joiner_asks p t end (Some by) w h = asks_with p w by.0 _ h (first_node p)
+
+label_asks : (p : Program) (q : Occasion) (n : ℕ) (l : Label) (w : World) → LifeRule p q n l w → AllAsk p w.spots.threads → AllAsk p (after_label p n l w.spots).threads
+label_asks p q n (Born t why entry a0 a1 sp slot) w ok h = asks_with p (creator_served n t why w.spots.threads) t _ (creator_asks p n t why w.spots.threads h) (first_node p)
+label_asks p q n (Ran t vp count stop) w ok h = asks_with p w.spots.threads t _ h (subst (λ k. k < nodes_of p) (sym (ran_asks n stop _)) (first_node p))
+label_asks p q n (Asked t call args bytes) w ok h = asks_with p w.spots.threads t _ h (call_asks p n t (w.spots.threads t).guest.solo)
+label_asks p q n (Heard t) w ok h = asks_on p w.spots.threads t _ h (heard_asks w.spots.births (w.spots.threads t).life)
+label_asks p q n (Judged t reply extra) w ok h = asks_on p w.spots.threads t _ h (judged_asks (w.spots.threads t).life)
+label_asks p q n (Told t) w ok h = asks_with p w.spots.threads t _ h (subst (λ k. k < nodes_of p) (sym (told_asks n (w.spots.threads t).life)) (first_node p))
+label_asks p q n (Took t first count) w ok h = asks_with p w.spots.threads t _ h (h t)
+label_asks p q n (Gave t slots) w ok h = asks_on p w.spots.threads t _ h (gave_asks (w.spots.threads t).life)
+label_asks p q n (Ended t end) w ok h = asks_with p w.spots.threads t _ h (first_node p)
+label_asks p q n (Known t) w ok h =
+    let end : End = end_in (w.spots.threads t).life in
+    let o : Option (Tid × ℕ) = joiner (slice_get (w.spots.births t.home) t.seq) in
+    asks_with p (joiner_served t end o w.spots.threads) t _ (joiner_asks p t end o w.spots.threads h) (first_node p)
+label_asks p q n (Shown t) w ok h = asks_on p w.spots.threads t _ h (shown_asks (w.spots.threads t).life)
+label_asks p q n (Halted t) w ok h = asks_with p w.spots.threads t _ h (first_node p)
+label_asks p q n (Left t to) w ok h = asks_with p w.spots.threads t _ h ok.1
+label_asks p q n (Came t) w ok h = asks_with p w.spots.threads t _ h (first_node p)
+label_asks p q n (Decided t count first) w ok h = h
+label_asks p q n (Dropped t count reply) w ok h = h
+label_asks p q n (Lent to slots) w ok h = h
+label_asks p q n (InHand lender slots) w ok h = h
+label_asks p q n (Returned to slots) w ok h = h
+label_asks p q n (Home slots) w ok h = h
+label_asks p q n (Down bubble list) w ok h = h
+label_asks p q n (Burst bubble list) w ok h = h
+label_asks p q n (Gathered bubble count) w ok h = h
+
+labels_ask : (p : Program) (q : Occasion) (n : ℕ) (ls : List Label) (w : World) → ObeyEach LifeRule p q n ls w → AllAsk p w.spots.threads → AllAsk p (after_labels p n ls w.spots).threads
+labels_ask p q n [] w ok h = h
+labels_ask p q n (l ∷ ls) w ok h = labels_ask p (saying l q) n ls (world_after p n l w) ok.1 (label_asks p q n l w ok.0 h)
+
+spots_ask : (p : Program) (base : Net) (lines : List Entry) → Obey LifeRule p (at_first p) base lines → AllAsk p (spots_of p (at_first p) lines).threads
+spots_ask p base [] ok t = first_node p
+spots_ask p base (x ∷ xs) ok t = labels_ask p (occasion x (world_at (spots_of p (at_first p) xs) (net_after_trace p base xs))) x.node x.labels (world_at (spots_of p (at_first p) xs) (net_after_trace p base xs)) ok.1 (spots_ask p base xs ok.0) t
+
+-- ## What is no node has no event, and so sends nothing
+
+record Untouched (p : Program) (net : Net) : Type 0 where
+  nodes : (n : ℕ) → nodes_of p ≤ n → net.nodes n ≡ fresh p n
+  links : (i j : ℕ) → nodes_of p ≤ i → net.links i j ≡ []
+
+left_none : (i : ℕ) (a : Act) (ps : List Packet) → ps ≡ [] → left_after i a ps ≡ []
+left_none i Boot ps e = e
+left_none i (Run vp quantum) ps e = e
+left_none i (Move t to) ps e = e
+left_none i (Take from) ps e = rw e (elim (eqb from i) as (λ v. cond v (rest_of []) [] ≡ []) [ true ↦ refl | false ↦ refl ])
+
+taken_none : (b : Bool) (i : ℕ) (a : Act) (ps qs : List Packet) → ps ≡ [] → qs ≡ [] → cond b (left_after i a ps) ps ++ qs ≡ []
+taken_none true i a ps qs e f = rw (left_none i a ps e, f) refl
+taken_none false i a ps qs e f = rw (e, f) refl
+
+untouched : (p : Program) (lines : List Entry) → IsRun p (fresh_net p) lines → Untouched p (net_after_trace p (fresh_net p) lines)
+untouched p [] r = record { nodes = λ n l. refl; links = λ i j l. refl }
+untouched p (x ∷ xs) r =
+    let was : Untouched p (net_after_trace p (fresh_net p) xs) = untouched p xs r.0 in
+    let net : Net = net_after_trace p (fresh_net p) xs in
+    let below : x.node < nodes_of p = ltb-true x.node (nodes_of p) (event_below p x.node (net.nodes x.node) x.act _ r.1.step.done r.1.step.is) in
+    record {
+      nodes = λ n l. (let apart : eqb x.node n ≡ false = ne_eqb x.node n (λ e. absurd (omega (arith, e, l, below))) in rw apart (was.nodes n l));
+      links = λ i j l.
+          (let apart : eqb x.node i ≡ false = ne_eqb x.node i (λ e. absurd (omega (arith, e, l, below))) in
+          taken_none (eqb x.node j) i x.act (net.links i j) _ (was.links i j l) (rw apart refl));
+    }
+
+-- ## Threads on nodes, and the links that they go by
+
+module _ (p : Program) (w : Spots) (net : Net) (s : Stands p w net) (asks : AllAsk p w.threads) (out : Untouched p net) where
+  there_inside : (t : Tid) (n : ℕ) (x : Thread) → IsOn net n t x → n < nodes_of p
+  there_inside t n x h = by (ltb n (nodes_of p)) refl
+    where
+      by : (v : Bool) → ltb n (nodes_of p) ≡ v → n < nodes_of p
+      by true e = ltb-true n (nodes_of p) e
+      by false e =
+          let none : lookup (is_tid t) (net.nodes n).threads ≡ None = ap (λ (z : Local). lookup (is_tid t) z.threads) (out.nodes n (ltb-false n (nodes_of p) e)) in
+          absurd (cc (none, h))
+
+  on_inside : (t : Tid) (n : ℕ) (stage : Stage) → (w.threads t).life ≡ On n stage → n < nodes_of p
+  on_inside t n stage e = let k : (x : Thread) × IsOn net n t x = is_there p w net s t n stage e in there_inside t n k.0 k.1
+
+  -- what is said of a thread goes to a node
+  to_node : (t : Tid) (i j : ℕ) (word : Word) → Tells t i j word (w.threads t).life (w.threads t).verdict (w.threads t).guest → j < nodes_of p
+  to_node t i j (Travels x) k = subst (λ z. asked_home z < nodes_of p) k.0 (asks t)
+  to_node t i j (Line u bytes) k = subst (λ z. z < nodes_of p) (sym k.2) (first_node p)
+  to_node t i j (Line_shown u code extra) k = on_inside t j _ k.1
+  to_node t i j (Joins u target) k = subst (λ z. z < nodes_of p) (sym k.2) (subst (λ z. asked_home z < nodes_of p) k.1 (asks t))
+  to_node t i j (Reply_word u code extra) k = on_inside t j _ k.1
+  to_node t i j (Ended_word u end) k = by (nat_lt t.home (nodes_of p)) refl
+    where
+      by : (v : Bool) → nat_lt t.home (nodes_of p) ≡ v → j < nodes_of p
+      by true e = subst (λ z. z < nodes_of p) (sym k.2) (ltb-true t.home (nodes_of p) e)
+      by false e = absurd (cc (k.1, s.agrees.homes t e))
+
+  links_inside : (i j : ℕ) → (nodes_of p ≤ i) ⊎ (nodes_of p ≤ j) → net.links i j ≡ []
+  links_inside i j (inl l) = out.links i j l
+  links_inside i j (inr l) = by (net.links i j) refl
+    where
+      by : (ps : List Packet) → net.links i j ≡ ps → ps ≡ []
+      by [] e = refl
+      by (x ∷ ps) e =
+          let below : j < nodes_of p = by_subject (word_subject (word_of j x.body)) refl in
+          absurd (omega (arith, below, l))
+        where
+          by_subject : (o : Subject) → word_subject (word_of j x.body) ≡ o → j < nodes_of p
+          by_subject (Thread_of t) name = to_node t i j _ (first_tells p w net s i j x t (sym (ap first_of e)) name)
+
+-- ## The law
+
+pub record Inside (p : Program) (w : Spots) (net : Net) : Type 0 where
+  pub nodes : (n : ℕ) → nodes_of p ≤ n → net.nodes n ≡ fresh p n
+  pub links : (i j : ℕ) → (nodes_of p ≤ i) ⊎ (nodes_of p ≤ j) → net.links i j ≡ []
+  pub lives : (t : Tid) (n : ℕ) (stage : Stage) → (w.threads t).life ≡ On n stage → n < nodes_of p
+
+pub run_inside : (p : Program) (lines : List Entry) → IsRun p (fresh_net p) lines → Inside p (spots_of p (at_first p) lines) (net_after_trace p (fresh_net p) lines)
+run_inside p lines r =
+    let w : Spots = spots_of p (at_first p) lines in
+    let net : Net = net_after_trace p (fresh_net p) lines in
+    let all : Whole p (at_first p) (fresh_net p) lines = run_whole p (at_first p) (fresh_net p) (starts p) lines r in
+    let asks : AllAsk p w.threads = spots_ask p (fresh_net p) lines all.obeys.life in
+    let out : Untouched p net = untouched p lines r in
+    record { nodes = out.nodes; links = links_inside p w net all.stands asks out; lives = on_inside p w net all.stands asks out }

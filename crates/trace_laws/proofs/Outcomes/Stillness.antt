@@ -1,0 +1,143 @@
+-- Where nothing is ready and nothing is under way: each thread that lives waits by its rule.
+use Rattle.std.proofs.Common.{◌≡◌, ℕ, List, [], ◌∷◌, Some, None, false, refl, sym, ap, ◌∙◌, subst, map, inl, inr}
+use Rattle.std.proofs.lemmas.Bool.{eq-eqb}
+use Rattle.slot_space.specs.declared.names.Tid.{Tid}
+use Rattle.run_trace.specs.declared.node.Row.{Row}
+use Rattle.run_trace.specs.Names.{is_tid}
+use Rattle.run_trace.specs.Program.{Program, tree_of}
+use Rattle.run_trace.specs.Guests.{Thread, waits}
+use Rattle.run_trace.specs.Cluster.{Net}
+use Rattle.run_trace.specs.Holding.{IsOn}
+use Rattle.run_trace.specs.Keyed.{item_of}
+use Rattle.run_trace.specs.Places.{best_on}
+use Rattle.run_trace.specs.Outcome.{Lives, AllLinksEmpty, WaitsByItsRule, IsStuck}
+use Rattle.run_trace.specs.Spots.{Stage, Ready, Running, Due, Served, Told_next, Told_then, Departs, Ends, Leaves, Halts, Stays, Shows, Showing, Shown_there, Asks, Awaits, Answers, Answered, Life, Unborn, On, Moving, Noting, Gone, Response, Spots}
+use Rattle.run_trace.specs.Stands.{Stands, listed, listed_name, row_part, row_in_life, link_part, on_link, ways_of, Way, words_of, words_about, phase_of, phase_at, During, thread_in_life, thread_in_stage, wait_of}
+use Rattle.run_trace.specs.Items.{Thread as Subject_of}
+use Rattle.run_trace.specs.declared.entry.Act.TheVariants.{Boot}
+use Rattle.trace_laws.proofs.Underway.Simulate.{asked_of, picked_ready}
+use Rattle.trace_laws.proofs.Outcomes.Wholes.{settled_at}
+use Rattle.trace_laws.proofs.Outcomes.Consequences.{OnNode, on_node_is}
+use Rattle.trace_laws.specs.Obeys.{IsSettled}
+
+module _ (p : Program) (w : Spots) (net : Net) (s : Stands p w net) where
+  -- no link holds a packet of a thread
+  no_way : AllLinksEmpty net → (t : Tid) (x : Way) (xs : List Way) → ways_of t (w.threads t).life (w.threads t).verdict (w.threads t).guest ≡ x ∷ xs → ⊥
+  no_way empty t x xs h =
+      let none : words_about (words_of x.to (net.links x.from x.to)) (Subject_of t) ≡ [] = ap (λ ps. words_about (words_of x.to ps) (Subject_of t)) (empty x.from x.to) in
+      let some : link_part x.from x.to (Subject_of t) w.threads ≡ x.word ∷ on_link x.from x.to xs = ap (on_link x.from x.to) h ∙ (rw (eq-eqb x.from x.from refl, eq-eqb x.to x.to refl) refl) in
+      absurd (cc (sym none ∙ s.links x.from x.to (Subject_of t) ∙ some))
+
+  quiet : ((n : ℕ) → (net.nodes n).places.rows ≡ []) → AllLinksEmpty net → ((n : ℕ) → w.halts n ≡ false) → (t : Tid) → WaitsByItsRule w (w.threads t).life
+  quiet rows empty going t = by (w.threads t).life refl (settled_at p w net s t)
+    where
+      v : Response
+      v = (w.threads t).verdict
+
+      sent : (life : Life) (x : Way) → (w.threads t).life ≡ life → ways_of t life v (w.threads t).guest ≡ x ∷ [] → WaitsByItsRule w life
+      sent life x e h = absurd (no_way empty t x [] (ap (λ z. ways_of t z v (w.threads t).guest) e ∙ h))
+
+      awaited : (m : ℕ) (u : Tid) → (w.threads t).life ≡ On m (Awaits u) → Lives (w.threads u).life
+      awaited m u e = by_life (w.threads u).life refl (sym (ap phase_at (s.agrees.waits u t m e)) ∙ s.agrees.named u)
+        where
+          by_life : (life : Life) → (w.threads u).life ≡ life → During ≡ phase_of (w.threads u).life → Lives life
+          by_life Unborn f h = absurd (cc (h ∙ ap phase_of f))
+          by_life (On k stage) f h = tt
+          by_life (Moving k to) f h = tt
+          by_life (Noting k end) f h = absurd (no_way empty u _ _ (ap (λ z. ways_of u z (w.threads u).verdict (w.threads u).guest) f))
+          by_life (Gone end) f h = absurd (cc (h ∙ ap phase_of f))
+
+      ready : (m : ℕ) → (w.threads t).life ≡ On m Ready → ⊥
+      ready m e =
+          let none : item_of is_tid listed_name (map listed (net.nodes m).places.rows) t ≡ None = ap (λ (rs : List Row). item_of is_tid listed_name (map listed rs) t) (rows m) in
+          let some : row_part m t (w.threads t) ≡ Some (record { tid = t; list = 0; priority = (w.threads t).guest.priority }) = ap (λ z. row_in_life m t z (w.threads t).guest.priority) e ∙ (rw (eq-eqb m m refl) refl) in
+          absurd (cc (none, (s.nodes m).rows.shows t, some))
+
+      by : (life : Life) → (w.threads t).life ≡ life → IsSettled (w.threads t).life → WaitsByItsRule w life
+      by Unborn e k = tt
+      by (Moving m to) e k = sent (Moving m to) _ e refl
+      by (Noting m end) e k = tt
+      by (Gone end) e k = tt
+      by (On m (Awaits u)) e k = awaited m u e
+      by (On m Ready) e k = absurd (ready m e)
+      by (On m Stays) e k = absurd (cc (s.agrees.stays t m e, going m))
+      by (On m (Shows bytes)) e k = sent (On m (Shows bytes)) _ e refl
+      by (On m Shown_there) e k = sent (On m Shown_there) _ e refl
+      by (On m (Asks u)) e k = sent (On m (Asks u)) _ e refl
+      by (On m (Answered h)) e k = sent (On m (Answered h)) _ e refl
+      by (On m Running) e k = absurd (cc (subst (λ z. IsSettled z) e k m, eq-eqb m m refl))
+      by (On m (Due code)) e k = absurd (cc (subst (λ z. IsSettled z) e k m, eq-eqb m m refl))
+      by (On m (Served c)) e k = absurd (cc (subst (λ z. IsSettled z) e k m, eq-eqb m m refl))
+      by (On m Told_next) e k = absurd (cc (subst (λ z. IsSettled z) e k m, eq-eqb m m refl))
+      by (On m (Told_then to)) e k = absurd (cc (subst (λ z. IsSettled z) e k m, eq-eqb m m refl))
+      by (On m (Departs to)) e k = absurd (cc (subst (λ z. IsSettled z) e k m, eq-eqb m m refl))
+      by (On m (Ends end)) e k = absurd (cc (subst (λ z. IsSettled z) e k m, eq-eqb m m refl))
+      by (On m (Leaves end)) e k = absurd (cc (subst (λ z. IsSettled z) e k m, eq-eqb m m refl))
+      by (On m Halts) e k = absurd (cc (subst (λ z. IsSettled z) e k m, eq-eqb m m refl))
+      by (On m Showing) e k = absurd (cc (subst (λ z. IsSettled z) e k 0))
+      by (On m (Answers h reply second)) e k = absurd (cc (subst (λ z. IsSettled z) e k h, eq-eqb h h refl))
+
+  -- nothing is ready, nothing is under way, none has halted, and a thread lives
+  pub stuck : ((n : ℕ) → (net.nodes n).places.rows ≡ []) → AllLinksEmpty net → ((n : ℕ) → (net.nodes n).halted ≡ false) → (t : Tid) → Lives (w.threads t).life → IsStuck w net
+  stuck rows empty going t lives =
+      let still : (n : ℕ) → w.halts n ≡ false = λ n. sym (s.nodes n).halted ∙ going n in
+      record {
+        not_done = λ d. elim d as (λ z. ⊥) [ inl h ↦ absurd (cc (still h.0, h.1)) | inr h ↦ h.0 t lives ];
+        living = (t, lives);
+        rows = rows;
+        links = empty;
+        waits = quiet rows empty still;
+      }
+
+  -- ## Who lives is on a node
+
+  -- between events a thread at any stage is on its node
+  pub is_there : (t : Tid) (m : ℕ) (stage : Stage) → (w.threads t).life ≡ On m stage → (x : Thread) × IsOn net m t x
+  is_there t m stage e = by stage e (subst (λ z. IsSettled z) e (settled_at p w net s t))
+    where
+      here : (stage : Stage) (x : Thread) → (w.threads t).life ≡ On m stage → thread_in_stage stage (w.threads t).guest ≡ Some x → (y : Thread) × IsOn net m t y
+      here stage x e h = (x, (s.nodes m).threads.shows t ∙ ap (λ z. thread_in_life m z (w.threads t).guest) e ∙ (rw (eq-eqb m m refl) h))
+
+      by : (stage : Stage) → (w.threads t).life ≡ On m stage → IsSettled (On m stage) → (x : Thread) × IsOn net m t x
+      by (Awaits u) e k = here (Awaits u) _ e refl
+      by Ready e k = here Ready _ e refl
+      by Stays e k = here Stays _ e refl
+      by (Shows bytes) e k = here (Shows bytes) _ e refl
+      by Shown_there e k = here Shown_there _ e refl
+      by (Asks u) e k = here (Asks u) _ e refl
+      by (Answered h) e k = here (Answered h) _ e refl
+      by Running e k = absurd (cc (k m, eq-eqb m m refl))
+      by (Due code) e k = absurd (cc (k m, eq-eqb m m refl))
+      by (Served c) e k = absurd (cc (k m, eq-eqb m m refl))
+      by Told_next e k = absurd (cc (k m, eq-eqb m m refl))
+      by (Told_then to) e k = absurd (cc (k m, eq-eqb m m refl))
+      by (Departs to) e k = absurd (cc (k m, eq-eqb m m refl))
+      by (Ends end) e k = absurd (cc (k m, eq-eqb m m refl))
+      by (Leaves end) e k = absurd (cc (k m, eq-eqb m m refl))
+      by Halts e k = absurd (cc (k m, eq-eqb m m refl))
+      by Showing e k = absurd (cc (k 0))
+      by (Answers h reply second) e k = absurd (cc (k h, eq-eqb h h refl))
+
+  -- where nothing is under way each that lives is on a node
+  pub is_somewhere : AllLinksEmpty net → (t : Tid) → Lives (w.threads t).life → (n : ℕ) × (x : Thread) × IsOn net n t x
+  is_somewhere empty t lives = by (w.threads t).life refl lives
+    where
+      by : (life : Life) → (w.threads t).life ≡ life → Lives life → (n : ℕ) × (x : Thread) × IsOn net n t x
+      by Unborn e l = absurd l
+      by (On m stage) e l = let k = is_there t m stage e in (m, k.0, k.1)
+      by (Moving m to) e l = absurd (no_way empty t _ _ (ap (λ z. ways_of t z (w.threads t).verdict (w.threads t).guest) e))
+      by (Noting m end) e l = absurd l
+      by (Gone end) e l = absurd l
+
+  pub lives_there : (t : Tid) (n : ℕ) (x : Thread) → IsOn net n t x → Lives (w.threads t).life
+  lives_there t n x h =
+      let on : OnNode n (w.threads t) x = on_node_is n t (w.threads t) x (sym ((s.nodes n).threads.shows t) ∙ h) in
+      subst (λ z. Lives z) (sym on.life) tt
+
+  pub picked_there : (n vp : ℕ) (r : Row) → best_on (tree_of p) vp (net.nodes n).places.rows ≡ Some r → (x : Thread) × IsOn net n r.tid x
+  picked_there n vp r picked =
+      (waits (wait_of Ready) (w.threads r.tid).guest, (s.nodes n).threads.shows r.tid ∙ ap (λ z. thread_in_life n z (w.threads r.tid).guest) (picked_ready p w net s (asked_of Boot None) n vp r picked) ∙ (rw (eq-eqb n n refl) refl))
+
+  -- a thread has called halt exactly where a node says so
+  pub halts_are : (n : ℕ) → (net.nodes n).halted ≡ w.halts n
+  halts_are n = (s.nodes n).halted

@@ -1,0 +1,122 @@
+-- The whole run: order and run give the whole of legality.
+use Rattle.std.proofs.Common.{◌≡◌, ℕ, ◌%◌, List, [], ◌∷◌, ◌++◌, Some, None, true, false, eqb, ltb, cond, refl, sym, ap, ◌∙◌, subst, arith}
+use Rattle.std.proofs.lemmas.Bool.{ltb-true}
+use Rattle.slot_space.specs.Sets.{has, run}
+use Rattle.slot_space.specs.Places.{starting_slots}
+use Rattle.slot_space.specs.declared.names.Tid.{Tid}
+use Rattle.slot_space.proofs.Laws.{has-filter, has-run}
+use Rattle.run_trace.specs.declared.entry.Entry.{Entry}
+use Rattle.run_trace.specs.declared.label.Label.{Label}
+use Rattle.run_trace.specs.declared.packet.Send.{Send}
+use Rattle.run_trace.specs.Program.{Program, nodes_of, slots_in}
+use Rattle.run_trace.specs.Local.{Doing}
+use Rattle.run_trace.specs.Cluster.{Event, Net, net_after, fresh_net, next_packet}
+use Rattle.run_trace.specs.Trace.{IsRun, event_of, events_of, net_after_trace, sends_or, done_for}
+use Rattle.run_trace.specs.Spots.{Spots, Of_node, Nobody, unborn, at_first, first_holder}
+use Rattle.run_trace.specs.Rules.{is_free, spots_of}
+use Rattle.run_trace.specs.Console.{console_of, printed}
+use Rattle.run_trace.specs.Stands.{Stands, link_part, busy, is_thread}
+use Rattle.run_trace.specs.Holding.{EachHeldOnce}
+use Rattle.run_trace.specs.Alone.{EachRunsAlone}
+use Rattle.run_trace.specs.Legality.{AfterEach}
+use Rattle.trace_laws.proofs.Outcomes.Consequences.{one_holder, runs_alone}
+use Rattle.trace_laws.proofs.Underway.Simulate.{Simulates, simulates, event}
+use Rattle.trace_laws.specs.Obeys.{IsSettled, ObeysFrom}
+use Rattle.run_trace.specs.Items.{is_busy, Subject, Thread as Thread_of}
+
+-- ## Before the first event
+
+pub own_slots : (p : Program) (n x : ℕ) → has x (starting_slots (nodes_of p) (slots_in p) n) ≡ is_free n (first_holder p x)
+unfolding starting_slots
+own_slots p n x = has-filter (λ s. eqb (s % nodes_of p) n) x (run 0 (slots_in p))
+    ∙ ap (λ v. cond (eqb (x % nodes_of p) n) v false) (has-run x 0 (slots_in p) ∙ grind (arith, ltb-true x 0))
+    ∙ elim (ltb x (slots_in p)) as (λ v. cond (eqb (x % nodes_of p) n) v false ≡ is_free n (cond v (Of_node (x % nodes_of p)) Nobody)) [
+      | true ↦ elim (eqb (x % nodes_of p) n) as (λ v. cond v true false ≡ v) [ true ↦ refl | false ↦ refl ]
+      | false ↦ elim (eqb (x % nodes_of p) n) as (λ v. cond v false false ≡ false) [ true ↦ refl | false ↦ refl ]
+    ]
+
+no_words : (i j : ℕ) (s : Subject) → [] ≡ link_part i j s (λ t. unborn)
+no_words i j (Thread_of t) = refl
+
+pub starts : (p : Program) → Stands p (at_first p) (fresh_net p)
+starts p = record {
+  nodes = λ n. record {
+    threads = record { apart = tt; shows = λ u. refl };
+    rows = record { apart = tt; shows = λ u. refl };
+    busy = record { apart = tt; shows = λ u. refl };
+    names = refl;
+    own = λ x. own_slots p n x;
+    halted = refl;
+  };
+  links = no_words;
+  agrees = record {
+    homes = λ t out. refl;
+    named = λ t. refl;
+    awaits = λ t by at e. absurd (cc e);
+    waits = λ t by at e. absurd (cc e);
+    stays = λ t n e. absurd (cc e);
+    slots = λ t x. elim (ltb x (slots_in p)) as (λ v. false ≡ is_thread t (cond v (Of_node (x % nodes_of p)) Nobody)) [ true ↦ refl | false ↦ refl ];
+    blocks = λ t. tt;
+  };
+  rising = λ n. (tt, tt);
+}
+
+-- ## At the end of an entry no thread is in the midst of anything
+
+pub settled_at : (p : Program) (w : Spots) (net : Net) → Stands p w net → (t : Tid) → IsSettled (w.threads t).life
+settled_at p w net s t n = elim (is_busy n (w.threads t).life) as (λ v. None ≡ cond v (Some (busy t (w.threads t).life)) None → v ≡ false) [ true ↦ λ e. absurd (cc e) | false ↦ λ e. refl ] ((s.nodes n).busy.shows t)
+
+-- ## The whole run
+
+-- the rules, the console, and what nodes and links stand for
+pub record Whole (p : Program) (old : Spots) (base : Net) (lines : List Entry) : Type 0 where
+  pub obeys : ObeysFrom p old base lines
+  pub console : printed (events_of p base lines) ≡ console_of p old lines
+  pub stands : Stands p (spots_of p old lines) (net_after_trace p base lines)
+
+pub run_whole : (p : Program) (old : Spots) (base : Net) → Stands p old base → (lines : List Entry) → IsRun p base lines → Whole p old base lines
+run_whole p old base s [] r = record {
+  obeys = record { solo = tt; holders = tt; life = tt; replies = tt; grants = tt; picks = tt; carried = tt; settled = tt };
+  console = refl;
+  stands = s;
+}
+run_whole p old base s (x ∷ xs) r =
+    let was : Whole p old base xs = run_whole p old base s xs r.0 in
+    let net : Net = net_after_trace p base xs in
+    let w : Spots = spots_of p old xs in
+    let e : Event = event_of p net x in
+    let d : Doing = r.1.step.done in
+    let made : Event = event x.stamp x.node x.round x.act (next_packet net x.node x.act) d in
+    let one : Simulates p w net made = simulates p w net x.stamp x.node x.round x.act (next_packet net x.node x.act) d was.stands r.1.step.is refl in
+    let same : made ≡ e =
+    ap (λ (ls : List Label). record { stamp = x.stamp; node = x.node; round = x.round; act = x.act; took = next_packet net x.node x.act; labels = ls; sends = d.sends; prints = d.prints }) (sym r.1.step.labels)
+    ∙ ap (λ (ss : List Send). record { stamp = x.stamp; node = x.node; round = x.round; act = x.act; took = next_packet net x.node x.act; labels = x.labels; sends = ss; prints = d.prints }) (sym r.1.step.sends)
+    ∙ ap (λ (bs : List ℕ). record { stamp = x.stamp; node = x.node; round = x.round; act = x.act; took = next_packet net x.node x.act; labels = x.labels; sends = sends_or (done_for p net x); prints = bs }) (sym r.1.step.prints) in
+    let now : Simulates p w net e = subst (λ z. Simulates p w net z) same one in
+    record {
+      obeys = record {
+        solo = (was.obeys.solo, now.allowed.solo);
+        holders = (was.obeys.holders, now.allowed.holders);
+        life = (was.obeys.life, now.allowed.life);
+        replies = (was.obeys.replies, now.allowed.replies);
+        grants = (was.obeys.grants, now.allowed.grants);
+        picks = (was.obeys.picks, now.picks);
+        carried = (was.obeys.carried, now.sends);
+        settled = (was.obeys.settled, settled_at p (spots_of p old (x ∷ xs)) (net_after p net e) now.stands);
+      };
+      console = ap (λ bs. bs ++ e.prints) was.console ∙ ap (λ bs. console_of p old xs ++ bs) now.prints;
+      stands = now.stands;
+    }
+
+-- what holds after each run holds after each entry of a run
+pub after_each : (P : Net → List Entry → Type 0) (p : Program) → ((lines : List Entry) → IsRun p (fresh_net p) lines → P (net_after_trace p (fresh_net p) lines) lines) → (lines : List Entry) → IsRun p (fresh_net p) lines → AfterEach P p lines
+after_each P p f [] r = tt
+after_each P p f (x ∷ xs) r = (after_each P p f xs r.0, f (x ∷ xs) r)
+
+pub alone_after_run : (p : Program) (lines : List Entry) → IsRun p (fresh_net p) lines → EachRunsAlone p (net_after_trace p (fresh_net p) lines) lines
+alone_after_run p lines r =
+    let all : Whole p (at_first p) (fresh_net p) lines = run_whole p (at_first p) (fresh_net p) (starts p) lines r in
+    runs_alone p (fresh_net p) lines (net_after_trace p (fresh_net p) lines) all.obeys.solo all.obeys.life all.stands
+
+pub held_once_after_run : (p : Program) (lines : List Entry) → IsRun p (fresh_net p) lines → EachHeldOnce (net_after_trace p (fresh_net p) lines)
+held_once_after_run p lines r = one_holder p (spots_of p (at_first p) lines) (net_after_trace p (fresh_net p) lines) (run_whole p (at_first p) (fresh_net p) (starts p) lines r).stands

@@ -1,0 +1,93 @@
+-- The labels of a trace that obeys are determined by what was asked: two such traces of the same acts are one.
+use Rattle.std.proofs.Common.{◌≡◌, ℕ, List, [], ◌∷◌, map, refl, sym, ap, ◌∙◌, subst}
+use Rattle.slot_space.specs.declared.names.Tid.{Tid}
+use Rattle.rv_step.specs.declared.hart.Stop.{Stop}
+use Rattle.rv_step.specs.Step.{State}
+use Rattle.run_trace.specs.declared.entry.Act.{Act}
+use Rattle.run_trace.specs.declared.entry.Act.TheVariants.{Boot, Run as RunThread, Take, Move}
+use Rattle.run_trace.specs.declared.entry.Entry.{Entry}
+use Rattle.run_trace.specs.declared.label.Label.{Label}
+use Rattle.run_trace.specs.declared.label.Label.TheVariants.{Ran}
+use Rattle.run_trace.specs.declared.packet.Packet.{Packet}
+use Rattle.run_trace.specs.Program.{Program, code_of, tree_of}
+use Rattle.run_trace.specs.Guests.{Run, run_of}
+use Rattle.run_trace.specs.Rules.{Occasion, quantum_in, saying}
+use Rattle.run_trace.specs.Spots.{Spots, stepped}
+use Rattle.run_trace.specs.World.{Listed, World, world_after}
+use Rattle.run_trace.specs.Items.{Thread, Runs, Sends, past_sends, for_packet, Item, Says, Does, to_do_after}
+use Rattle.run_trace.specs.Obeying.{Starts, Allows, IsBy, IsNext, GoesOn, IsEntry, occasion, KeepsRules}
+use Rattle.trace_laws.proofs.Lives.RunLemmas.{run_is}
+use Rattle.trace_laws.proofs.Lists.Arriving.{one_picked}
+use Rattle.trace_laws.proofs.Rules.Nexts.{one_next}
+use Rattle.run_trace.specs.Telling.{world_of}
+use Rattle.trace_laws.specs.Headings.{Heading, heading}
+
+-- ## One label
+
+-- a run has one count and one stop
+one_run : (p : Program) (q : Occasion) (n vp count more : ℕ) (stop other : Stop) (t : Tid) (w : World) → Allows p q n (Ran t vp count stop) w → Allows p q n (Ran t vp more other) w → Ran t vp count stop ≡ Ran t vp more other
+one_run p q n vp count more stop other t w x y =
+    let s : State = (w.spots.threads t).guest.solo.state in
+    let a : run_of (code_of p) (quantum_in q.act) s ≡ record { count = count; stop = stop; state = stepped (code_of p) count s } = run_is (code_of p) (quantum_in q.act) s _ (record { steps = x.solo.0; stop = x.solo.1 }) in
+    let b : run_of (code_of p) (quantum_in q.act) s ≡ record { count = more; stop = other; state = stepped (code_of p) more s } = run_is (code_of p) (quantum_in q.act) s _ (record { steps = y.solo.0; stop = y.solo.1 }) in
+    ap (λ (r : Run). Ran t vp r.count r.stop) (sym a ∙ b)
+
+one_label : (p : Program) (q : Occasion) (n : ℕ) (l m : Label) (w : World) (i : Item) → IsBy n l w.spots i → IsBy n m w.spots i → Allows p q n l w → Allows p q n m w → l ≡ m
+one_label p q n l m w (Sends to body) x y a b = absurd x
+one_label p q n l m w (Says k) x y a b = x ∙ sym y
+one_label p q n l m w (Runs t vp) x y a b =
+    x.2 ∙ one_run p q n vp x.0 y.0 x.1 y.1 t w (subst (λ z. Allows p q n z w) x.2 a) (subst (λ z. Allows p q n z w) y.2 b) ∙ sym y.2
+one_label p q n l m w (Does (Thread t)) x y a b = one_next p q n w l m t x.0 y.0 x.1 a b
+
+one_next_label : (p : Program) (q : Occasion) (n : ℕ) (l m : Label) (w : World) (to_do : List Item) → IsNext n l w.spots to_do → IsNext n m w.spots to_do → Allows p q n l w → Allows p q n m w → l ≡ m
+one_next_label p q n l m w [] x y a b = absurd x
+one_next_label p q n l m w (i ∷ is) x y a b = one_label p q n l m w i x y a b
+
+-- ## All labels
+
+nothing_to_do : (n : ℕ) (l : Label) (w : Spots) (to_do : List Item) → to_do ≡ [] → IsNext n l w to_do → ⊥
+nothing_to_do n l w to_do e k = subst (λ z. IsNext n l w z) e k
+
+one_way_on : (p : Program) (q : Occasion) (n : ℕ) (ls ms : List Label) (w : World) (to_do : List Item) → GoesOn p q n ls w to_do → GoesOn p q n ms w to_do → ls ≡ ms
+one_way_on p q n [] [] w to_do x y = refl
+one_way_on p q n [] (m ∷ ms) w to_do x y = absurd (nothing_to_do n m w.spots (past_sends to_do) x y.0)
+one_way_on p q n (l ∷ ls) [] w to_do x y = absurd (nothing_to_do n l w.spots (past_sends to_do) y x.0)
+one_way_on p q n (l ∷ ls) (m ∷ ms) w to_do x y =
+    let one : l ≡ m = one_next_label p q n l m w (past_sends to_do) x.0 y.0 x.1 y.1 in
+    let rest : ls ≡ ms = one_way_on p (saying l q) n ls ms (world_after p n l w) (to_do_after p n l w.spots (past_sends to_do)) x.2
+    (subst (λ z. GoesOn p (saying z q) n ms (world_after p n z w) (to_do_after p n z w.spots (past_sends to_do))) (sym one) y.2) in
+    ap (λ z. z ∷ ls) one ∙ ap (λ zs. m ∷ zs) rest
+
+-- ## The beginning of an entry
+
+one_start : (p : Program) (stamp n : ℕ) (a : Act) (w : World) (h k : List Item) → Starts p stamp n a w h → Starts p stamp n a w k → h ≡ k
+one_start p stamp n Boot w h k x y = x ∙ sym y
+one_start p stamp n (RunThread vp q) w h k x y = x.2 ∙ ap (λ (z : Listed). Runs z.tid vp ∷ []) (one_picked (tree_of p) vp x.0 y.0 (w.lists n) x.1 y.1) ∙ sym y.2
+one_start p stamp n (Take from) w h k x y =
+    let packet : x.0 ≡ y.0 = cc (x.1, y.1) in
+    x.3 ∙ ap (λ (z : Packet). for_packet n z.body) packet ∙ sym y.3
+one_start p stamp n (Move t to) w h k x y = x.1 ∙ sym y.1
+
+-- ## An entry, and a trace
+
+abbrev with_labels : Heading → List Label → Entry
+with_labels h ls = record { stamp = h.stamp; node = h.node; round = h.round; act = h.act; labels = ls }
+
+pub one_entry : (p : Program) (w : World) (x y : Entry) → heading x ≡ heading y → IsEntry p w x → IsEntry p w y → x ≡ y
+one_entry p w x y e i j =
+    let k : IsEntry p w (with_labels (heading x) y.labels) = subst (λ h. IsEntry p w (with_labels h y.labels)) (sym e) j in
+    let to_do : i.to_do ≡ k.to_do = one_start p x.stamp x.node x.act w i.to_do k.to_do i.starts k.starts in
+    let labels : x.labels ≡ y.labels = one_way_on p (occasion x w) x.node x.labels y.labels w i.to_do i.goes (subst (λ h. GoesOn p (occasion x w) x.node y.labels w h) (sym to_do) k.goes) in
+    ap (λ ls. with_labels (heading x) ls) labels ∙ ap (λ h. with_labels h y.labels) e
+
+-- two traces that were asked the same are the same
+pub one_trace : (p : Program) (old : World) (xs ys : List Entry) → map heading xs ≡ map heading ys → KeepsRules p old xs → KeepsRules p old ys → xs ≡ ys
+one_trace p old [] [] e x y = refl
+one_trace p old [] (b ∷ ys) e x y = absurd (cc e)
+one_trace p old (a ∷ xs) [] e x y = absurd (cc e)
+one_trace p old (a ∷ xs) (b ∷ ys) e x y =
+    let head : heading a ≡ heading b = cc e in
+    let tail : map heading xs ≡ map heading ys = cc e in
+    let rest : xs ≡ ys = one_trace p old xs ys tail x.0 y.0 in
+    let one : a ≡ b = one_entry p (world_of p old xs) a b head x.1 (subst (λ zs. IsEntry p (world_of p old zs) b) (sym rest) y.1) in
+    ap (λ z. z ∷ xs) one ∙ ap (λ zs. b ∷ zs) rest

@@ -1,0 +1,4 @@
+-- Packets that no run has.
+pub mod NoStrays
+pub mod Unexpected
+pub mod Strangers

@@ -1,0 +1,138 @@
+-- No packet, whatever it says, gives a node a slot twice.
+use Rattle.std.proofs.Common.{◌≡◌, ℕ, List, [], ◌∷◌, Option, Some, None, Bool, true, false, cond, refl, sym, ap, ◌∙◌, subst}
+use Rattle.std.specs.Prelude.{nat_lt, not, slice_get, is_none}
+use Rattle.std.specs.List.{list_all}
+use Rattle.std.specs.Map.{lookup, set_value}
+use Rattle.std.specs.BTreeMap.{insert_entry}
+use Rattle.std.proofs.lemmas.Bool.{and_parts}
+use Rattle.slot_space.specs.Sets.{has, meets}
+use Rattle.slot_space.proofs.Laws.{meets-common}
+use Rattle.slot_space.specs.Replies.{reply_code}
+use Rattle.slot_space.specs.declared.names.Tid.{Tid}
+use Rattle.marcel_core.specs.declared.end.End.{End}
+use Rattle.marcel_core.specs.declared.birth.Verdict.{Verdict}
+use Rattle.marcel_core.specs.declared.birth.Verdict.TheVariants.{Now, Later, NoSuch, Taken}
+use Rattle.marcel_core.specs.Homes.{verdict, joiner}
+use Rattle.pack_thread.specs.Threads.{Thread as Packed}
+use Rattle.run_trace.specs.declared.node.Wait.TheVariants as wait
+use Rattle.run_trace.specs.declared.packet.Body.{Body}
+use Rattle.run_trace.specs.declared.packet.Body.TheVariants.{Mover, Show, ShowDone, JoinAsk, Answer, EndNote}
+use Rattle.run_trace.specs.Names.{is_tid, tid_cmp}
+use Rattle.run_trace.specs.Program.{Program, nodes_of}
+use Rattle.run_trace.specs.Guests.{Thread, waits, told, unpacked, guest_slots}
+use Rattle.run_trace.specs.Local.{Local, nothing}
+use Rattle.run_trace.specs.Steps.{tell, tell_found, comes, arrive, thread_in, say, keep, put, print, shows, acknowledges, hears, knows, change_name, reply_by_link}
+use Rattle.run_trace.specs.Machine.{takes, accepts, is_stray, may_come, is_unserving, lives_yet, are_away, judges_join, tells_joiner}
+use Rattle.trace_laws.specs.Strays.{slots_with, slots_here, IsHeldOnce}
+use Rattle.run_trace.proofs.Laws.{is-true, is-refl}
+use Rattle.trace_laws.proofs.Lists.KeyedLemmas.{lookup-set_same, lookup-set_other, lookup-insert}
+
+-- a node whose own slots and whose threads' slots are as before
+same_held : (s now : Local) → now.slots.own ≡ s.slots.own → ((t : Tid) → slots_here now t ≡ slots_here s t) → IsHeldOnce s → IsHeldOnce now
+same_held s now own threads h = record {
+  own = λ t x k. ap (has x) own ∙ h.own t x (sym (ap (has x) (threads t)) ∙ k);
+  one = λ t u x k l. h.one t u x (sym (ap (has x) (threads t)) ∙ k) (sym (ap (has x) (threads u)) ∙ l);
+}
+
+told_held : (t : Tid) (code : ℕ) (second : Option ℕ) (s : Local) → IsHeldOnce s → IsHeldOnce (tell t code second (nothing s)).node
+unfolding tell arrive say keep
+told_held t code second s h = by (lookup (is_tid t) s.threads) refl
+  where
+    by : (o : Option Thread) → lookup (is_tid t) s.threads ≡ o → IsHeldOnce (tell_found t code second o (nothing s)).node
+    by None e = h
+    by (Some x) e = same_held s _ refl (λ u. elim (is_tid t u) as (λ v. is_tid t u ≡ v → slots_with (lookup (is_tid u) (set_value (is_tid t) s.threads (waits wait.No (told code second x.guest)))) ≡ slots_here s u) [
+      | true ↦ λ f. subst (λ z. slots_with (lookup (is_tid z) (set_value (is_tid t) s.threads (waits wait.No (told code second x.guest)))) ≡ slots_here s z) (is-true t u f)
+          (ap slots_with (lookup-set_same is_tid is-true is-refl s.threads t (waits wait.No (told code second x.guest)) x e) ∙ sym (ap slots_with e))
+      | false ↦ λ f. ap slots_with (lookup-set_other is_tid is-true is-refl s.threads t u (waits wait.No (told code second x.guest)) f)
+    ] refl) h
+
+judged_held : (by : Tid) (from seq : ℕ) (v : Verdict) (s : Local) → IsHeldOnce s → IsHeldOnce (judges_join by from v (hears by seq from (nothing s))).node
+unfolding hears change_name say reply_by_link put
+judged_held by from seq (Now end) s h = same_held s _ refl (λ t. refl) h
+judged_held by from seq Later s h = same_held s _ refl (λ t. refl) h
+judged_held by from seq NoSuch s h = same_held s _ refl (λ t. refl) h
+judged_held by from seq Taken s h = same_held s _ refl (λ t. refl) h
+
+known_held : (me seq : ℕ) (end : End) (o : Option (Tid × ℕ)) (s : Local) → IsHeldOnce s → IsHeldOnce (tells_joiner end o (knows me seq end (nothing s))).node
+unfolding knows change_name say reply_by_link put
+known_held me seq end None s h = same_held s _ refl (λ t. refl) h
+known_held me seq end (Some by) s h = same_held s _ refl (λ t. refl) h
+
+-- what holds of all entries holds of the one that is found
+found_all : (test : Tid × Thread → Bool) (t : Tid) (es : List (Tid × Thread)) (x : Thread) → list_all test es ≡ true → lookup (is_tid t) es ≡ Some x → (k : Tid) × (test (k, x) ≡ true)
+found_all test t [] x a e = absurd (cc e)
+found_all test t (y ∷ es) x a e = elim (is_tid t y.0) as (λ v. cond v (Some y.1) (lookup (is_tid t) es) ≡ Some x → (k : Tid) × (test (k, x) ≡ true)) [
+  | true ↦ λ f. (let same : y.1 ≡ x = cc f in (y.0, subst (λ z. test (y.0, z) ≡ true) same (and_parts (test y) (list_all test es) a).0))
+  | false ↦ λ f. found_all test t es x (and_parts (test y) (list_all test es) a).1 f
+] e
+
+not_both : (b : Bool) → not b ≡ true → b ≡ false
+not_both true h = absurd (cc h)
+not_both false h = refl
+
+-- none of a newcomer's slots is here
+away_own : (slots : List ℕ) (s : Local) → are_away slots s ≡ true → (y : ℕ) → has y slots ≡ true → has y s.slots.own ≡ false
+away_own slots s a y h = elim (has y s.slots.own) as (λ v. has y s.slots.own ≡ v → v ≡ false) [
+  | true ↦ λ e. absurd (cc (meets-common y slots s.slots.own h e, not_both (meets slots s.slots.own) (and_parts (not (meets slots s.slots.own)) _ a).0))
+  | false ↦ λ e. refl
+] refl
+
+away_here : (slots : List ℕ) (s : Local) → are_away slots s ≡ true → (y : ℕ) (t : Tid) → has y slots ≡ true → has y (slots_here s t) ≡ true → ⊥
+away_here slots s a y t h k = by (lookup (is_tid t) s.threads) refl k
+  where
+    by : (o : Option Thread) → lookup (is_tid t) s.threads ≡ o → has y (slots_with o) ≡ true → ⊥
+    by None e g = absurd (cc g)
+    by (Some x) e g =
+        let f = found_all (λ e. not (meets slots (guest_slots e.1.guest))) t s.threads x (and_parts (not (meets slots s.slots.own)) _ a).1 e in
+        cc (meets-common y slots (guest_slots x.guest) h g, not_both (meets slots (guest_slots x.guest)) f.1)
+
+came_held : (p : Program) (me : ℕ) (x : Packed) (s : Local) → may_come p me s x ≡ true → IsHeldOnce s → IsHeldOnce (comes x (nothing s)).node
+unfolding comes arrive thread_in say
+came_held p me x s may h = record {
+  own = λ t y k. elim (is_tid t x.tid) as (λ v. has y (slots_with (cond v (Some new) (lookup (is_tid t) s.threads))) ≡ true → has y s.slots.own ≡ false) [ true ↦ λ g. away_own mine s away y g | false ↦ λ g. h.own t y g ] (at t y k);
+  one = λ t u y k l. elim (is_tid t x.tid) as (λ v. is_tid t x.tid ≡ v → has y (slots_with (cond v (Some new) (lookup (is_tid t) s.threads))) ≡ true → t ≡ u) [
+    | true ↦ λ e g. elim (is_tid u x.tid) as (λ v. is_tid u x.tid ≡ v → has y (slots_with (cond v (Some new) (lookup (is_tid u) s.threads))) ≡ true → t ≡ u) [
+      | true ↦ λ f i. is-true t x.tid e ∙ sym (is-true u x.tid f)
+      | false ↦ λ f i. absurd (away_here mine s away y u g i)
+    ] refl (at u y l)
+    | false ↦ λ e g. elim (is_tid u x.tid) as (λ v. is_tid u x.tid ≡ v → has y (slots_with (cond v (Some new) (lookup (is_tid u) s.threads))) ≡ true → t ≡ u) [
+      | true ↦ λ f i. absurd (away_here mine s away y t i g)
+      | false ↦ λ f i. h.one t u y g i
+    ] refl (at u y l)
+  ] refl (at t y k);
+}
+  where
+    new : Thread
+    new = waits wait.No (unpacked x)
+
+    mine : List ℕ
+    mine = guest_slots (unpacked x)
+
+    away : are_away mine s ≡ true
+    away =
+        let a = and_parts (nat_lt x.tid.home (nodes_of p)) _ may in
+        let b = and_parts (is_unserving x) _ a.1 in
+        let c = and_parts (is_none (lookup (is_tid x.tid) s.threads)) _ b.1 in
+        (and_parts (lives_yet me s x.tid) (are_away mine s) c.1).1
+
+    at : (t : Tid) (y : ℕ) → has y (slots_with (lookup (is_tid t) (insert_entry tid_cmp s.threads x.tid new))) ≡ true → has y (slots_with (cond (is_tid t x.tid) (Some new) (lookup (is_tid t) s.threads))) ≡ true
+    at t y k = sym (ap (λ o. has y (slots_with o)) (lookup-insert is_tid is-true is-refl tid_cmp (λ a b. refl) s.threads x.tid t new)) ∙ k
+
+accepted_held : (p : Program) (me from : ℕ) (body : Body) (s : Local) → is_stray p me s body ≡ false → IsHeldOnce s → IsHeldOnce (accepts me from body s).node
+unfolding shows acknowledges put print say
+accepted_held p me from (Mover x) s k h = came_held p me x s (opened (may_come p me s x) k) h
+  where
+    opened : (b : Bool) → not b ≡ false → b ≡ true
+    opened true e = refl
+    opened false e = absurd (cc e)
+accepted_held p me from (Show t bytes) s k h = same_held s _ refl (λ u. refl) h
+accepted_held p me from (ShowDone t) s k h = told_held t 0 None s h
+accepted_held p me from (JoinAsk by seq) s k h = judged_held by from seq (verdict (slice_get s.names seq)) s h
+accepted_held p me from (Answer t reply second) s k h = told_held t (reply_code reply) second s h
+accepted_held p me from (EndNote seq end) s k h = known_held me seq end (joiner (slice_get s.names seq)) s h
+
+pub held_once : (p : Program) (me from : ℕ) (s : Local) (body : Body) → IsHeldOnce s → IsHeldOnce (takes p me from body s).node
+held_once p me from s body h = elim (is_stray p me s body) as (λ v. is_stray p me s body ≡ v → IsHeldOnce (cond v (nothing s) (accepts me from body s)).node) [
+  | true ↦ λ e. h
+  | false ↦ λ e. accepted_held p me from body s e h
+] refl

@@ -1,0 +1,9 @@
+-- An event of the machine, from its start through its midst to its end.
+pub mod Midst
+pub mod Steps
+pub mod Lifetimes
+pub mod HeapSteps
+pub mod Takes
+pub mod Joins
+pub mod Events
+pub mod Simulate

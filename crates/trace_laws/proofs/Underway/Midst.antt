@@ -1,0 +1,386 @@
+-- An event in its midst: what holds of it, and the one lemma for a label.
+use Rattle.std.proofs.Common.{◌≡◌, ℕ, List, [], ◌∷◌, ◌++◌, Option, Some, Bool, true, false, eqb, cond, ◌&&◌, refl, sym, ap, ◌∙◌, subst, append_assoc, map}
+use Rattle.std.specs.Prelude.{slice_get, ⊤}
+use Rattle.std.proofs.lemmas.Bool.{eqb-true}
+use Rattle.std.proofs.lemmas.List.{append-nil}
+use Rattle.slot_space.specs.Sets.{has}
+use Rattle.slot_space.specs.declared.names.Tid.{Tid}
+use Rattle.marcel_core.specs.declared.birth.Birth.{Birth}
+use Rattle.marcel_core.specs.declared.birth.Birth.TheVariants.{Awaited}
+use Rattle.run_trace.specs.declared.label.Label.{Label}
+use Rattle.run_trace.specs.declared.packet.Body.{Body}
+use Rattle.run_trace.specs.declared.packet.Send.{Send}
+use Rattle.run_trace.specs.Names.{is_tid}
+use Rattle.run_trace.specs.Program.{Program}
+use Rattle.run_trace.specs.Local.{Local, Doing}
+use Rattle.run_trace.specs.Cluster.{Net}
+use Rattle.run_trace.specs.Spots.{Stays, Life, Awaits, Unborn, On, Spot, Remote, Spots, Holder, update, after_label, after_labels}
+use Rattle.run_trace.specs.Rules.{Occasion, saying, Rule, SoloRule, HoldersRule, LifeRule, RepliesRule, GrantsRule, is_free}
+use Rattle.run_trace.specs.World.{World, world_after}
+use Rattle.trace_laws.specs.Obeys.{ObeyEach, all_causes}
+use Rattle.run_trace.specs.Console.{shown_by, shown_by_all}
+use Rattle.run_trace.specs.Places.{Places, IsRising}
+use Rattle.trace_laws.proofs.Lists.Arriving.{places_after, places_after_all, rising_after}
+use Rattle.run_trace.specs.Causes.{causes, send_to}
+use Rattle.run_trace.specs.Obeying.{IsNext, Allows}
+use Rattle.run_trace.specs.Stands.{Here, Agrees, Busy, busy_name, busy_part, thread_part, row_part, link_part, listed, listed_name, Word, word_subject, word_of, words_about, Way, way, ways_of, on_link, phase_of, phase_at, Holding, held, slots_held, IsWellHeld, is_thread}
+use Rattle.run_trace.proofs.Laws.{is-true, is-refl, is-same}
+use Rattle.trace_laws.proofs.Lists.Subjects.{less_word, rest_words, about-append, about-less, about-less_other, on_link-append}
+use Rattle.trace_laws.proofs.Lists.KeyedLemmas.{kept, map_kept}
+use Rattle.run_trace.specs.Items.{Subject, Thread, same_subject, Item, Does, is_busy, goes_on_with, busy_among, all_but_first, to_do_after}
+
+abbrev pub Links : Type 0
+Links = ℕ → ℕ → List Word
+
+abbrev pub sent_words : ℕ → List Send → List Word
+sent_words j [] = []
+sent_words j (x ∷ xs) = cond (eqb x.to j) (word_of j x.body ∷ sent_words j xs) (sent_words j xs)
+
+-- the links, with what the event has sent
+abbrev pub under : ℕ → Links → List Send → Links
+under n L sends i j = L i j ++ cond (eqb n i) (sent_words j sends) []
+
+abbrev pub LinkStands : ℕ → ℕ → List Word → (Tid → Spot) → Type 0
+LinkStands i j xs w = (s : Subject) → words_about xs s ≡ link_part i j s w
+
+-- all labels obey each rule
+pub record Obeyed (p : Program) (q : Occasion) (n : ℕ) (ls : List Label) (w : World) : Type 0 where
+  pub solo : ObeyEach SoloRule p q n ls w
+  pub holders : ObeyEach HoldersRule p q n ls w
+  pub life : ObeyEach LifeRule p q n ls w
+  pub replies : ObeyEach RepliesRule p q n ls w
+  pub grants : ObeyEach GrantsRule p q n ls w
+
+abbrev pub busy_item : Busy → Item
+busy_item x = Does (Thread x.tid)
+
+abbrev pub to_do_after_all : Program → ℕ → List Label → Spots → List Item → List Item
+to_do_after_all p n [] w to_do = to_do
+to_do_after_all p n (l ∷ ls) w to_do = to_do_after_all p n ls (after_label p n l w) (to_do_after p n l w to_do)
+
+-- each label is what is to be done next
+abbrev pub NextAll : Program → ℕ → List Label → Spots → List Item → Type 0
+NextAll p n [] w to_do = ⊤
+NextAll p n (l ∷ ls) w to_do = IsNext n l w to_do × NextAll p n ls (after_label p n l w) (to_do_after p n l w to_do)
+
+-- what there is to do: for those with whom the event is busy, and then what is left of what it began with
+abbrev pub doing : List Busy → List Item → List Item
+doing hand ahead = map busy_item hand ++ ahead
+
+-- beside the spots: the run list, what there is still to do, and that the node has begun
+pub record Aside (p : Program) (n : ℕ) (opening ahead : List Item) (w : Spots) (before now : Local) (labels : List Label) (hand : List Busy) : Type 0 where
+  pub places : now.places ≡ places_after_all p n labels w before.places
+  pub still : doing hand ahead ≡ to_do_after_all p n labels w opening
+  pub next : NextAll p n labels w opening
+  pub rising : IsRising now.places
+  pub booted : before.booted ≡ true → now.booted ≡ true
+
+-- the same of one more label, before which this was ahead
+pub record Beside (p : Program) (n : ℕ) (v : Spots) (l : Label) (due ahead : List Item) (old now : Local) (hand more : List Busy) : Type 0 where
+  pub places : now.places ≡ places_after l v old.places
+  pub still : doing more ahead ≡ to_do_after p n l v (doing hand due)
+  pub next : IsNext n l v (doing hand due)
+  pub booted : now.booted ≡ old.booted
+
+-- the event on node n, of the world w before it, has come to d and has told now; it is busy with hand, and then what is ahead is left
+-- to do, of all that it began with; L are the links without what it sent
+pub record Midst (p : Program) (net : Net) (q : Occasion) (n : ℕ) (opening ahead : List Item) (w : World) (L : Links) (d : Doing) (hand : List Busy) : Type 0 where
+  pub now : World
+  pub told : now ≡ record w { spots = after_labels p n d.labels w.spots }
+  pub allowed : Obeyed p q n d.labels w
+  pub sends : d.sends ≡ all_causes p n d.labels w.spots
+  pub prints : d.prints ≡ shown_by_all p n d.labels w.spots
+  pub here : Here n now.spots d.node hand
+  pub there : (k : ℕ) → eqb n k ≡ false → Here k now.spots (net.nodes k) []
+  pub links : (i j : ℕ) → LinkStands i j (under n L d.sends i j) now.spots.threads
+  pub agrees : Agrees p now.spots
+  pub aside : Aside p n opening ahead w.spots (net.nodes n) d.node d.labels hand
+
+-- the same after one more label, of a world that was told
+pub record Then (p : Program) (net : Net) (q : Occasion) (n : ℕ) (opening ahead : List Item) (w : World) (L : Links) (v : World) (l : Label) (d : Doing) (hand : List Busy) : Type 0 where
+  pub midst : Midst p net q n opening ahead w L d hand
+  pub now : midst.now ≡ world_after p n l v
+
+-- ## One more label
+
+pub after_append : (p : Program) (n : ℕ) (ls : List Label) (l : Label) (w : Spots) → after_label p n l (after_labels p n ls w) ≡ after_labels p n (ls ++ l ∷ []) w
+after_append p n [] l w = refl
+after_append p n (x ∷ ls) l w = after_append p n ls l (after_label p n x w)
+
+-- the occasion after these labels too
+abbrev pub having_said : List Label → Occasion → Occasion
+having_said ls o = record o { said = o.said ++ ls }
+
+obey_append : (rule : Rule) (p : Program) (q : Occasion) (n : ℕ) (ls : List Label) (l : Label) (w : World) → ObeyEach rule p q n ls w → rule p (having_said ls q) n l (record w { spots = after_labels p n ls w.spots }) → ObeyEach rule p q n (ls ++ l ∷ []) w
+obey_append rule p q n [] l w o h = (subst (λ z. rule p (record q { said = z }) n l w) (append-nil q.said) h, tt)
+obey_append rule p q n (x ∷ ls) l w o h = (o.0, obey_append rule p (saying x q) n ls l (world_after p n x w) o.1 (subst (λ z. rule p (record q { said = z }) n l (record w { spots = after_labels p n (x ∷ ls) w.spots })) (sym (append_assoc q.said (x ∷ []) ls)) h))
+
+causes_append : (p : Program) (n : ℕ) (ls : List Label) (l : Label) (w : Spots) → all_causes p n (ls ++ l ∷ []) w ≡ all_causes p n ls w ++ causes p n l (after_labels p n ls w)
+causes_append p n [] l w = append-nil (causes p n l w)
+causes_append p n (x ∷ ls) l w = ap (λ xs. causes p n x w ++ xs) (causes_append p n ls l (after_label p n x w)) ∙ sym (append_assoc (causes p n x w) (all_causes p n ls (after_label p n x w)) (causes p n l (after_labels p n (x ∷ ls) w)))
+
+shown_append : (p : Program) (n : ℕ) (ls : List Label) (l : Label) (w : Spots) → shown_by_all p n (ls ++ l ∷ []) w ≡ shown_by_all p n ls w ++ shown_by l (after_labels p n ls w)
+shown_append p n [] l w = append-nil (shown_by l w)
+shown_append p n (x ∷ ls) l w = ap (λ xs. shown_by x w ++ xs) (shown_append p n ls l (after_label p n x w)) ∙ sym (append_assoc (shown_by x w) (shown_by_all p n ls (after_label p n x w)) (shown_by l (after_labels p n (x ∷ ls) w)))
+
+places_append : (p : Program) (n : ℕ) (ls : List Label) (l : Label) (w : Spots) (s : Places) → places_after_all p n (ls ++ l ∷ []) w s ≡ places_after l (after_labels p n ls w) (places_after_all p n ls w s)
+places_append p n [] l w s = refl
+places_append p n (x ∷ ls) l w s = places_append p n ls l (after_label p n x w) (places_after x w s)
+
+to_do_append : (p : Program) (n : ℕ) (ls : List Label) (l : Label) (w : Spots) (to_do : List Item) → to_do_after_all p n (ls ++ l ∷ []) w to_do ≡ to_do_after p n l (after_labels p n ls w) (to_do_after_all p n ls w to_do)
+to_do_append p n [] l w to_do = refl
+to_do_append p n (x ∷ ls) l w to_do = to_do_append p n ls l (after_label p n x w) (to_do_after p n x w to_do)
+
+next_append : (p : Program) (n : ℕ) (ls : List Label) (l : Label) (w : Spots) (to_do : List Item) → NextAll p n ls w to_do → IsNext n l (after_labels p n ls w) (to_do_after_all p n ls w to_do) → NextAll p n (ls ++ l ∷ []) w to_do
+next_append p n [] l w to_do a k = (k, tt)
+next_append p n (x ∷ ls) l w to_do a k = (a.0, next_append p n ls l (after_label p n x w) (to_do_after p n x w to_do) a.1 k)
+
+aside_append : (p : Program) (n : ℕ) (opening due ahead : List Item) (w : Spots) (before old now : Local) (labels : List Label) (l : Label) (hand more : List Busy)
+    → Aside p n opening due w before old labels hand → Beside p n (after_labels p n labels w) l due ahead old now hand more → Aside p n opening ahead w before now (labels ++ l ∷ []) more
+aside_append p n opening due ahead w before old now labels l hand more a b = record {
+  places = b.places ∙ ap (places_after l (after_labels p n labels w)) a.places ∙ sym (places_append p n labels l w before.places);
+  still = b.still ∙ ap (to_do_after p n l (after_labels p n labels w)) a.still ∙ sym (to_do_append p n labels l w opening);
+  next = next_append p n labels l w opening a.next (subst (λ h. IsNext n l (after_labels p n labels w) h) a.still b.next);
+  rising = subst (λ z. IsRising z) (sym b.places) (rising_after l (after_labels p n labels w) old.places a.rising);
+  booted = λ h. b.booted ∙ a.booted h;
+}
+
+-- a label of the thread t, which comes to a new life: the event is busy with it, or goes on with what is left to do
+pub record Own (n : ℕ) (l : Label) (t : Tid) (v : Spots) (due ahead : List Item) (hand more : List Busy) (new : Life) : Type 0 where
+  pub heir : goes_on_with l v ≡ Thread t ∷ []
+  pub next : IsNext n l v (doing hand due)
+  pub still : doing more ahead ≡ cond (is_busy n new) (Does (Thread t) ∷ []) [] ++ all_but_first (doing hand due)
+
+pub beside : (p : Program) (n : ℕ) (v : Spots) (l : Label) (t : Tid) (due ahead : List Item) (old now : Local) (hand more : List Busy) (new : Life)
+    → Own n l t v due ahead hand more new → ((after_label p n l v).threads t).life ≡ new → now.places ≡ places_after l v old.places → now.booted ≡ old.booted
+    → Beside p n v l due ahead old now hand more
+beside p n v l t due ahead old now hand more new o life places booted = record {
+  places = places;
+  booted = booted;
+  next = o.next;
+  still = o.still ∙ ap (λ z. cond (is_busy n z) (Does (Thread t) ∷ []) [] ++ all_but_first (doing hand due)) (sym life) ∙ ap (λ z. busy_among n z (after_label p n l v) ++ all_but_first (doing hand due)) (sym o.heir);
+}
+
+-- ## Spots of other nodes
+
+-- node k's lists show the thread as before
+pub record Frame (k : ℕ) (t : Tid) (r s : Spot) : Type 0 where
+  pub thread : thread_part k t s ≡ thread_part k t r
+  pub row : row_part k t s ≡ row_part k t r
+  pub busy : busy_part k t s ≡ busy_part k t r
+
+abbrev pub spots_with : (Tid → Spot) → (ℕ → Holder) → (ℕ → List Birth) → (ℕ → Bool) → Remote → Spots
+spots_with threads slots births halts remote = record { threads = threads; slots = slots; births = births; halts = halts; remote = remote }
+
+pub here_kept : {remote : Remote} (k : ℕ) (w : Spots) (t : Tid) (s : Spot) (f : ℕ → Holder) (b : ℕ → List Birth) (h : ℕ → Bool) (st : Local) (hand : List Busy) → Here k w st hand → Frame k t (w.threads t) s
+    → b k ≡ w.births k → ((x : ℕ) → is_free k (f x) ≡ is_free k (w.slots x)) → h k ≡ w.halts k → Here k (spots_with (update w.threads t s) f b h remote) st hand
+here_kept k w t s f b h st hand m frame births slots halts = record {
+  threads = map_kept is_tid is-true is-refl (thread_part k) w.threads t s st.threads m.threads frame.thread;
+  rows = kept is_tid is-true is-refl listed_name (row_part k) w.threads t s (map listed st.places.rows) m.rows frame.row;
+  busy = kept is_tid is-true is-refl busy_name (busy_part k) w.threads t s hand m.busy frame.busy;
+  names = m.names ∙ sym births;
+  own = λ x. m.own x ∙ sym (slots x);
+  halted = m.halted ∙ sym halts;
+}
+
+pub updated : (w : Tid → Spot) (t : Tid) (s : Spot) → update w t s t ≡ s
+updated w t s = rw (is-refl t) refl
+
+-- ## Links
+
+abbrev pub ways_in : Tid → Spot → List Way
+ways_in t s = ways_of t s.life s.verdict s.guest
+
+pub links_kept : (t : Tid) (s : Spot) (w : Tid → Spot) (L : Links) → ((i j : ℕ) → LinkStands i j (L i j) w) → ways_in t s ≡ ways_in t (w t) → (i j : ℕ) → LinkStands i j (L i j) (update w t s)
+links_kept t s w L h e i j (Thread u) = h i j (Thread u) ∙ elim (is_tid t u) as (λ v. is_tid t u ≡ v → on_link i j (ways_in u (w u)) ≡ on_link i j (ways_in u (cond v s (w u)))) [
+  | true ↦ λ f. subst (λ z. on_link i j (ways_in z (w z)) ≡ on_link i j (ways_in z s)) (is-true t u f) (ap (on_link i j) (sym e))
+  | false ↦ λ f. refl
+] refl
+
+sent_append : (j : ℕ) (xs : List Send) (to : ℕ) (body : Body) → sent_words j (xs ++ send_to to body) ≡ cond (eqb to j) (sent_words j xs ++ word_of j body ∷ []) (sent_words j xs)
+sent_append j [] to body = refl
+sent_append j (y ∷ xs) to body = elim (eqb y.to j) as (λ v. cond v (word_of j y.body ∷ sent_words j (xs ++ send_to to body)) (sent_words j (xs ++ send_to to body)) ≡ cond (eqb to j) (cond v (word_of j y.body ∷ sent_words j xs) (sent_words j xs) ++ word_of j body ∷ []) (cond v (word_of j y.body ∷ sent_words j xs) (sent_words j xs)))
+    [ true ↦ ap (λ bs. word_of j y.body ∷ bs) (sent_append j xs to body) ∙ by_test (eqb to j) | false ↦ sent_append j xs to body ]
+  where
+    by_test : (v : Bool) → word_of j y.body ∷ cond v (sent_words j xs ++ word_of j body ∷ []) (sent_words j xs) ≡ cond v ((word_of j y.body ∷ sent_words j xs) ++ word_of j body ∷ []) (word_of j y.body ∷ sent_words j xs)
+    by_test true = refl
+    by_test false = refl
+
+abbrev none_of : List Word
+none_of = []
+
+no_more : (v : Bool) → none_of ≡ cond v none_of none_of
+no_more true = refl
+no_more false = refl
+
+-- a packet is put on a link, and is the last that is under way of its thread
+pub put_link : (n to : ℕ) (body : Body) (t : Tid) (s : Spot) (L : Links) (sends : List Send) (w : Tid → Spot) → ((i j : ℕ) → LinkStands i j (under n L sends i j) w)
+    → word_subject (word_of to body) ≡ Thread t
+    → ways_in t s ≡ ways_in t (w t) ++ way n to (word_of to body)
+    → (i j : ℕ) → LinkStands i j (under n L (sends ++ send_to to body) i j) (update w t s)
+put_link n to body t s L sends w h name new i j (Thread u) =
+    ap (λ xs. words_about xs (Thread u)) grown ∙ about-append (under n L sends i j) more (Thread u) ∙ ap (λ xs. xs ++ words_about more (Thread u)) (h i j (Thread u)) ∙ by (is_tid t u) refl
+  where
+    more : List Word
+    more = cond (eqb n i && eqb to j) (word_of j body ∷ []) []
+
+    grown : under n L (sends ++ send_to to body) i j ≡ under n L sends i j ++ more
+    grown = by_tests (eqb n i) (eqb to j) (sent_append j sends to body)
+      where
+        by_tests : (a b : Bool) → sent_words j (sends ++ send_to to body) ≡ cond b (sent_words j sends ++ word_of j body ∷ []) (sent_words j sends)
+            → L i j ++ cond a (sent_words j (sends ++ send_to to body)) [] ≡ (L i j ++ cond a (sent_words j sends) []) ++ cond (a && b) (word_of j body ∷ []) []
+        by_tests true true e = ap (λ xs. L i j ++ xs) e ∙ sym (append_assoc (L i j) (sent_words j sends) (word_of j body ∷ []))
+        by_tests true false e = ap (λ xs. L i j ++ xs) e ∙ sym (append-nil (L i j ++ sent_words j sends))
+        by_tests false b e = sym (append-nil (L i j ++ []))
+
+    there : on_link i j (way n to (word_of to body)) ≡ more
+    there = by_tests (eqb n i) (eqb to j) refl
+      where
+        by_tests : (a b : Bool) → eqb to j ≡ b → cond (a && b) (word_of to body ∷ []) [] ≡ cond (a && b) (word_of j body ∷ []) []
+        by_tests true true e = ap (λ k. word_of k body ∷ []) (eqb-true to j e)
+        by_tests true false e = refl
+        by_tests false b e = refl
+
+    -- it is of t alone
+    own : (u : Tid) → words_about more (Thread u) ≡ cond (is_tid t u) more []
+    own u = by_tests (eqb n i) (eqb to j) refl
+      where
+        by_tests : (a b : Bool) → eqb to j ≡ b → words_about (cond (a && b) (word_of j body ∷ []) []) (Thread u) ≡ cond (is_tid t u) (cond (a && b) (word_of j body ∷ []) []) []
+        by_tests true true e =
+            let of : word_subject (word_of j body) ≡ Thread t = ap (λ k. word_subject (word_of k body)) (sym (eqb-true to j e)) ∙ name in
+            ap (λ z. cond (same_subject (Thread u) z) (word_of j body ∷ []) []) of ∙ ap (λ v. cond v (word_of j body ∷ []) []) (is-same u t)
+        by_tests true false e = no_more (is_tid t u)
+        by_tests false b e = no_more (is_tid t u)
+
+    by : (v : Bool) → is_tid t u ≡ v → on_link i j (ways_in u (w u)) ++ words_about more (Thread u) ≡ on_link i j (ways_in u (cond v s (w u)))
+    by true e = subst (λ z. on_link i j (ways_in z (w z)) ++ words_about more (Thread z) ≡ on_link i j (ways_in z s)) (is-true t u e)
+        (ap (λ xs. on_link i j (ways_in t (w t)) ++ xs) (own t ∙ ap (λ v. cond v more []) (is-refl t) ∙ sym there)
+        ∙ sym (on_link-append i j (ways_in t (w t)) (way n to (word_of to body))) ∙ ap (on_link i j) (sym new))
+    by false e = ap (λ xs. on_link i j (ways_in u (w u)) ++ xs) (own u ∙ ap (λ v. cond v more []) e) ∙ append-nil (on_link i j (ways_in u (w u)))
+
+abbrev pub at_link : ℕ → ℕ → (List Word → List Word) → Links → Links
+at_link a b f L i j = cond (eqb a i) (cond (eqb b j) (f (L i j)) (L i j)) (L i j)
+
+-- a packet is taken off a link, which was the first under way of its thread
+pub take_link : (a b : ℕ) (y : Word) (t : Tid) (s : Spot) (L : Links) (w : Tid → Spot) → ((i j : ℕ) → LinkStands i j (L i j) w)
+    → ways_in t (w t) ≡ way a b y ++ ways_in t s
+    → (i j : ℕ) → LinkStands i j (at_link a b (less_word (Thread t)) L i j) (update w t s)
+take_link a b y t s L w h old i j (Thread u) = by (eqb a i) (eqb b j) (is_tid t u) refl refl refl
+  where
+    of_t : (x z : Bool) → eqb a i ≡ x → eqb b j ≡ z → on_link i j (ways_in t (w t)) ≡ cond (x && z) (y ∷ on_link i j (ways_in t s)) (on_link i j (ways_in t s))
+    of_t x z e f = ap (on_link i j) old ∙ ap (λ v. cond (v && eqb b j) (y ∷ on_link i j (ways_in t s)) (on_link i j (ways_in t s))) e ∙ ap (λ v. cond (x && v) (y ∷ on_link i j (ways_in t s)) (on_link i j (ways_in t s))) f
+
+    by : (x z v : Bool) → eqb a i ≡ x → eqb b j ≡ z → is_tid t u ≡ v → words_about (cond x (cond z (less_word (Thread t) (L i j)) (L i j)) (L i j)) (Thread u) ≡ on_link i j (ways_in u (cond v s (w u)))
+    by true true true e f g = subst (λ k. words_about (less_word (Thread t) (L i j)) (Thread k) ≡ on_link i j (ways_in k s)) (is-true t u g)
+        (about-less (L i j) (Thread t) ∙ ap rest_words (h i j (Thread t) ∙ of_t true true e f))
+    by true true false e f g = about-less_other (L i j) (Thread t) (Thread u) g ∙ h i j (Thread u)
+    by true false true e f g = subst (λ k. words_about (L i j) (Thread k) ≡ on_link i j (ways_in k s)) (is-true t u g) (h i j (Thread t) ∙ of_t true false e f)
+    by true false false e f g = h i j (Thread u)
+    by false z true e f g = subst (λ k. words_about (L i j) (Thread k) ≡ on_link i j (ways_in k s)) (is-true t u g) (h i j (Thread t) ∙ of_t false z e f)
+    by false z false e f g = h i j (Thread u)
+
+none_under : (n : ℕ) (L : Links) (i j : ℕ) → under n L [] i j ≡ L i j
+none_under n L i j = elim (eqb n i) as (λ v. L i j ++ cond v [] [] ≡ L i j) [ true ↦ append-nil (L i j) | false ↦ append-nil (L i j) ]
+
+pub nothing_sent : (n : ℕ) (L : Links) (i j : ℕ) (w : Tid → Spot) → LinkStands i j (L i j) w → LinkStands i j (under n L [] i j) w
+nothing_sent n L i j w h = subst (λ bs. LinkStands i j bs w) (sym (none_under n L i j)) h
+
+pub nothing_sent_from : (n : ℕ) (L : Links) (i j : ℕ) (w : Tid → Spot) → LinkStands i j (under n L [] i j) w → LinkStands i j (L i j) w
+nothing_sent_from n L i j w h = subst (λ bs. LinkStands i j bs w) (none_under n L i j) h
+
+-- ## What all nodes share
+
+-- a life that neither waits for another's end nor has halted
+abbrev pub is_plain : Life → Bool
+is_plain (On m (Awaits u)) = false
+is_plain (On m Stays) = false
+is_plain _ = true
+
+pub record Plain (life : Life) : Type 0 where
+  pub waits : (u : Tid) (m : ℕ) → life ≡ On m (Awaits u) → ⊥
+  pub stays : (m : ℕ) → life ≡ On m Stays → ⊥
+
+pub plain : (life : Life) → is_plain life ≡ true → Plain life
+plain life h = record { waits = λ u m e. absurd (cc (ap is_plain e, h)); stays = λ m e. absurd (cc (ap is_plain e, h)) }
+
+-- a thread keeps its slots, and its blocks lie well in them
+pub record Keeps (old new : Option Holding) : Type 0 where
+  pub slots : slots_held new ≡ slots_held old
+  pub well : IsWellHeld old → IsWellHeld new
+
+pub keeps : (old new : Option Holding) → new ≡ old → Keeps old new
+keeps old new e = record { slots = ap slots_held e; well = λ h. subst (λ x. IsWellHeld x) (sym e) h }
+
+-- a thread that keeps its phase and its slots, and that no record names as a joiner
+pub agrees_kept : {remote : Remote} (p : Program) (w : Spots) (t : Tid) (s : Spot) (h : ℕ → Bool) → Agrees p w
+    → phase_of s.life ≡ phase_of (w.threads t).life
+    → ((u : Tid) (m : ℕ) → (w.threads t).life ≡ On m (Awaits u) → ⊥)
+    → Keeps (held (w.threads t).life (w.threads t).guest) (held s.life s.guest)
+    → ((w.threads t).life ≡ Unborn → ⊥)
+    → ((u : Tid) (m : ℕ) → s.life ≡ On m (Awaits u) → ⊥)
+    → ((m : ℕ) → s.life ≡ On m Stays → h m ≡ true)
+    → ((m : ℕ) → w.halts m ≡ true → h m ≡ true)
+    → Agrees p (spots_with (update w.threads t s) w.slots w.births h remote)
+agrees_kept p w t s h a phase quiet kept born idle stay more = record {
+  waits = λ u by at e. elim (is_tid t by) as (λ v. (cond v s (w.threads by)).life ≡ On at (Awaits u) → slice_get (w.births u.home) u.seq ≡ Some (Awaited by at)) [ true ↦ λ f. absurd (idle u at f) | false ↦ λ f. a.waits u by at f ] e;
+  stays = λ u m e. elim (is_tid t u) as (λ v. (cond v s (w.threads u)).life ≡ On m Stays → h m ≡ true) [ true ↦ λ f. stay m f | false ↦ λ f. more m (a.stays u m f) ] e;
+  homes = λ u out. elim (is_tid t u) as (λ v. is_tid t u ≡ v → (cond v s (w.threads u)).life ≡ Unborn) [
+    | true ↦ λ e. absurd (born (subst (λ x. (w.threads x).life ≡ Unborn) (sym (is-true t u e)) (a.homes u out)))
+    | false ↦ λ e. a.homes u out
+  ] refl;
+  named = λ u. elim (is_tid t u) as (λ v. is_tid t u ≡ v → phase_at (slice_get (w.births u.home) u.seq) ≡ phase_of (cond v s (w.threads u)).life) [
+    | true ↦ λ e. a.named u ∙ ap (λ x. phase_of (w.threads x).life) (sym (is-true t u e)) ∙ sym phase
+    | false ↦ λ e. a.named u
+  ] refl;
+  awaits = λ u by at e. elim (is_tid t by) as (λ v. is_tid t by ≡ v → (cond v s (w.threads by)).life ≡ On at (Awaits u)) [
+    | true ↦ λ f. absurd (quiet u at (subst (λ x. (w.threads x).life ≡ On at (Awaits u)) (sym (is-true t by f)) (a.awaits u by at e)))
+    | false ↦ λ f. a.awaits u by at e
+  ] refl;
+  slots = λ u x. elim (is_tid t u) as (λ v. is_tid t u ≡ v → has x (slots_held (held (cond v s (w.threads u)).life (cond v s (w.threads u)).guest)) ≡ is_thread u (w.slots x)) [
+    | true ↦ λ e. ap (has x) kept.slots ∙ ap (λ y. has x (slots_held (held (w.threads y).life (w.threads y).guest))) (is-true t u e) ∙ a.slots u x
+    | false ↦ λ e. a.slots u x
+  ] refl;
+  blocks = λ u. elim (is_tid t u) as (λ v. IsWellHeld (held (cond v s (w.threads u)).life (cond v s (w.threads u)).guest)) [
+    | true ↦ kept.well (a.blocks t)
+    | false ↦ a.blocks u
+  ];
+}
+
+-- ## The one lemma for a label
+
+module _ (p : Program) (net : Net) (q : Occasion) (n : ℕ) (opening ahead : List Item) (w : World) where
+  -- a label, with what goes with it, before which this was ahead
+  pub labelled : (due : List Item) (L M : Links) (d : Doing) (hand more : List Busy) (l : Label) (v : Spots) (now : Local) (sends : List Send) (prints : List ℕ)
+      → (m : Midst p net q n opening due w L d hand) → after_label p n l m.now.spots ≡ v → Allows p (having_said d.labels q) n l m.now
+      → sends ≡ d.sends ++ causes p n l m.now.spots → prints ≡ d.prints ++ shown_by l m.now.spots
+      → Here n v now more
+      → ((k : ℕ) → eqb n k ≡ false → Here k v (net.nodes k) [])
+      → ((i j : ℕ) → LinkStands i j (under n M sends i j) v.threads)
+      → Agrees p v
+      → Beside p n m.now.spots l due ahead d.node now hand more
+      → Then p net q n opening ahead w M m.now l (record { node = now; labels = d.labels ++ l ∷ []; sends = sends; prints = prints }) more
+  labelled due L M d hand more l v now sends prints m same ok sent shown here there links agrees aside =
+      let told : m.now ≡ record w { spots = after_labels p n d.labels w.spots } = m.told in
+      let spots : m.now.spots ≡ after_labels p n d.labels w.spots = ap (λ (z : World). z.spots) told in
+      let may : Allows p (having_said d.labels q) n l (record w { spots = after_labels p n d.labels w.spots }) = subst (λ z. Allows p (having_said d.labels q) n l z) told ok in
+      record {
+        now = ap (λ (z : Spots). record m.now { spots = z }) (sym same);
+        midst = record {
+          now = record m.now { spots = v };
+          told = ap (λ (z : Spots). record m.now { spots = z }) (sym same) ∙ ap (world_after p n l) told ∙ ap (λ (z : Spots). record w { spots = z }) (after_append p n d.labels l w.spots);
+          allowed = record {
+            solo = obey_append SoloRule p q n d.labels l w m.allowed.solo may.solo;
+            holders = obey_append HoldersRule p q n d.labels l w m.allowed.holders may.holders;
+            life = obey_append LifeRule p q n d.labels l w m.allowed.life may.life;
+            replies = obey_append RepliesRule p q n d.labels l w m.allowed.replies may.replies;
+            grants = obey_append GrantsRule p q n d.labels l w m.allowed.grants may.grants;
+          };
+          sends = sent ∙ ap (λ z. d.sends ++ causes p n l z) spots ∙ ap (λ xs. xs ++ causes p n l (after_labels p n d.labels w.spots)) m.sends ∙ sym (causes_append p n d.labels l w.spots);
+          prints = shown ∙ ap (λ z. d.prints ++ shown_by l z) spots ∙ ap (λ xs. xs ++ shown_by l (after_labels p n d.labels w.spots)) m.prints ∙ sym (shown_append p n d.labels l w.spots);
+          here = here;
+          there = there;
+          links = links;
+          agrees = agrees;
+          aside = aside_append p n opening due ahead w.spots (net.nodes n) d.node now d.labels l hand more m.aside (subst (λ z. Beside p n z l due ahead d.node now hand more) spots aside);
+        };
+      }
