@@ -208,23 +208,41 @@ module _ (p : Program) (net : Net) (q : Occasion) (n : ℕ) (opening ahead : Lis
       let s : Spot = spot m.now.spots t in
       let x : s.life ≡ On n (Leaves end) = in_hand p net q n opening ahead w L d t (On n (Leaves end)) hs m in
       let r : Spot = record s { life = Noting n end } in
-      (send_step p net q n opening ahead w L ahead d _ hs (Ended t end) t r d.node t.home (EndNote t.seq end) m refl
-      (record { solo = tt; holders = tt; life = x; replies = tt; grants = tt }) refl refl
-      (ap (λ z. ways_of t z s.verdict s.guest) x) refl refl
+      (send_step p net q n opening ahead w L ahead d _ hs (Ended t end) t r d.node t.home (EndNote t.seq end) m
       (record {
-        threads = map_kept is_tid is-true is-refl (thread_part n) v.threads t r d.node.threads m.here.threads (sym (thread_was p net q n opening ahead w L s t (Leaves end) x));
-        rows = kept is_tid is-true is-refl listed_name (row_part n) v.threads t r (map listed d.node.places.rows) m.here.rows (sym (row_was p net q n opening ahead w L s t (Leaves end) x));
-        busy = unfronted is_tid is-true is-refl busy_name (busy_part n) v.threads t r hs (busy t (On n (Leaves end))) m.here.busy refl refl;
-      }) refl refl refl
-      (λ k e. record {
-        thread = sym (away_thread n k t s (Leaves end) x e);
-        row = sym (away_row n k t s (Leaves end) x e);
-        busy = sym (busy_none k t s (On n (Leaves end)) x e);
+        same = refl;
+        may = record { solo = tt; holders = tt; life = x; replies = tt; grants = tt };
+        ties = record {
+          threads = map_kept is_tid is-true is-refl (thread_part n) v.threads t r d.node.threads m.here.threads (sym (thread_was p net q n opening ahead w L s t (Leaves end) x));
+          rows = kept is_tid is-true is-refl listed_name (row_part n) v.threads t r (map listed d.node.places.rows) m.here.rows (sym (row_was p net q n opening ahead w L s t (Leaves end) x));
+          busy = unfronted is_tid is-true is-refl busy_name (busy_part n) v.threads t r hs (busy t (On n (Leaves end))) m.here.busy refl refl;
+        };
+        names = refl;
+        own = refl;
+        halted = refl;
+        next = own_goes p net q n opening ahead w L d t (On n (Leaves end)) hs (Ended t end) (Noting n end) m refl refl refl;
+        places = refl;
+        booted = refl;
       })
-      (sym (ap phase_of x))
-      (λ u k e. home_quiet n (Leaves end) refl u k (sym x ∙ e))
-      (keeps _ _ (sym (ap (λ z. held z s.guest) x)))
-      (λ e. absurd (cc (e, x))) (plain _ refl) (own_goes p net q n opening ahead w L d t (On n (Leaves end)) hs (Ended t end) (Noting n end) m refl refl refl) refl refl).midst
+      (record {
+        sent = refl;
+        shown = refl;
+        before = ap (λ z. ways_of t z s.verdict s.guest) x;
+        after = refl;
+        name = refl;
+      })
+      (record {
+        frame = λ k e. record {
+          thread = sym (away_thread n k t s (Leaves end) x e);
+          row = sym (away_row n k t s (Leaves end) x e);
+          busy = sym (busy_none k t s (On n (Leaves end)) x e);
+        };
+        phase = sym (ap phase_of x);
+        quiet = λ u k e. home_quiet n (Leaves end) refl u k (sym x ∙ e);
+        holds = keeps _ _ (sym (ap (λ z. held z s.guest) x));
+        unborn = λ e. absurd (cc (e, x));
+        whole = plain _ refl;
+      })).midst
 
   pub end_thread_ok : (d : Doing) (t : Tid) (end : End) (hs : List Busy) → (m : Is d (busy t (On n (Ends end)) ∷ hs)) → Is (end_thread t (waits wait.No (spot m.now.spots t).guest) end d) hs
   end_thread_ok d t end hs m = ends_ok (gives t (waits wait.No (spot m.now.spots t).guest) d) t end hs (gives_ok d t end hs m)

@@ -72,84 +72,91 @@ module _ (p : Program) (net : Net) (q : Occasion) (n : ℕ) (opening ahead : Lis
   pub life_then : (v : Spots) (l : Label) (t : Tid) (r : Spot) (u : Spots) → after_label p n l v ≡ u → u.threads ≡ update v.threads t r → ((after_label p n l v).threads t).life ≡ r.life
   life_then v l t r u same threads = ap (λ (x : Spots). (x.threads t).life) same ∙ ap (λ f. (f t).life) threads ∙ ap (λ (z : Spot). z.life) (updated v.threads t r)
 
+  -- a label of t that n may say here, and what it leaves as it was
+  pub record IsMove (due : List Item) (d : Doing) (hand more : List Busy) (l : Label) (t : Tid) (r : Spot) (now : Local) (m : Midst p net q n opening due w L d hand) : Type 0 where
+    pub same : after_label p n l m.now.spots ≡ spots_with (update m.now.spots.threads t r) m.now.spots.slots m.now.spots.births m.now.spots.halts (remote_after l m.now.spots.remote)
+    pub may : Allows p (having_said d.labels q) n l m.now
+    pub ties : Ties m.now.spots t r now more
+    pub names : now.names ≡ d.node.names
+    pub own : now.slots.own ≡ d.node.slots.own
+    pub halted : now.halted ≡ d.node.halted
+    pub next : Own n l t m.now.spots due ahead hand more r.life
+    pub places : now.places ≡ places_after l m.now.spots d.node.places
+    pub booted : now.booted ≡ d.node.booted
+
+  -- what the other nodes and t's home see of t's new spot
+  pub record IsSeen (t : Tid) (r : Spot) (v : Spots) : Type 0 where
+    pub frame : (k : ℕ) → eqb n k ≡ false → Frame k t (spot v t) r
+    pub phase : phase_of r.life ≡ phase_of (spot v t).life
+    pub quiet : (u : Tid) (k : ℕ) → (spot v t).life ≡ On k (Awaits u) → ⊥
+    pub holds : Keeps (held (spot v t).life (spot v t).guest) (held r.life r.guest)
+    pub unborn : (spot v t).life ≡ Unborn → ⊥
+    pub whole : Plain r.life
+
+  -- t stays on node n, in another stage, and says nothing to a link or a console
+  pub record IsAtHome (l : Label) (t : Tid) (r : Spot) (a b : Stage) (v : Spots) : Type 0 where
+    pub sent : causes p n l v ≡ []
+    pub shown : shown_by l v ≡ []
+    pub was : (spot v t).life ≡ On n a
+    pub is : r.life ≡ On n b
+    pub home_was : is_home a ≡ true
+    pub home_is : is_home b ≡ true
+    pub holds : Keeps (held_in_stage a (spot v t).guest) (held_in_stage b r.guest)
+
+  -- t's one packet goes to a node
+  pub record IsSent (l : Label) (t : Tid) (r : Spot) (to : ℕ) (body : Body) (v : Spots) : Type 0 where
+    pub sent : causes p n l v ≡ send_to to body
+    pub shown : shown_by l v ≡ []
+    pub before : ways_of t (spot v t).life (spot v t).verdict (spot v t).guest ≡ []
+    pub after : ways_of t r.life r.verdict r.guest ≡ way n to (word_of to body)
+    pub name : word_subject (word_of to body) ≡ Its t
+
   -- a label of one thread, that leaves slots, births and halts; before it, this was ahead
   pub moved : (due : List Item) (M : Links) (d : Doing) (hand more : List Busy) (l : Label) (t : Tid) (r : Spot) (now : Local) (sends : List Send) (prints : List ℕ)
-      → (m : Midst p net q n opening due w L d hand)
-      → after_label p n l m.now.spots ≡ spots_with (update m.now.spots.threads t r) m.now.spots.slots m.now.spots.births m.now.spots.halts (remote_after l m.now.spots.remote)
-      → Allows p (having_said d.labels q) n l m.now
+      → (m : Midst p net q n opening due w L d hand) → IsMove due d hand more l t r now m
       → sends ≡ d.sends ++ causes p n l m.now.spots → prints ≡ d.prints ++ shown_by l m.now.spots
-      → Ties m.now.spots t r now more
-      → now.names ≡ d.node.names → now.slots.own ≡ d.node.slots.own → now.halted ≡ d.node.halted
-      → ((k : ℕ) → eqb n k ≡ false → Frame k t (spot m.now.spots t) r)
+      → IsSeen t r m.now.spots
       → ((i j : ℕ) → LinkStands i j (under n M sends i j) (update m.now.spots.threads t r))
-      → phase_of r.life ≡ phase_of (spot m.now.spots t).life
-      → ((u : Tid) (k : ℕ) → (spot m.now.spots t).life ≡ On k (Awaits u) → ⊥)
-      → Keeps (held (spot m.now.spots t).life (spot m.now.spots t).guest) (held r.life r.guest)
-      → ((spot m.now.spots t).life ≡ Unborn → ⊥)
-      → Plain r.life
-      → Own n l t m.now.spots due ahead hand more r.life → now.places ≡ places_after l m.now.spots d.node.places → now.booted ≡ d.node.booted
       → Then p net q n opening ahead w M m.now l (record { node = now; labels = d.labels ++ l ∷ []; sends = sends; prints = prints }) more
-  moved due M d hand more l t r now sends prints m same ok sent shown ties names own halted frame links phase quiet slots born idle next places booted =
+  moved due M d hand more l t r now sends prints m move sent shown seen links =
       let v : Spots = m.now.spots in
-      labelled p net q n opening ahead w due L M d hand more l (spots_with (update v.threads t r) v.slots v.births v.halts (remote_after l v.remote)) now sends prints m same ok sent shown
-      (record { threads = ties.threads; rows = ties.rows; busy = ties.busy; names = names ∙ m.here.names; own = λ x. ap (λ (xs : List ℕ). has x xs) own ∙ m.here.own x; halted = halted ∙ m.here.halted })
-      (λ k e. here_kept k v t r v.slots v.births v.halts (net.nodes k) [] (m.there k e) (frame k e) refl (λ x. refl) refl)
+      labelled p net q n opening ahead w due L M d hand more l (spots_with (update v.threads t r) v.slots v.births v.halts (remote_after l v.remote)) now sends prints m move.same move.may sent shown
+      (record { threads = move.ties.threads; rows = move.ties.rows; busy = move.ties.busy; names = move.names ∙ m.here.names; own = λ x. ap (λ (xs : List ℕ). has x xs) move.own ∙ m.here.own x; halted = move.halted ∙ m.here.halted })
+      (λ k e. here_kept k v t r v.slots v.births v.halts (net.nodes k) [] (m.there k e) (seen.frame k e) refl (λ x. refl) refl)
       links
-      (agrees_kept p v t r v.halts m.agrees phase quiet slots born idle.waits (λ k e. absurd (idle.stays k e)) (λ k e. e))
-      (beside p n v l t due ahead d.node now hand more r.life next (life_then m.now.spots l t r _ same refl) places booted)
+      (agrees_kept p v t r v.halts m.agrees seen.phase seen.quiet seen.holds seen.unborn seen.whole.waits (λ k e. absurd (seen.whole.stays k e)) (λ k e. e))
+      (beside p n v l t due ahead d.node now hand more r.life move.next (life_then m.now.spots l t r _ move.same refl) move.places move.booted)
 
   -- a label that leaves its thread on node n, and no packet
   pub home_step : (due : List Item) (d : Doing) (hand more : List Busy) (l : Label) (t : Tid) (r : Spot) (now : Local) (a b : Stage)
-      → (m : Midst p net q n opening due w L d hand)
-      → after_label p n l m.now.spots ≡ spots_with (update m.now.spots.threads t r) m.now.spots.slots m.now.spots.births m.now.spots.halts (remote_after l m.now.spots.remote)
-      → Allows p (having_said d.labels q) n l m.now
-      → causes p n l m.now.spots ≡ [] → shown_by l m.now.spots ≡ []
-      → (spot m.now.spots t).life ≡ On n a → r.life ≡ On n b → is_home a ≡ true → is_home b ≡ true
-      → Keeps (held_in_stage a (spot m.now.spots t).guest) (held_in_stage b r.guest)
-      → Ties m.now.spots t r now more
-      → now.names ≡ d.node.names → now.slots.own ≡ d.node.slots.own → now.halted ≡ d.node.halted
-      → Own n l t m.now.spots due ahead hand more r.life → now.places ≡ places_after l m.now.spots d.node.places → now.booted ≡ d.node.booted
+      → (m : Midst p net q n opening due w L d hand) → IsMove due d hand more l t r now m → IsAtHome l t r a b m.now.spots
       → Then p net q n opening ahead w L m.now l (record { node = now; labels = d.labels ++ l ∷ []; sends = d.sends; prints = d.prints }) more
-  home_step due d hand more l t r now a b m same ok sent shown x y home_a home_b slots ties names own halted next places booted =
+  home_step due d hand more l t r now a b m move home =
       let s : Spot = spot m.now.spots t in
-      let old : ways_of t s.life s.verdict s.guest ≡ [] = ap (λ z. ways_of t z s.verdict s.guest) x ∙ home_way t n a s.verdict s.guest home_a in
-      let new : ways_of t r.life r.verdict r.guest ≡ [] = ap (λ z. ways_of t z r.verdict r.guest) y ∙ home_way t n b r.verdict r.guest home_b in
-      moved due L d hand more l t r now d.sends d.prints m same ok
-      (sym (append-nil d.sends) ∙ ap (λ z. d.sends ++ z) (sym sent)) (sym (append-nil d.prints) ∙ ap (λ z. d.prints ++ z) (sym shown))
-      ties names own halted
-      (λ k e. frame_home n k t s r a b x y home_a home_b e)
+      let old : ways_of t s.life s.verdict s.guest ≡ [] = ap (λ z. ways_of t z s.verdict s.guest) home.was ∙ home_way t n a s.verdict s.guest home.home_was in
+      let new : ways_of t r.life r.verdict r.guest ≡ [] = ap (λ z. ways_of t z r.verdict r.guest) home.is ∙ home_way t n b r.verdict r.guest home.home_is in
+      let unborn : s.life ≡ Unborn → ⊥ = λ e. let x = home.was in absurd (cc (e, x)) in
+      moved due L d hand more l t r now d.sends d.prints m move
+      (sym (append-nil d.sends) ∙ ap (λ z. d.sends ++ z) (sym home.sent)) (sym (append-nil d.prints) ∙ ap (λ z. d.prints ++ z) (sym home.shown))
+      (record {
+        frame = λ k e. frame_home n k t s r a b home.was home.is home.home_was home.home_is e;
+        phase = ap phase_of home.is ∙ sym (ap phase_of home.was);
+        quiet = λ u k e. home_quiet n a home.home_was u k (sym home.was ∙ e);
+        holds = subst (λ z. Keeps (held s.life s.guest) (held z r.guest)) (sym home.is) (subst (λ z. Keeps (held z s.guest) (held_in_stage b r.guest)) (sym home.was) home.holds);
+        unborn = unborn;
+        whole = subst (λ z. Plain z) (sym home.is) (home_plain n b home.home_is);
+      })
       (λ i j. links_kept t r m.now.spots.threads (under n L d.sends) m.links (new ∙ sym old) i j)
-      (ap phase_of y ∙ sym (ap phase_of x))
-      (λ u k e. home_quiet n a home_a u k (sym x ∙ e))
-      (subst (λ z. Keeps (held s.life s.guest) (held z r.guest)) (sym y) (subst (λ z. Keeps (held z s.guest) (held_in_stage b r.guest)) (sym x) slots))
-      (λ e. absurd (cc (e, x)))
-      (subst (λ z. Plain z) (sym y) (home_plain n b home_b)) next places booted
 
   -- a label by which its thread, on node n, comes to wait for what a packet brings
   pub send_step : (due : List Item) (d : Doing) (hand more : List Busy) (l : Label) (t : Tid) (r : Spot) (now : Local) (to : ℕ) (body : Body)
-      → (m : Midst p net q n opening due w L d hand)
-      → after_label p n l m.now.spots ≡ spots_with (update m.now.spots.threads t r) m.now.spots.slots m.now.spots.births m.now.spots.halts (remote_after l m.now.spots.remote)
-      → Allows p (having_said d.labels q) n l m.now
-      → causes p n l m.now.spots ≡ send_to to body → shown_by l m.now.spots ≡ []
-      → ways_of t (spot m.now.spots t).life (spot m.now.spots t).verdict (spot m.now.spots t).guest ≡ []
-      → ways_of t r.life r.verdict r.guest ≡ way n to (word_of to body)
-      → word_subject (word_of to body) ≡ Its t
-      → Ties m.now.spots t r now more
-      → now.names ≡ d.node.names → now.slots.own ≡ d.node.slots.own → now.halted ≡ d.node.halted
-      → ((k : ℕ) → eqb n k ≡ false → Frame k t (spot m.now.spots t) r)
-      → phase_of r.life ≡ phase_of (spot m.now.spots t).life
-      → ((u : Tid) (k : ℕ) → (spot m.now.spots t).life ≡ On k (Awaits u) → ⊥)
-      → Keeps (held (spot m.now.spots t).life (spot m.now.spots t).guest) (held r.life r.guest)
-      → ((spot m.now.spots t).life ≡ Unborn → ⊥)
-      → Plain r.life
-      → Own n l t m.now.spots due ahead hand more r.life → now.places ≡ places_after l m.now.spots d.node.places → now.booted ≡ d.node.booted
+      → (m : Midst p net q n opening due w L d hand) → IsMove due d hand more l t r now m → IsSent l t r to body m.now.spots → IsSeen t r m.now.spots
       → Then p net q n opening ahead w L m.now l (record { node = now; labels = d.labels ++ l ∷ []; sends = d.sends ++ send_to to body; prints = d.prints }) more
-  send_step due d hand more l t r now to body m same ok sent shown old new name ties names own halted frame phase quiet slots born idle next places booted =
-      moved due L d hand more l t r now (d.sends ++ send_to to body) d.prints m same ok
-      (ap (λ z. d.sends ++ z) (sym sent)) (sym (append-nil d.prints) ∙ ap (λ z. d.prints ++ z) (sym shown))
-      ties names own halted frame
-      (λ i j. put_link n to body t r L d.sends m.now.spots.threads m.links name (new ∙ ap (λ xs. xs ++ way n to (word_of to body)) (sym old)) i j)
-      phase quiet slots born idle next places booted
+  send_step due d hand more l t r now to body m move packet seen =
+      moved due L d hand more l t r now (d.sends ++ send_to to body) d.prints m move
+      (ap (λ z. d.sends ++ z) (sym packet.sent)) (sym (append-nil d.prints) ∙ ap (λ z. d.prints ++ z) (sym packet.shown))
+      seen
+      (λ i j. put_link n to body t r L d.sends m.now.spots.threads m.links packet.name (packet.after ∙ ap (λ xs. xs ++ way n to (word_of to body)) (sym packet.before)) i j)
 
   -- ## What the event is busy with
 
@@ -224,12 +231,31 @@ module _ (p : Program) (net : Net) (q : Occasion) (n : ℕ) (opening ahead : Lis
       let s : Spot = spot m.now.spots t in
       let x : s.life ≡ On n a = in_hand d t (On n a) hs m in
       let r : Spot = record s { life = On n b; verdict = record { code = code; extra = extra_of second } } in
-      home_step ahead d _ (busy t (On n b) ∷ hs) (Judged t code (extra_of second)) t r d.node a b m same ok sent refl x refl home home_b (keeps _ _ (slots_b ∙ sym slots))
+      home_step ahead d _ (busy t (On n b) ∷ hs) (Judged t code (extra_of second)) t r d.node a b m
       (record {
-        threads = map_kept is_tid is-true is-refl (thread_part n) v.threads t r d.node.threads m.here.threads (thread_was r t b refl ∙ there_b ∙ sym (thread_was s t a x ∙ there));
-        rows = kept is_tid is-true is-refl listed_name (row_part n) v.threads t r (map listed d.node.places.rows) m.here.rows (row_was r t b refl ∙ row_b ∙ sym (row_was s t a x ∙ row));
-        busy = refronted is_tid is-true is-refl busy_name (busy_part n) v.threads t r hs (busy t (On n a)) (busy t (On n b)) m.here.busy refl refl (busy_was r t (On n b) refl busied);
-      }) refl refl refl (own_stays d t (On n a) hs (Judged t code (extra_of second)) (On n b) (On n b) m refl refl busied) refl refl
+        same = same;
+        may = ok;
+        ties = record {
+          threads = map_kept is_tid is-true is-refl (thread_part n) v.threads t r d.node.threads m.here.threads (thread_was r t b refl ∙ there_b ∙ sym (thread_was s t a x ∙ there));
+          rows = kept is_tid is-true is-refl listed_name (row_part n) v.threads t r (map listed d.node.places.rows) m.here.rows (row_was r t b refl ∙ row_b ∙ sym (row_was s t a x ∙ row));
+          busy = refronted is_tid is-true is-refl busy_name (busy_part n) v.threads t r hs (busy t (On n a)) (busy t (On n b)) m.here.busy refl refl (busy_was r t (On n b) refl busied);
+        };
+        names = refl;
+        own = refl;
+        halted = refl;
+        next = own_stays d t (On n a) hs (Judged t code (extra_of second)) (On n b) (On n b) m refl refl busied;
+        places = refl;
+        booted = refl;
+      })
+      (record {
+        sent = sent;
+        shown = refl;
+        was = x;
+        is = refl;
+        home_was = home;
+        home_is = home_b;
+        holds = keeps _ _ (slots_b ∙ sym slots);
+      })
 
   -- what a thread that is told is then
   abbrev told_with : Spots → Tid → Stage → Spot
@@ -253,14 +279,32 @@ module _ (p : Program) (net : Net) (q : Occasion) (n : ℕ) (opening ahead : Lis
       let r : Spot = told_with m.now.spots t b in
       let stage : told_stage s.life ≡ b = ap told_stage x ∙ next in
       subst (λ o. Is (tell_found t s.verdict.code (second_of s.verdict.extra) o d) more) (sym (on_node d _ t a m x ∙ there_a s.guest))
-      (home_step ahead d _ more (Told t) t r _ a b m (ap (λ z. spots_with (update v.threads t (record s { life = On n z; guest = y })) v.slots v.births v.halts v.remote) stage)
-      (record { solo = tt; holders = tt; life = subst (λ z. MayTell n z) (sym x) may; replies = tt; grants = tt }) refl refl x refl home_a home_b (keeps _ _ (held_b y ∙ sym (held_a s.guest)))
+      (home_step ahead d _ more (Told t) t r _ a b m
       (record {
-        threads = map_set is_tid is-true is-refl (thread_part n) v.threads t r d.node.threads (waits wait.No s.guest) (waits wait.No y) m.here.threads (thread_was s t a x ∙ there_a s.guest) (thread_was r t b refl ∙ there_b y);
-        rows = subst (λ rows. StandsFor is_tid listed_name (row_part n) rows (update v.threads t r)) (sym (listed_arrived t s.guest.priority d.node.places))
-            (added is_tid is-true is-refl listed_name (row_part n) v.threads t r (map listed d.node.places.rows) _ m.here.rows refl (row_was s t a x ∙ row_a s.guest.priority) (row_was r t b refl ∙ row_b s.guest.priority));
-        busy = hand;
-      }) refl refl refl own refl refl).midst
+        same = ap (λ z. spots_with (update v.threads t (record s { life = On n z; guest = y })) v.slots v.births v.halts v.remote) stage;
+        may = record { solo = tt; holders = tt; life = subst (λ z. MayTell n z) (sym x) may; replies = tt; grants = tt };
+        ties = record {
+          threads = map_set is_tid is-true is-refl (thread_part n) v.threads t r d.node.threads (waits wait.No s.guest) (waits wait.No y) m.here.threads (thread_was s t a x ∙ there_a s.guest) (thread_was r t b refl ∙ there_b y);
+          rows = subst (λ rows. StandsFor is_tid listed_name (row_part n) rows (update v.threads t r)) (sym (listed_arrived t s.guest.priority d.node.places))
+              (added is_tid is-true is-refl listed_name (row_part n) v.threads t r (map listed d.node.places.rows) _ m.here.rows refl (row_was s t a x ∙ row_a s.guest.priority) (row_was r t b refl ∙ row_b s.guest.priority));
+          busy = hand;
+        };
+        names = refl;
+        own = refl;
+        halted = refl;
+        next = own;
+        places = refl;
+        booted = refl;
+      })
+      (record {
+        sent = refl;
+        shown = refl;
+        was = x;
+        is = refl;
+        home_was = home_a;
+        home_is = home_b;
+        holds = keeps _ _ (held_b y ∙ sym (held_a s.guest));
+      })).midst
 
   -- it is told, and is ready
   pub tell_ok : (d : Doing) (t : Tid) (hs : List Busy) → (m : Is d (busy t (On n Told_next) ∷ hs)) → Is (tell t (spot m.now.spots t).verdict.code (second_of (spot m.now.spots t).verdict.extra) d) hs
@@ -350,12 +394,31 @@ module _ (p : Program) (net : Net) (q : Occasion) (n : ℕ) (opening ahead : Lis
       let same = judged_same m.now.spots t code None (On n (Served c)) x
       ∙ ap (λ z. spots_with (update v.threads t (record { life = On n z; guest = judged_guest (On n (Served c)) s.guest; verdict = record { code = code; extra = Nothing } })) v.slots v.births v.halts v.remote) next
       ∙ ap (λ (z : Guest). spots_with (update v.threads t (record { life = On n Told_next; guest = z; verdict = record { code = code; extra = Nothing } })) v.slots v.births v.halts v.remote) becomes in
-      home_step ahead d _ (busy t (On n Told_next) ∷ hs) (Judged t code Nothing) t r _ (Served c) Told_next m same ok (ap (judged_causes t) x) refl x refl refl refl holds
+      home_step ahead d _ (busy t (On n Told_next) ∷ hs) (Judged t code Nothing) t r _ (Served c) Told_next m
       (record {
-        threads = map_set is_tid is-true is-refl (thread_part n) v.threads t r d.node.threads (waits wait.No s.guest) (waits wait.No g) m.here.threads (thread_was s t (Served c) x) (thread_was r t Told_next refl);
-        rows = kept is_tid is-true is-refl listed_name (row_part n) v.threads t r (map listed d.node.places.rows) m.here.rows (row_was r t Told_next refl ∙ sym (row_was s t (Served c) x));
-        busy = refronted is_tid is-true is-refl busy_name (busy_part n) v.threads t r hs (busy t (On n (Served c))) (busy t (On n Told_next)) m.here.busy refl refl (busy_was r t (On n Told_next) refl (eq-eqb n n refl));
-      }) refl refl refl (own_stays d t (On n (Served c)) hs (Judged t code Nothing) (On n Told_next) (On n Told_next) m refl refl (eq-eqb n n refl)) refl refl
+        same = same;
+        may = ok;
+        ties = record {
+          threads = map_set is_tid is-true is-refl (thread_part n) v.threads t r d.node.threads (waits wait.No s.guest) (waits wait.No g) m.here.threads (thread_was s t (Served c) x) (thread_was r t Told_next refl);
+          rows = kept is_tid is-true is-refl listed_name (row_part n) v.threads t r (map listed d.node.places.rows) m.here.rows (row_was r t Told_next refl ∙ sym (row_was s t (Served c) x));
+          busy = refronted is_tid is-true is-refl busy_name (busy_part n) v.threads t r hs (busy t (On n (Served c))) (busy t (On n Told_next)) m.here.busy refl refl (busy_was r t (On n Told_next) refl (eq-eqb n n refl));
+        };
+        names = refl;
+        own = refl;
+        halted = refl;
+        next = own_stays d t (On n (Served c)) hs (Judged t code Nothing) (On n Told_next) (On n Told_next) m refl refl (eq-eqb n n refl);
+        places = refl;
+        booted = refl;
+      })
+      (record {
+        sent = ap (judged_causes t) x;
+        shown = refl;
+        was = x;
+        is = refl;
+        home_was = refl;
+        home_is = refl;
+        holds = holds;
+      })
 
   -- and is told at once
   pub settles_ok : (d : Doing) (t : Tid) (code : ℕ) (g : Guest) (c : Call) (hs : List Busy) → (m : Is d (busy t (On n (Served c)) ∷ hs))
@@ -416,13 +479,32 @@ module _ (p : Program) (net : Net) (q : Occasion) (n : ℕ) (opening ahead : Lis
       let s : Spot = spot m.now.spots t in
       let r : Spot = ran_with m.now.spots t (run_now m.now.spots t).state in
       let y : r.life ≡ On n b = ap (λ z. On n z) st in
-      home_step (Runs t vp ∷ ahead) d [] (busy t (On n b) ∷ []) (ran_label m.now.spots t vp) t r _ Ready b m (ran_same m.now.spots t vp) (ran_allowed d.labels m.now t vp x) refl refl x y refl home (keeps _ _ (slots ∙ ran_holding m.now.spots t))
+      home_step (Runs t vp ∷ ahead) d [] (busy t (On n b) ∷ []) (ran_label m.now.spots t vp) t r _ Ready b m
       (record {
-        threads = map_set is_tid is-true is-refl (thread_part n) v.threads t r d.node.threads (waits wait.No s.guest) _ m.here.threads (thread_was s t Ready x) (thread_was r t b y ∙ there);
-        rows = subst (λ rows. StandsFor is_tid listed_name (row_part n) rows (update v.threads t r)) (sym (listed_without t d.node.places.rows))
-            (removed is_tid is-true is-refl listed_name (row_part n) v.threads t r (map listed d.node.places.rows) m.here.rows (row_was r t b y ∙ row));
-        busy = fronted is_tid is-true is-refl busy_name (busy_part n) v.threads t r [] (busy t (On n b)) m.here.busy refl (idle_was s t (On n Ready) x refl) (busy_was r t (On n b) y busied);
-      }) refl refl refl (own_starts (Runs t vp) m.now.spots t (ran_label m.now.spots t vp) r.life (On n b) (_, _, refl) refl (ap (is_busy n) y ∙ busied)) (sym (off s.guest.priority d.node.places)) refl
+        same = ran_same m.now.spots t vp;
+        may = ran_allowed d.labels m.now t vp x;
+        ties = record {
+          threads = map_set is_tid is-true is-refl (thread_part n) v.threads t r d.node.threads (waits wait.No s.guest) _ m.here.threads (thread_was s t Ready x) (thread_was r t b y ∙ there);
+          rows = subst (λ rows. StandsFor is_tid listed_name (row_part n) rows (update v.threads t r)) (sym (listed_without t d.node.places.rows))
+              (removed is_tid is-true is-refl listed_name (row_part n) v.threads t r (map listed d.node.places.rows) m.here.rows (row_was r t b y ∙ row));
+          busy = fronted is_tid is-true is-refl busy_name (busy_part n) v.threads t r [] (busy t (On n b)) m.here.busy refl (idle_was s t (On n Ready) x refl) (busy_was r t (On n b) y busied);
+        };
+        names = refl;
+        own = refl;
+        halted = refl;
+        next = own_starts (Runs t vp) m.now.spots t (ran_label m.now.spots t vp) r.life (On n b) (_, _, refl) refl (ap (is_busy n) y ∙ busied);
+        places = sym (off s.guest.priority d.node.places);
+        booted = refl;
+      })
+      (record {
+        sent = refl;
+        shown = refl;
+        was = x;
+        is = y;
+        home_was = refl;
+        home_is = home;
+        holds = keeps _ _ (slots ∙ ran_holding m.now.spots t);
+      })
 
   -- what the thread has become
   pub ran_guest : (v u : World) (t : Tid) (vp : ℕ) → u ≡ world_after p n (ran_label v.spots t vp) v → (u.spots.threads t).guest ≡ with_state (run_now v.spots t).state (spot v.spots t).guest
@@ -439,13 +521,32 @@ module _ (p : Program) (net : Net) (q : Occasion) (n : ℕ) (opening ahead : Lis
       let r : Spot = ran_with m.now.spots t (run_now m.now.spots t).state in
       let y : r.life ≡ On n Ready = ap (λ z. On n z) st in
       let rest : Places = taken_off t d.node.places in
-      (home_step (Runs t vp ∷ ahead) d [] [] (ran_label m.now.spots t vp) t r _ Ready Ready m (ran_same m.now.spots t vp) (ran_allowed d.labels m.now t vp x) refl refl x y refl refl (keeps _ _ (ran_holding m.now.spots t))
+      (home_step (Runs t vp ∷ ahead) d [] [] (ran_label m.now.spots t vp) t r _ Ready Ready m
       (record {
-        threads = map_set is_tid is-true is-refl (thread_part n) v.threads t r d.node.threads (waits wait.No s.guest) _ m.here.threads (thread_was s t Ready x) (thread_was r t Ready y);
-        rows = subst (λ rows. StandsFor is_tid listed_name (row_part n) rows (update v.threads t r)) (sym (listed_arrived t s.guest.priority rest ∙ ap (λ rows. rows ++ (record { tid = t; list = 0; priority = s.guest.priority }) ∷ []) (listed_without t d.node.places.rows)))
-            (replaced is_tid is-true is-refl listed_name (row_part n) v.threads t r (map listed d.node.places.rows) _ m.here.rows refl (row_was r t Ready y));
-        busy = kept is_tid is-true is-refl busy_name (busy_part n) v.threads t r [] m.here.busy (idle_was r t (On n Ready) y refl ∙ sym (idle_was s t (On n Ready) x refl));
-      }) refl refl refl (own_alone (Runs t vp) m.now.spots t (ran_label m.now.spots t vp) r.life (_, _, refl) refl (ap (is_busy n) y)) (sym (off s.guest.priority d.node.places)) refl).midst
+        same = ran_same m.now.spots t vp;
+        may = ran_allowed d.labels m.now t vp x;
+        ties = record {
+          threads = map_set is_tid is-true is-refl (thread_part n) v.threads t r d.node.threads (waits wait.No s.guest) _ m.here.threads (thread_was s t Ready x) (thread_was r t Ready y);
+          rows = subst (λ rows. StandsFor is_tid listed_name (row_part n) rows (update v.threads t r)) (sym (listed_arrived t s.guest.priority rest ∙ ap (λ rows. rows ++ (record { tid = t; list = 0; priority = s.guest.priority }) ∷ []) (listed_without t d.node.places.rows)))
+              (replaced is_tid is-true is-refl listed_name (row_part n) v.threads t r (map listed d.node.places.rows) _ m.here.rows refl (row_was r t Ready y));
+          busy = kept is_tid is-true is-refl busy_name (busy_part n) v.threads t r [] m.here.busy (idle_was r t (On n Ready) y refl ∙ sym (idle_was s t (On n Ready) x refl));
+        };
+        names = refl;
+        own = refl;
+        halted = refl;
+        next = own_alone (Runs t vp) m.now.spots t (ran_label m.now.spots t vp) r.life (_, _, refl) refl (ap (is_busy n) y);
+        places = sym (off s.guest.priority d.node.places);
+        booted = refl;
+      })
+      (record {
+        sent = refl;
+        shown = refl;
+        was = x;
+        is = y;
+        home_was = refl;
+        home_is = refl;
+        holds = keeps _ _ (ran_holding m.now.spots t);
+      })).midst
 
   -- ## Calls
 
@@ -476,13 +577,31 @@ module _ (p : Program) (net : Net) (q : Occasion) (n : ℕ) (opening ahead : Lis
       let s : Spot = spot m.now.spots t in
       let x : s.life ≡ On n Running = in_hand d t (On n Running) hs m in
       let r : Spot = record s { life = On n b } in
-      (home_step ahead d _ (busy t (On n b) ∷ hs) (Asked t (number_of (call_at m.now.spots t)) (args_of (call_at m.now.spots t)) []) t r d.node Running b m (asked_same m.now.spots t [] b st)
-      (record { solo = (refl, refl, bytes); holders = tt; life = x; replies = tt; grants = tt }) (ap (asked_causes t) st ∙ sent) refl x refl refl home slots
+      (home_step ahead d _ (busy t (On n b) ∷ hs) (Asked t (number_of (call_at m.now.spots t)) (args_of (call_at m.now.spots t)) []) t r d.node Running b m
       (record {
-        threads = map_kept is_tid is-true is-refl (thread_part n) v.threads t r d.node.threads m.here.threads (thread_was r t b refl ∙ there ∙ sym (thread_was s t Running x));
-        rows = kept is_tid is-true is-refl listed_name (row_part n) v.threads t r (map listed d.node.places.rows) m.here.rows (row_was r t b refl ∙ row ∙ sym (row_was s t Running x));
-        busy = refronted is_tid is-true is-refl busy_name (busy_part n) v.threads t r hs (busy t (On n Running)) (busy t (On n b)) m.here.busy refl refl (busy_was r t (On n b) refl busied);
-      }) refl refl refl (own_stays d t (On n Running) hs (Asked t (number_of (call_at m.now.spots t)) (args_of (call_at m.now.spots t)) []) (On n b) (On n b) m refl refl busied) refl refl).midst
+        same = asked_same m.now.spots t [] b st;
+        may = record { solo = (refl, refl, bytes); holders = tt; life = x; replies = tt; grants = tt };
+        ties = record {
+          threads = map_kept is_tid is-true is-refl (thread_part n) v.threads t r d.node.threads m.here.threads (thread_was r t b refl ∙ there ∙ sym (thread_was s t Running x));
+          rows = kept is_tid is-true is-refl listed_name (row_part n) v.threads t r (map listed d.node.places.rows) m.here.rows (row_was r t b refl ∙ row ∙ sym (row_was s t Running x));
+          busy = refronted is_tid is-true is-refl busy_name (busy_part n) v.threads t r hs (busy t (On n Running)) (busy t (On n b)) m.here.busy refl refl (busy_was r t (On n b) refl busied);
+        };
+        names = refl;
+        own = refl;
+        halted = refl;
+        next = own_stays d t (On n Running) hs (Asked t (number_of (call_at m.now.spots t)) (args_of (call_at m.now.spots t)) []) (On n b) (On n b) m refl refl busied;
+        places = refl;
+        booted = refl;
+      })
+      (record {
+        sent = ap (asked_causes t) st ∙ sent;
+        shown = refl;
+        was = x;
+        is = refl;
+        home_was = refl;
+        home_is = home;
+        holds = slots;
+      })).midst
 
   -- a call that sends a packet
   asks_out_ok : (d : Doing) (t : Tid) (bytes : List ℕ) (b : Stage) (waiting : Wait) (to : ℕ) (body : Body) (hs : List Busy) → (m : Is d (busy t (On n Running) ∷ hs))
@@ -497,25 +616,41 @@ module _ (p : Program) (net : Net) (q : Occasion) (n : ℕ) (opening ahead : Lis
       let s : Spot = spot m.now.spots t in
       let x : s.life ≡ On n Running = in_hand d t (On n Running) hs m in
       let r : Spot = record s { life = On n b } in
-      (send_step ahead d _ hs (Asked t (number_of (call_at m.now.spots t)) (args_of (call_at m.now.spots t)) bytes) t r _ to body m (asked_same m.now.spots t bytes b st)
-      (record { solo = (refl, refl, said); holders = tt; life = x; replies = tt; grants = tt }) (ap (asked_causes t) st ∙ sent) refl
-      (ap (λ z. ways_of t z s.verdict s.guest) x) ways name
+      (send_step ahead d _ hs (Asked t (number_of (call_at m.now.spots t)) (args_of (call_at m.now.spots t)) bytes) t r _ to body m
       (record {
-        threads = map_set is_tid is-true is-refl (thread_part n) v.threads t r d.node.threads (waits wait.No s.guest) (waits waiting s.guest) m.here.threads (thread_was s t Running x) (thread_was r t b refl ∙ there);
-        rows = kept is_tid is-true is-refl listed_name (row_part n) v.threads t r (map listed d.node.places.rows) m.here.rows (row_was r t b refl ∙ row ∙ sym (row_was s t Running x));
-        busy = unfronted is_tid is-true is-refl busy_name (busy_part n) v.threads t r hs (busy t (On n Running)) m.here.busy refl (idle_was r t (On n b) refl (idle n));
-      }) refl refl refl
-      (λ k e. record {
-        thread = away_thread n k t r b refl e ∙ sym (away_thread n k t s Running x e);
-        row = away_row n k t r b refl e ∙ sym (away_row n k t s Running x e);
-        busy = busy_none k t r (On n b) refl (idle k) ∙ sym (busy_none k t s (On n Running) x e);
+        same = asked_same m.now.spots t bytes b st;
+        may = record { solo = (refl, refl, said); holders = tt; life = x; replies = tt; grants = tt };
+        ties = record {
+          threads = map_set is_tid is-true is-refl (thread_part n) v.threads t r d.node.threads (waits wait.No s.guest) (waits waiting s.guest) m.here.threads (thread_was s t Running x) (thread_was r t b refl ∙ there);
+          rows = kept is_tid is-true is-refl listed_name (row_part n) v.threads t r (map listed d.node.places.rows) m.here.rows (row_was r t b refl ∙ row ∙ sym (row_was s t Running x));
+          busy = unfronted is_tid is-true is-refl busy_name (busy_part n) v.threads t r hs (busy t (On n Running)) m.here.busy refl (idle_was r t (On n b) refl (idle n));
+        };
+        names = refl;
+        own = refl;
+        halted = refl;
+        next = own_goes d t (On n Running) hs (Asked t (number_of (call_at m.now.spots t)) (args_of (call_at m.now.spots t)) bytes) (On n b) m refl refl (idle n);
+        places = refl;
+        booted = refl;
       })
-      (sym (ap phase_of x))
-      (λ u k e. home_quiet n Running refl u k (sym x ∙ e))
-      (keeps _ _ (slots ∙ sym (ap (λ z. held z s.guest) x)))
-      (λ e. absurd (cc (e, x)))
-      (plain (On n b) quiet)
-      (own_goes d t (On n Running) hs (Asked t (number_of (call_at m.now.spots t)) (args_of (call_at m.now.spots t)) bytes) (On n b) m refl refl (idle n)) refl refl).midst
+      (record {
+        sent = ap (asked_causes t) st ∙ sent;
+        shown = refl;
+        before = ap (λ z. ways_of t z s.verdict s.guest) x;
+        after = ways;
+        name = name;
+      })
+      (record {
+        frame = λ k e. record {
+          thread = away_thread n k t r b refl e ∙ sym (away_thread n k t s Running x e);
+          row = away_row n k t r b refl e ∙ sym (away_row n k t s Running x e);
+          busy = busy_none k t r (On n b) refl (idle k) ∙ sym (busy_none k t s (On n Running) x e);
+        };
+        phase = sym (ap phase_of x);
+        quiet = λ u k e. home_quiet n Running refl u k (sym x ∙ e);
+        holds = keeps _ _ (slots ∙ sym (ap (λ z. held z s.guest) x));
+        unborn = λ e. absurd (cc (e, x));
+        whole = plain (On n b) quiet;
+      })).midst
 
   pub asks_show_ok : (d : Doing) (t : Tid) (bytes : List ℕ) (hs : List Busy) → (m : Is d (busy t (On n Running) ∷ hs))
       → stage_of_call p n t (solo_at m.now.spots t) ≡ Shows bytes → bytes ≡ bytes_at m.now.spots t
@@ -566,25 +701,42 @@ module _ (p : Program) (net : Net) (q : Occasion) (n : ℕ) (opening ahead : Lis
       let v : Spots = m.now.spots in
       let s : Spot = spot m.now.spots t in
       let r : Spot = record s { life = Moving n to } in
-      (send_step due d hand hs (Left t to) t r _ to (Mover (packed t s.guest)) m refl
-      (record { solo = tt; holders = tt; life = (subst (λ z. MayLeave n to z) (sym x) may, below, other); replies = tt; grants = tt }) refl refl
-      (ap (λ z. ways_of t z s.verdict s.guest) x ∙ home_way t n a s.verdict s.guest home) refl refl
+      (send_step due d hand hs (Left t to) t r _ to (Mover (packed t s.guest)) m
       (record {
-        threads = map_removed is_tid is-true is-refl (thread_part n) v.threads t r d.node.threads m.here.threads refl;
-        rows = subst (λ rows. StandsFor is_tid listed_name (row_part n) rows (update v.threads t r)) (sym (listed_without t d.node.places.rows))
-            (removed is_tid is-true is-refl listed_name (row_part n) v.threads t r (map listed d.node.places.rows) m.here.rows refl);
-        busy = hands;
-      }) refl refl refl
-      (λ k e. record {
-        thread = sym (away_thread n k t s a x e);
-        row = sym (away_row n k t s a x e);
-        busy = sym (busy_none k t s (On n a) x (home_busy n k a home e));
+        same = refl;
+        may = record { solo = tt; holders = tt; life = (subst (λ z. MayLeave n to z) (sym x) may, below, other); replies = tt; grants = tt };
+        ties = record {
+          threads = map_removed is_tid is-true is-refl (thread_part n) v.threads t r d.node.threads m.here.threads refl;
+          rows = subst (λ rows. StandsFor is_tid listed_name (row_part n) rows (update v.threads t r)) (sym (listed_without t d.node.places.rows))
+              (removed is_tid is-true is-refl listed_name (row_part n) v.threads t r (map listed d.node.places.rows) m.here.rows refl);
+          busy = hands;
+        };
+        names = refl;
+        own = refl;
+        halted = refl;
+        next = own;
+        places = refl;
+        booted = refl;
       })
-      (sym (ap phase_of x))
-      (λ u k e. home_quiet n a home u k (sym x ∙ e))
-      (keeps _ _ (sym (ap (λ z. held z s.guest) x ∙ slots)))
-      (λ e. absurd (cc (e, x)))
-      (plain _ refl) own refl refl).midst
+      (record {
+        sent = refl;
+        shown = refl;
+        before = ap (λ z. ways_of t z s.verdict s.guest) x ∙ home_way t n a s.verdict s.guest home;
+        after = refl;
+        name = refl;
+      })
+      (record {
+        frame = λ k e. record {
+          thread = sym (away_thread n k t s a x e);
+          row = sym (away_row n k t s a x e);
+          busy = sym (busy_none k t s (On n a) x (home_busy n k a home e));
+        };
+        phase = sym (ap phase_of x);
+        quiet = λ u k e. home_quiet n a home u k (sym x ∙ e);
+        holds = keeps _ _ (sym (ap (λ z. held z s.guest) x ∙ slots));
+        unborn = λ e. absurd (cc (e, x));
+        whole = plain _ refl;
+      })).midst
 
   -- its home is a node, as each thread's is
   pub home_of : (due : List Item) (d : Doing) (hand : List Busy) (t : Tid) (a : Stage) → (m : Midst p net q n opening due w L d hand) → (spot m.now.spots t).life ≡ On n a → nat_lt t.home (nodes_of p) ≡ true

@@ -88,23 +88,36 @@ module _ (p : Program) (net : Net) (q : Occasion) (n : ℕ) (opening ahead : Lis
       let r : Spot = record o { life = On from Showing } in
       let here_busy : is_busy n (On from Showing) ≡ true = eq-eqb 0 n (sym zero) in
       (moved p net q n opening ahead w L (Says (Shown t) ∷ ahead) (Left from t) (nothing s) [] (busy t (On from Showing) ∷ []) (Shown t) t r s [] _ m
-      (ap (λ z. spots_with (update m.now.spots.threads t (record o { life = shown_life z })) m.now.spots.slots m.now.spots.births m.now.spots.halts m.now.spots.remote) x)
-      (record { solo = tt; holders = tt; life = rw x zero; replies = tt; grants = tt }) refl (ap (λ z. line_of t (asked_bytes z)) (sym x))
       (record {
-        threads = map_kept is_tid is-true is-refl (thread_part n) m.now.spots.threads t r s.threads m.here.threads (sym (ap (λ z. thread_in_life n z o.guest) x));
-        rows = kept is_tid is-true is-refl listed_name (row_part n) m.now.spots.threads t r (map listed s.places.rows) m.here.rows (sym (ap (λ z. row_in_life n t z o.guest.priority) x));
-        busy = fronted is_tid is-true is-refl busy_name (busy_part n) m.now.spots.threads t r [] (busy t (On from Showing)) m.here.busy refl (idle_was p net q n opening ahead w L o t (On from (Shows bytes)) x refl) (rw here_busy refl);
-      }) refl refl refl
-      (λ k e. record {
-        thread = sym (ap (λ z. thread_in_life k z o.guest) x);
-        row = sym (ap (λ z. row_in_life k t z o.guest.priority) x);
-        busy = busy_none k t r (On from Showing) refl (ap (λ z. eqb z k) (sym zero) ∙ e) ∙ sym (busy_none k t o (On from (Shows bytes)) x refl);
+        same = ap (λ z. spots_with (update m.now.spots.threads t (record o { life = shown_life z })) m.now.spots.slots m.now.spots.births m.now.spots.halts m.now.spots.remote) x;
+        may = record { solo = tt; holders = tt; life = rw x zero; replies = tt; grants = tt };
+        ties = record {
+          threads = map_kept is_tid is-true is-refl (thread_part n) m.now.spots.threads t r s.threads m.here.threads (sym (ap (λ z. thread_in_life n z o.guest) x));
+          rows = kept is_tid is-true is-refl listed_name (row_part n) m.now.spots.threads t r (map listed s.places.rows) m.here.rows (sym (ap (λ z. row_in_life n t z o.guest.priority) x));
+          busy = fronted is_tid is-true is-refl busy_name (busy_part n) m.now.spots.threads t r [] (busy t (On from Showing)) m.here.busy refl (idle_was p net q n opening ahead w L o t (On from (Shows bytes)) x refl) (rw here_busy refl);
+        };
+        names = refl;
+        own = refl;
+        halted = refl;
+        next = record { heir = refl; next = refl; still = rw here_busy refl };
+        places = refl;
+        booted = refl;
       })
-      (λ i j. nothing_sent n (Left from t) i j (update m.now.spots.threads t r) (take_link from n (Line t bytes) t r L m.now.spots.threads (links_whole (Says (Shown t) ∷ ahead) s m) (ap (λ z. ways_of t z o.verdict o.guest) x ∙ ap (λ z. way from z (Line t bytes)) (sym zero)) i j))
-      (sym (ap phase_of x))
-      (λ u k e. absurd (cc (e, x)))
-      (keeps _ _ (sym (ap (λ z. held z o.guest) x)))
-      (λ e. absurd (cc (e, x))) (plain _ refl) (record { heir = refl; next = refl; still = rw here_busy refl }) refl refl).midst
+      refl
+      (ap (λ z. line_of t (asked_bytes z)) (sym x))
+      (record {
+        frame = λ k e. record {
+          thread = sym (ap (λ z. thread_in_life k z o.guest) x);
+          row = sym (ap (λ z. row_in_life k t z o.guest.priority) x);
+          busy = busy_none k t r (On from Showing) refl (ap (λ z. eqb z k) (sym zero) ∙ e) ∙ sym (busy_none k t o (On from (Shows bytes)) x refl);
+        };
+        phase = sym (ap phase_of x);
+        quiet = λ u k e. absurd (cc (e, x));
+        holds = keeps _ _ (sym (ap (λ z. held z o.guest) x));
+        unborn = λ e. absurd (cc (e, x));
+        whole = plain _ refl;
+      })
+      (λ i j. nothing_sent n (Left from t) i j (update m.now.spots.threads t r) (take_link from n (Line t bytes) t r L m.now.spots.threads (links_whole (Says (Shown t) ∷ ahead) s m) (ap (λ z. ways_of t z o.verdict o.guest) x ∙ ap (λ z. way from z (Line t bytes)) (sym zero)) i j))).midst
 
   -- ## Told by a packet
 
@@ -119,24 +132,38 @@ module _ (p : Program) (net : Net) (q : Occasion) (n : ℕ) (opening ahead : Lis
       let g : Guest = told o.verdict.code (second_of o.verdict.extra) o.guest in
       let r : Spot = record o { life = On n Ready; guest = g } in
       subst (λ f. Midst p net q n opening ahead w (Left from t) (tell_found t o.verdict.code (second_of o.verdict.extra) f (nothing s)) []) (sym (on_node p net q n opening (Says (Told t) ∷ ahead) w L (nothing s) [] t a m x ∙ there))
-      (moved p net q n opening ahead w L (Says (Told t) ∷ ahead) (Left from t) (nothing s) [] [] (Told t) t r _ [] [] m (ap (λ z. spots_with (update m.now.spots.threads t (record o { life = On n z; guest = g })) m.now.spots.slots m.now.spots.births m.now.spots.halts m.now.spots.remote) (ap told_stage x ∙ next))
-      (record { solo = tt; holders = tt; life = subst (λ z. MayTell n z) (sym x) may; replies = tt; grants = tt }) refl refl
+      (moved p net q n opening ahead w L (Says (Told t) ∷ ahead) (Left from t) (nothing s) [] [] (Told t) t r _ [] [] m
       (record {
-        threads = map_set is_tid is-true is-refl (thread_part n) m.now.spots.threads t r s.threads (waits waiting o.guest) (waits wait.No g) m.here.threads (thread_was p net q n opening ahead w L o t a x ∙ there) (thread_was p net q n opening ahead w L r t Ready refl);
-        rows = subst (λ rows. StandsFor is_tid listed_name (row_part n) rows (update m.now.spots.threads t r)) (sym (listed_arrived t o.guest.priority s.places))
-            (added is_tid is-true is-refl listed_name (row_part n) m.now.spots.threads t r (map listed s.places.rows) _ m.here.rows refl (row_was p net q n opening ahead w L o t a x ∙ row) (row_was p net q n opening ahead w L r t Ready refl));
-        busy = kept is_tid is-true is-refl busy_name (busy_part n) m.now.spots.threads t r [] m.here.busy (idle_was p net q n opening ahead w L r t (On n Ready) refl refl ∙ sym (idle_was p net q n opening ahead w L o t (On n a) x (idle n)));
-      }) refl refl refl
-      (λ k e. record {
-        thread = away_thread n k t r Ready refl e ∙ sym (away_thread n k t o a x e);
-        row = away_row n k t r Ready refl e ∙ sym (away_row n k t o a x e);
-        busy = busy_none k t r (On n Ready) refl refl ∙ sym (busy_none k t o (On n a) x (idle k));
+        same = ap (λ z. spots_with (update m.now.spots.threads t (record o { life = On n z; guest = g })) m.now.spots.slots m.now.spots.births m.now.spots.halts m.now.spots.remote) (ap told_stage x ∙ next);
+        may = record { solo = tt; holders = tt; life = subst (λ z. MayTell n z) (sym x) may; replies = tt; grants = tt };
+        ties = record {
+          threads = map_set is_tid is-true is-refl (thread_part n) m.now.spots.threads t r s.threads (waits waiting o.guest) (waits wait.No g) m.here.threads (thread_was p net q n opening ahead w L o t a x ∙ there) (thread_was p net q n opening ahead w L r t Ready refl);
+          rows = subst (λ rows. StandsFor is_tid listed_name (row_part n) rows (update m.now.spots.threads t r)) (sym (listed_arrived t o.guest.priority s.places))
+              (added is_tid is-true is-refl listed_name (row_part n) m.now.spots.threads t r (map listed s.places.rows) _ m.here.rows refl (row_was p net q n opening ahead w L o t a x ∙ row) (row_was p net q n opening ahead w L r t Ready refl));
+          busy = kept is_tid is-true is-refl busy_name (busy_part n) m.now.spots.threads t r [] m.here.busy (idle_was p net q n opening ahead w L r t (On n Ready) refl refl ∙ sym (idle_was p net q n opening ahead w L o t (On n a) x (idle n)));
+        };
+        names = refl;
+        own = refl;
+        halted = refl;
+        next = record { heir = refl; next = refl; still = refl };
+        places = refl;
+        booted = refl;
       })
-      (λ i j. nothing_sent n (Left from t) i j (update m.now.spots.threads t r) (take_link from n y t r L m.now.spots.threads (links_whole (Says (Told t) ∷ ahead) s m) (ap (λ z. ways_of t z o.verdict o.guest) x ∙ ways) i j))
-      (sym (ap phase_of x))
-      (λ u k e. quiet u k (sym x ∙ e))
-      (keeps _ _ (slots ∙ sym (ap (λ z. held z o.guest) x)))
-      (λ e. absurd (cc (e, x))) (plain _ refl) (record { heir = refl; next = refl; still = refl }) refl refl).midst
+      refl
+      refl
+      (record {
+        frame = λ k e. record {
+          thread = away_thread n k t r Ready refl e ∙ sym (away_thread n k t o a x e);
+          row = away_row n k t r Ready refl e ∙ sym (away_row n k t o a x e);
+          busy = busy_none k t r (On n Ready) refl refl ∙ sym (busy_none k t o (On n a) x (idle k));
+        };
+        phase = sym (ap phase_of x);
+        quiet = λ u k e. quiet u k (sym x ∙ e);
+        holds = keeps _ _ (slots ∙ sym (ap (λ z. held z o.guest) x));
+        unborn = λ e. absurd (cc (e, x));
+        whole = plain _ refl;
+      })
+      (λ i j. nothing_sent n (Left from t) i j (update m.now.spots.threads t r) (take_link from n y t r L m.now.spots.threads (links_whole (Says (Told t) ∷ ahead) s m) (ap (λ z. ways_of t z o.verdict o.guest) x ∙ ways) i j))).midst
 
   -- ## Replies that go back
 
@@ -149,24 +176,40 @@ module _ (p : Program) (net : Net) (q : Occasion) (n : ℕ) (opening ahead : Lis
       let zero : 0 ≡ n = eqb-true 0 n (is_in_hand p net q n opening ahead w L d t (On at Showing) hs m) in
       let r : Spot = record o { life = On at Shown_there; verdict = record { code = 0; extra = Nothing } } in
       (send_step p net q n opening ahead w L ahead d _ hs (Judged t 0 Nothing) t r d.node at (ShowDone t) m
-      (ap (λ z. spots_with (update v.threads t (record { life = judged_life z; guest = judged_guest z o.guest; verdict = record { code = 0; extra = Nothing } })) v.slots v.births v.halts v.remote) x)
-      (record { solo = tt; holders = tt; life = rw x (sym zero); replies = rw x (refl, refl); grants = rw x tt }) (ap (judged_causes t) x) refl
-      (ap (λ z. ways_of t z o.verdict o.guest) x) (ap (λ z. way z at (Line_shown t 0 Nothing)) zero) refl
       (record {
-        threads = map_kept is_tid is-true is-refl (thread_part n) v.threads t r d.node.threads m.here.threads (sym (ap (λ z. thread_in_life n z o.guest) x));
-        rows = kept is_tid is-true is-refl listed_name (row_part n) v.threads t r (map listed d.node.places.rows) m.here.rows (sym (ap (λ z. row_in_life n t z o.guest.priority) x));
-        busy = unfronted is_tid is-true is-refl busy_name (busy_part n) v.threads t r hs (busy t (On at Showing)) m.here.busy refl refl;
-      }) refl refl refl
-      (λ k e. record {
-        thread = sym (ap (λ z. thread_in_life k z o.guest) x);
-        row = sym (ap (λ z. row_in_life k t z o.guest.priority) x);
-        busy = sym (busy_none k t o (On at Showing) x (ap (λ z. eqb z k) zero ∙ e));
+        same = ap (λ z. spots_with (update v.threads t (record { life = judged_life z; guest = judged_guest z o.guest; verdict = record { code = 0; extra = Nothing } })) v.slots v.births v.halts v.remote) x;
+        may = record { solo = tt; holders = tt; life = rw x (sym zero); replies = rw x (refl, refl); grants = rw x tt };
+        ties = record {
+          threads = map_kept is_tid is-true is-refl (thread_part n) v.threads t r d.node.threads m.here.threads (sym (ap (λ z. thread_in_life n z o.guest) x));
+          rows = kept is_tid is-true is-refl listed_name (row_part n) v.threads t r (map listed d.node.places.rows) m.here.rows (sym (ap (λ z. row_in_life n t z o.guest.priority) x));
+          busy = unfronted is_tid is-true is-refl busy_name (busy_part n) v.threads t r hs (busy t (On at Showing)) m.here.busy refl refl;
+        };
+        names = refl;
+        own = refl;
+        halted = refl;
+        next = own_goes p net q n opening ahead w L d t (On at Showing) hs (Judged t 0 Nothing) (On at Shown_there) m refl refl refl;
+        places = refl;
+        booted = refl;
       })
-      (sym (ap phase_of x))
-      (λ u k e. absurd (cc (e, x)))
-      (keeps _ _ (sym (ap (λ z. held z o.guest) x)))
-      (λ e. absurd (cc (e, x))) (plain _ refl)
-      (own_goes p net q n opening ahead w L d t (On at Showing) hs (Judged t 0 Nothing) (On at Shown_there) m refl refl refl) refl refl).midst
+      (record {
+        sent = ap (judged_causes t) x;
+        shown = refl;
+        before = ap (λ z. ways_of t z o.verdict o.guest) x;
+        after = ap (λ z. way z at (Line_shown t 0 Nothing)) zero;
+        name = refl;
+      })
+      (record {
+        frame = λ k e. record {
+          thread = sym (ap (λ z. thread_in_life k z o.guest) x);
+          row = sym (ap (λ z. row_in_life k t z o.guest.priority) x);
+          busy = sym (busy_none k t o (On at Showing) x (ap (λ z. eqb z k) zero ∙ e));
+        };
+        phase = sym (ap phase_of x);
+        quiet = λ u k e. absurd (cc (e, x));
+        holds = keeps _ _ (sym (ap (λ z. held z o.guest) x));
+        unborn = λ e. absurd (cc (e, x));
+        whole = plain _ refl;
+      })).midst
 
   pub reply_ok : (d : Doing) (t : Tid) (at : ℕ) (reply : TheReply) (second : Option ℕ) (hs : List Busy) → (m : Midst p net q n opening ahead w L d (busy t (On at (Answers n reply second)) ∷ hs)) → Midst p net q n opening ahead w L (reply_by_link t at reply second d) hs
   unfolding reply_by_link put say
@@ -176,24 +219,40 @@ module _ (p : Program) (net : Net) (q : Occasion) (n : ℕ) (opening ahead : Lis
       let x : o.life ≡ On at (Answers n reply second) = in_hand p net q n opening ahead w L d t (On at (Answers n reply second)) hs m in
       let r : Spot = record o { life = On at (Answered n); verdict = record { code = reply_code reply; extra = extra_of second } } in
       (send_step p net q n opening ahead w L ahead d _ hs (Judged t (reply_code reply) (extra_of second)) t r d.node at (Answer t reply second) m
-      (ap (λ z. spots_with (update v.threads t (record { life = judged_life z; guest = judged_guest z o.guest; verdict = record { code = reply_code reply; extra = extra_of second } })) v.slots v.births v.halts v.remote) x)
-      (record { solo = tt; holders = tt; life = rw x refl; replies = rw x (refl, refl); grants = rw x tt }) (ap (judged_causes t) x) refl
-      (ap (λ z. ways_of t z o.verdict o.guest) x) refl refl
       (record {
-        threads = map_kept is_tid is-true is-refl (thread_part n) v.threads t r d.node.threads m.here.threads (sym (ap (λ z. thread_in_life n z o.guest) x));
-        rows = kept is_tid is-true is-refl listed_name (row_part n) v.threads t r (map listed d.node.places.rows) m.here.rows (sym (ap (λ z. row_in_life n t z o.guest.priority) x));
-        busy = unfronted is_tid is-true is-refl busy_name (busy_part n) v.threads t r hs (busy t (On at (Answers n reply second))) m.here.busy refl refl;
-      }) refl refl refl
-      (λ k e. record {
-        thread = sym (ap (λ z. thread_in_life k z o.guest) x);
-        row = sym (ap (λ z. row_in_life k t z o.guest.priority) x);
-        busy = sym (busy_none k t o (On at (Answers n reply second)) x e);
+        same = ap (λ z. spots_with (update v.threads t (record { life = judged_life z; guest = judged_guest z o.guest; verdict = record { code = reply_code reply; extra = extra_of second } })) v.slots v.births v.halts v.remote) x;
+        may = record { solo = tt; holders = tt; life = rw x refl; replies = rw x (refl, refl); grants = rw x tt };
+        ties = record {
+          threads = map_kept is_tid is-true is-refl (thread_part n) v.threads t r d.node.threads m.here.threads (sym (ap (λ z. thread_in_life n z o.guest) x));
+          rows = kept is_tid is-true is-refl listed_name (row_part n) v.threads t r (map listed d.node.places.rows) m.here.rows (sym (ap (λ z. row_in_life n t z o.guest.priority) x));
+          busy = unfronted is_tid is-true is-refl busy_name (busy_part n) v.threads t r hs (busy t (On at (Answers n reply second))) m.here.busy refl refl;
+        };
+        names = refl;
+        own = refl;
+        halted = refl;
+        next = own_goes p net q n opening ahead w L d t (On at (Answers n reply second)) hs (Judged t (reply_code reply) (extra_of second)) (On at (Answered n)) m refl refl refl;
+        places = refl;
+        booted = refl;
       })
-      (sym (ap phase_of x))
-      (λ u k e. absurd (cc (e, x)))
-      (keeps _ _ (sym (ap (λ z. held z o.guest) x)))
-      (λ e. absurd (cc (e, x))) (plain _ refl)
-      (own_goes p net q n opening ahead w L d t (On at (Answers n reply second)) hs (Judged t (reply_code reply) (extra_of second)) (On at (Answered n)) m refl refl refl) refl refl).midst
+      (record {
+        sent = ap (judged_causes t) x;
+        shown = refl;
+        before = ap (λ z. ways_of t z o.verdict o.guest) x;
+        after = refl;
+        name = refl;
+      })
+      (record {
+        frame = λ k e. record {
+          thread = sym (ap (λ z. thread_in_life k z o.guest) x);
+          row = sym (ap (λ z. row_in_life k t z o.guest.priority) x);
+          busy = sym (busy_none k t o (On at (Answers n reply second)) x e);
+        };
+        phase = sym (ap phase_of x);
+        quiet = λ u k e. absurd (cc (e, x));
+        holds = keeps _ _ (sym (ap (λ z. held z o.guest) x));
+        unborn = λ e. absurd (cc (e, x));
+        whole = plain _ refl;
+      })).midst
 
   -- ## A thread comes
 
@@ -236,21 +295,35 @@ module _ (p : Program) (net : Net) (q : Occasion) (n : ℕ) (opening ahead : Lis
   comes_ok s from t m x =
       let o : Spot = m.now.spots.threads t in
       let r : Spot = record o { life = On n Ready } in
-      (moved p net q n opening ahead w L (Says (Came t) ∷ ahead) (Left from t) (nothing s) [] [] (Came t) t r _ [] [] m refl
-      (record { solo = tt; holders = tt; life = rw x refl; replies = tt; grants = tt }) refl refl
+      (moved p net q n opening ahead w L (Says (Came t) ∷ ahead) (Left from t) (nothing s) [] [] (Came t) t r _ [] [] m
       (record {
-        threads = map_added is_tid is-true is-refl tid_cmp (λ a b. refl) (thread_part n) m.now.spots.threads t r s.threads (waits wait.No o.guest) m.here.threads (ap (λ z. thread_in_life n z o.guest) x) (thread_was p net q n opening ahead w L r t Ready refl);
-        rows = subst (λ rows. StandsFor is_tid listed_name (row_part n) rows (update m.now.spots.threads t r)) (sym (listed_arrived t o.guest.priority s.places))
-            (added is_tid is-true is-refl listed_name (row_part n) m.now.spots.threads t r (map listed s.places.rows) _ m.here.rows refl (ap (λ z. row_in_life n t z o.guest.priority) x) (row_was p net q n opening ahead w L r t Ready refl));
-        busy = kept is_tid is-true is-refl busy_name (busy_part n) m.now.spots.threads t r [] m.here.busy (idle_was p net q n opening ahead w L r t (On n Ready) refl refl ∙ sym (idle_was p net q n opening ahead w L o t (Moving from n) x refl));
-      }) refl refl refl
-      (λ k e. record {
-        thread = away_thread n k t r Ready refl e ∙ sym (ap (λ z. thread_in_life k z o.guest) x);
-        row = away_row n k t r Ready refl e ∙ sym (ap (λ z. row_in_life k t z o.guest.priority) x);
-        busy = busy_none k t r (On n Ready) refl refl ∙ sym (busy_none k t o (Moving from n) x refl);
+        same = refl;
+        may = record { solo = tt; holders = tt; life = rw x refl; replies = tt; grants = tt };
+        ties = record {
+          threads = map_added is_tid is-true is-refl tid_cmp (λ a b. refl) (thread_part n) m.now.spots.threads t r s.threads (waits wait.No o.guest) m.here.threads (ap (λ z. thread_in_life n z o.guest) x) (thread_was p net q n opening ahead w L r t Ready refl);
+          rows = subst (λ rows. StandsFor is_tid listed_name (row_part n) rows (update m.now.spots.threads t r)) (sym (listed_arrived t o.guest.priority s.places))
+              (added is_tid is-true is-refl listed_name (row_part n) m.now.spots.threads t r (map listed s.places.rows) _ m.here.rows refl (ap (λ z. row_in_life n t z o.guest.priority) x) (row_was p net q n opening ahead w L r t Ready refl));
+          busy = kept is_tid is-true is-refl busy_name (busy_part n) m.now.spots.threads t r [] m.here.busy (idle_was p net q n opening ahead w L r t (On n Ready) refl refl ∙ sym (idle_was p net q n opening ahead w L o t (Moving from n) x refl));
+        };
+        names = refl;
+        own = refl;
+        halted = refl;
+        next = record { heir = refl; next = refl; still = refl };
+        places = refl;
+        booted = refl;
       })
-      (λ i j. nothing_sent n (Left from t) i j (update m.now.spots.threads t r) (take_link from n (Travels (packed t o.guest)) t r L m.now.spots.threads (links_whole (Says (Came t) ∷ ahead) s m) (ap (λ z. ways_of t z o.verdict o.guest) x) i j))
-      (sym (ap phase_of x))
-      (λ u k e. absurd (cc (e, x)))
-      (keeps _ _ (sym (ap (λ z. held z o.guest) x)))
-      (λ e. absurd (cc (e, x))) (plain _ refl) (record { heir = refl; next = refl; still = refl }) refl refl).midst
+      refl
+      refl
+      (record {
+        frame = λ k e. record {
+          thread = away_thread n k t r Ready refl e ∙ sym (ap (λ z. thread_in_life k z o.guest) x);
+          row = away_row n k t r Ready refl e ∙ sym (ap (λ z. row_in_life k t z o.guest.priority) x);
+          busy = busy_none k t r (On n Ready) refl refl ∙ sym (busy_none k t o (Moving from n) x refl);
+        };
+        phase = sym (ap phase_of x);
+        quiet = λ u k e. absurd (cc (e, x));
+        holds = keeps _ _ (sym (ap (λ z. held z o.guest) x));
+        unborn = λ e. absurd (cc (e, x));
+        whole = plain _ refl;
+      })
+      (λ i j. nothing_sent n (Left from t) i j (update m.now.spots.threads t r) (take_link from n (Travels (packed t o.guest)) t r L m.now.spots.threads (links_whole (Says (Came t) ∷ ahead) s m) (ap (λ z. ways_of t z o.verdict o.guest) x) i j))).midst
