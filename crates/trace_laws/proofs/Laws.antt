@@ -17,7 +17,7 @@ use Rattle.run_trace.specs.Trace.{Fits, IsRun, entry_of, events_of, net_after_tr
 use Rattle.run_trace.specs.declared.entry.Entry.{Entry}
 use Rattle.run_trace.specs.declared.node.Row.{Row}
 use Rattle.slot_space.specs.declared.names.Tid.{Tid}
-use Rattle.std.specs.Prelude.{is_some, map, ◌↔◌}
+use Rattle.std.specs.Prelude.{is_some, ◌↔◌}
 use Rattle.trace_laws.specs.Beginnings.{BeginsSo}
 use Rattle.trace_laws.specs.Gathers.{Gathers, events_in}
 use Rattle.trace_laws.proofs.Outcomes.Beginnings
