@@ -8,7 +8,7 @@ use Rattle.run_trace.specs.declared.packet.Packet.{Packet}
 use Rattle.run_trace.specs.Program.{Program}
 use Rattle.wires.specs.declared.ends.Ends.{Ends}
 use Rattle.wires.specs.Wires.{AreWired, StaysWired}
-use Rattle.basics.proofs.Laws.{by_eq, some_at, get_set_same, get_set_other}
+use Rattle.basics.proofs.Lemmas.{by_eq, some_at, get_set_same, get_set_other}
 use Rattle.node_loop.specs.View.{NodeView, raised}
 use Rattle.node_loop.specs.Turns.{IsInRange, IsLost, Turns, entry_limit}
 use Rattle.node_loop.specs.declared.node.Turned.{Turned}

@@ -18,13 +18,13 @@ use Rattle.run_trace.specs.Program.{Program, nodes_of, quantum_limit}
 use Rattle.run_trace.specs.Spots.{at_first}
 use Rattle.run_trace.specs.Trace.{done_for, events_of, prints_or, sends_or}
 use Rattle.trace_laws.specs.Beginnings.{BeginsSo}
-use Rattle.trace_laws.proofs.Laws.{begins_so, beginnings_legal, starts, run_whole}
+use Rattle.trace_laws.proofs.Lemmas.{begins_so, beginnings_legal, starts, run_whole}
 use Rattle.wires.specs.declared.ends.Ends.{Ends}
 use Rattle.wires.specs.Ends.{of_link, sent_to, received_from, width}
 use Rattle.wires.specs.Link.{link_sent, link_received}
 use Rattle.wires.specs.Wires.{row_link, sent_on, received_on, AreWired, AreFreshFor, StaysWired}
-use Rattle.wires.proofs.Laws.{all_stay_wired, sent_on-node, received_on-node, stays_refl}
-use Rattle.basics.proofs.Laws.{by_eq, by_less, some_at}
+use Rattle.wires.proofs.Lemmas.{all_stay_wired, sent_on-node, received_on-node, stays_refl}
+use Rattle.basics.proofs.Lemmas.{by_eq, by_less, some_at}
 use Rattle.node_loop.specs.View.{NodeView}
 use Rattle.cluster.specs.Between.{AllOf, AreNumbered, AreReady, HasBegun, HaveBegun, wires_in}
 use Rattle.cluster.specs.Standing.{StandsFor, AgreesWith, IsNodeOf, NoneLater, entries_at, net_after, turns_in}

@@ -9,7 +9,7 @@ use Rattle.std.proofs.lemmas.Option.{slice_get_past}
 use Rattle.run_trace.specs.declared.entry.Entry.{Entry}
 use Rattle.run_trace.specs.Histories.{own_entries}
 use Rattle.run_trace.specs.Program.{nodes_of}
-use Rattle.basics.proofs.Laws.{some_at}
+use Rattle.basics.proofs.Lemmas.{some_at}
 use Rattle.node_loop.specs.View.{NodeView, next_round}
 use Rattle.node_loop.specs.Turns.{entry_limit}
 use Rattle.cluster.specs.Standing.{AgreesWith, HasRoom, entries_at}

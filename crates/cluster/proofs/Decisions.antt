@@ -20,9 +20,9 @@ use Rattle.run_trace.specs.Program.{Program, nodes_of, processors_of}
 use Rattle.run_trace.specs.Rules.{spots_of}
 use Rattle.run_trace.specs.Spots.{Spots, at_first}
 use Rattle.run_trace.specs.Stands.{Stands}
-use Rattle.trace_laws.proofs.Laws.{Inside, run_inside, stuck, is_somewhere, lives_there, halts_are, starts, run_whole}
-use Rattle.run_trace.proofs.Laws.{is-refl}
-use Rattle.basics.proofs.Laws.{by_eq, by_less, some_at}
+use Rattle.trace_laws.proofs.Lemmas.{Inside, run_inside, stuck, is_somewhere, lives_there, halts_are, starts, run_whole}
+use Rattle.run_trace.proofs.Lemmas.{is-refl}
+use Rattle.basics.proofs.Lemmas.{by_eq, by_less, some_at}
 use Rattle.node_loop.specs.View.{NodeView}
 use Rattle.node_loop.specs.Turns.{can}
 use Rattle.cluster.specs.Acts.{holds, has_pick, runs_of, takes_of, moves_of, acts_of}

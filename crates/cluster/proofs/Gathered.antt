@@ -11,7 +11,7 @@ use Rattle.run_trace.specs.Legality.{AreRising, Begins, Legal, NoneAbove, boot_e
 use Rattle.run_trace.specs.Program.{Program, nodes_of}
 use Rattle.run_trace.specs.Trace.{IsRun, entry_of, event_of, events_of, net_after_trace}
 use Rattle.trace_laws.specs.Gathers.{Gathers, RoundsReached, IsReached, events_in, own_turns}
-use Rattle.trace_laws.proofs.Laws.{gathers_merges, determined, whole, node_is, link_is}
+use Rattle.trace_laws.proofs.Lemmas.{gathers_merges, determined, whole, node_is, link_is}
 use Rattle.cluster.specs.Gathering.{AreGathered, AreJoined, AreOfRound, GathersAfter, JoinsAfter, entries_in}
 use Rattle.cluster.specs.Standing.{AgreesWith, IsNodeOf, NoneLater, net_after, turn_in}
 use Rattle.cluster.specs.View.{ClusterView}

@@ -17,7 +17,7 @@ use Rattle.run_trace.specs.Legality.{Legal, Begins}
 use Rattle.run_trace.specs.Spots.{at_first}
 use Rattle.run_trace.specs.Trace.{IsRun, done_for, events_of, prints_or}
 use Rattle.trace_laws.specs.Gathers.{AllWithin}
-use Rattle.trace_laws.proofs.Laws.{fits_exactly, starts, run_whole, whole}
+use Rattle.trace_laws.proofs.Lemmas.{fits_exactly, starts, run_whole, whole}
 use Rattle.wires.specs.Ends.{known_from}
 use Rattle.node_loop.specs.View.{NodeView, next_round, raised}
 use Rattle.node_loop.specs.Turns.{IsActInRange, TakesKnown, Does, can}

@@ -1,4 +1,4 @@
-pub mod Laws
+pub mod Lemmas
 pub mod Lists
 pub mod Runs
 pub mod Clocks

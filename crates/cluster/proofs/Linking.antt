@@ -16,8 +16,8 @@ use Rattle.wires.specs.Ends.{known_from, of_link}
 use Rattle.wires.specs.Link as link
 use Rattle.wires.specs.Link.{link_received, link_sent, link_waiting, IsSettled}
 use Rattle.wires.specs.Wires.{row_link, link_at, known_on, received_on, sent_on, AreWired}
-use Rattle.basics.proofs.Laws.{some_at}
-use Rattle.wires.proofs.Laws.{known_on-node}
+use Rattle.basics.proofs.Lemmas.{some_at}
+use Rattle.wires.proofs.Lemmas.{known_on-node}
 use Rattle.node_loop.specs.View.{NodeView}
 use Rattle.node_loop.specs.Turns.{IsActInRange, can}
 use Rattle.cluster.specs.Acts.{is_possible}

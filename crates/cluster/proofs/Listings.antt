@@ -19,8 +19,8 @@ use Rattle.run_trace.specs.Program.{Program, nodes_of}
 use Rattle.run_trace.specs.Rules.{spots_of}
 use Rattle.run_trace.specs.Spots.{Spots, at_first}
 use Rattle.run_trace.specs.Stands.{Stands}
-use Rattle.trace_laws.proofs.Laws.{listed_is, starts, run_whole}
-use Rattle.run_trace.proofs.Laws.{is-refl, is-true}
+use Rattle.trace_laws.proofs.Lemmas.{listed_is, starts, run_whole}
+use Rattle.run_trace.proofs.Lemmas.{is-refl, is-true}
 use Rattle.node_loop.specs.View.{NodeView}
 use Rattle.node_loop.specs.Turns.{can}
 use Rattle.cluster.specs.Acts.{acts_of, holds, moves_to, possible_acts, ready_on, runs_of, takes_of}

@@ -10,7 +10,7 @@ use Rattle.run_trace.specs.declared.entry.Act.{Act}
 use Rattle.run_trace.specs.declared.entry.Act.TheVariants.{Take, Move}
 use Rattle.run_trace.specs.declared.packet.Packet.{Packet}
 use Rattle.wires.specs.declared.ends.Ends.{Ends}
-use Rattle.basics.proofs.Laws.{by_eq, get_set_same, get_set_other, some_at}
+use Rattle.basics.proofs.Lemmas.{by_eq, get_set_same, get_set_other, some_at}
 use Rattle.node_loop.specs.View.{NodeView, raised, with_ends}
 use Rattle.node_loop.specs.Turns.{can}
 use Rattle.cluster.specs.Between.{knows_of, takes_from, moves_among, wires_in, KeepNodes}

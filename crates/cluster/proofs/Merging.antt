@@ -6,7 +6,7 @@ use Rattle.std.proofs.lemmas.List.{reverse-append, reverse-reverse}
 use Rattle.run_trace.specs.declared.entry.Entry.{Entry}
 use Rattle.run_trace.specs.Histories.{IsInOrder, IsEntryAbove, own_entries}
 use Rattle.trace_merge.specs.Parts.{AreLater, IsPart, AreParts}
-use Rattle.basics.proofs.Laws.{by_eq}
+use Rattle.basics.proofs.Lemmas.{by_eq}
 use Rattle.node_loop.specs.View.{NodeView}
 use Rattle.cluster.specs.Between.{entries_of}
 use Rattle.cluster.specs.Standing.{HasTrace, entries_at}

@@ -18,13 +18,13 @@ use Rattle.run_trace.specs.Spots.{at_first}
 use Rattle.run_trace.specs.Legality.{NoneAbove}
 use Rattle.run_trace.specs.declared.entry.Act.TheVariants.{Boot, Run, Take, Move}
 use Rattle.run_trace.specs.Trace.{done_for, events_of, net_after_trace, sends_or}
-use Rattle.trace_laws.proofs.Laws.{run_inside}
+use Rattle.trace_laws.proofs.Lemmas.{run_inside}
 use Rattle.wires.specs.declared.ends.Ends.{Ends}
 use Rattle.wires.specs.Ends.{of_link, sent_to, width}
 use Rattle.wires.specs.Link.{link_sent, link_received}
 use Rattle.wires.specs.Wires.{link_at, sent_on, received_on}
-use Rattle.wires.proofs.Laws.{link_at-set_same, link_at-set_other, sent_on-node, received_on-node}
-use Rattle.basics.proofs.Laws.{by_eq, by_less, some_at, get_set_same, get_set_other}
+use Rattle.wires.proofs.Lemmas.{link_at-set_same, link_at-set_other, sent_on-node, received_on-node}
+use Rattle.basics.proofs.Lemmas.{by_eq, by_less, some_at, get_set_same, get_set_other}
 use Rattle.node_loop.specs.View.{NodeView, next_round, raised, with_ends}
 use Rattle.node_loop.specs.Turns.{IsActInRange, Does, can, entry_limit}
 use Rattle.cluster.specs.Between.{SettlesOf, wires_in}

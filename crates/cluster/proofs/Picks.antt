@@ -17,7 +17,7 @@ use Rattle.std.proofs.lemmas.List.{length-map}
 use Rattle.std.proofs.lemmas.Option.{slice_get-map, slice_get_past}
 use Rattle.std.specs.Option.{option_map}
 use Rattle.run_list.specs.Names.{names_of}
-use Rattle.run_list.proofs.Laws.{names_length}
+use Rattle.run_list.proofs.Lemmas.{names_length}
 use Rattle.cluster.proofs.Lists.{run_more, run_none}
 
 -- ## One list after another

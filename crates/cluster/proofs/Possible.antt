@@ -18,7 +18,7 @@ use Rattle.run_trace.specs.Cluster.{Net, fresh_net}
 use Rattle.run_trace.specs.Rules.{spots_of}
 use Rattle.run_trace.specs.Spots.{Spots, at_first}
 use Rattle.run_trace.specs.Stands.{Stands}
-use Rattle.trace_laws.proofs.Laws.{picked_there, some_pick, listed_there, starts, run_whole}
+use Rattle.trace_laws.proofs.Lemmas.{picked_there, some_pick, listed_there, starts, run_whole}
 use Rattle.wires.specs.Ends.{known_from}
 use Rattle.node_loop.specs.View.{NodeView, raised}
 use Rattle.node_loop.specs.Turns.{IsActInRange, IsImpossible, Turns, can}

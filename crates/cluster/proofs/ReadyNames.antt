@@ -18,9 +18,9 @@ use Rattle.run_trace.specs.Spots.{Spots}
 use Rattle.run_trace.specs.Stands.{Stands, listed, listed_name}
 use Rattle.run_list.specs.Names.{names_of}
 use Rattle.run_list.specs.Sorted.{put, IsLeast}
-use Rattle.run_list.proofs.Laws.{put_least, not_back, total, tied}
-use Rattle.trace_laws.proofs.Laws.{listed_found, listed_there}
-use Rattle.run_trace.proofs.Laws.{is-true, is-refl, is-flip}
+use Rattle.run_list.proofs.Lemmas.{put_least, not_back, total, tied}
+use Rattle.trace_laws.proofs.Lemmas.{listed_found, listed_there}
+use Rattle.run_trace.proofs.Lemmas.{is-true, is-refl, is-flip}
 use Rattle.node_state.specs.Views.{AreInOrder}
 use Rattle.cluster.specs.Acts.{ready_on}
 

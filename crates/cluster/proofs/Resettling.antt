@@ -9,7 +9,7 @@ use Rattle.run_trace.specs.Legality.{NoneAbove}
 use Rattle.run_trace.specs.Program.{Program}
 use Rattle.run_trace.specs.Spots.{at_first}
 use Rattle.wires.specs.declared.ends.Ends.{Ends}
-use Rattle.basics.proofs.Laws.{by_less, some_at}
+use Rattle.basics.proofs.Lemmas.{by_less, some_at}
 use Rattle.node_loop.specs.View.{NodeView, with_ends}
 use Rattle.cluster.specs.Between.{AllOf, AreNumbered, KeepNodes, SettlesAll}
 use Rattle.cluster.specs.Standing.{AgreesWith, NoneLater, StandsFor, entries_at, net_after}

@@ -15,7 +15,7 @@ use Rattle.run_trace.specs.Histories.{IsInOrder, IsEntryAbove, own_entries}
 use Rattle.run_trace.specs.Legality.{NoneAbove}
 use Rattle.run_trace.specs.Trace.{done_for, event_of, events_of, net_after_trace, sends_or}
 use Rattle.trace_laws.specs.Gathers.{AllWithin}
-use Rattle.basics.proofs.Laws.{by_eq}
+use Rattle.basics.proofs.Lemmas.{by_eq}
 use Rattle.cluster.specs.Standing.{NoneLater, net_after, turn_in, turns_in}
 use Rattle.run_trace.specs.Links.{first_of, rest_of, left_after, packets_to}
 

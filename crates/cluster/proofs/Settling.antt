@@ -7,8 +7,8 @@ use Rattle.wires.specs.declared.link.Link.{Link}
 use Rattle.wires.specs.Link.{IsSettled, BothBecome, OwnBecomes}
 use Rattle.wires.specs.Pairs.{PairChanged, SelfChanged}
 use Rattle.wires.specs.Wires.{link_at, known_on, AreWired, CarriedNoMore}
-use Rattle.basics.proofs.Laws.{by_eq, some_at, prefix_trans}
-use Rattle.wires.proofs.Laws.{Going, going_on, pair_going, self_going, carried_no_more}
+use Rattle.basics.proofs.Lemmas.{by_eq, some_at, prefix_trans}
+use Rattle.wires.proofs.Lemmas.{Going, going_on, pair_going, self_going, carried_no_more}
 use Rattle.node_loop.specs.View.{NodeView}
 use Rattle.cluster.specs.Between.{AreNumbered, KeepNodes, SettlesAll, SettlesOf, wires_in}
 use Rattle.cluster.proofs.Lists.{keeps_all, keeps_on}

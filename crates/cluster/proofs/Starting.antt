@@ -5,7 +5,7 @@ use Rattle.std.proofs.lemmas.Option.{slice_get_within, same_Some}
 use Rattle.run_trace.specs.Program.{Program}
 use Rattle.run_trace.specs.declared.packet.Packet.{Packet}
 use Rattle.wires.specs.declared.ends.Ends.{Ends}
-use Rattle.basics.proofs.Laws.{by_eq, get_last, get_before}
+use Rattle.basics.proofs.Lemmas.{by_eq, get_last, get_before}
 use Rattle.node_loop.specs.View.{NodeView}
 use Rattle.cluster.specs.Between.{HasBegun, HaveBegun}
 

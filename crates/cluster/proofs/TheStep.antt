@@ -9,7 +9,7 @@ use Rattle.run_trace.specs.declared.packet.Packet.{Packet}
 use Rattle.run_trace.specs.Program.{Program, nodes_of}
 use Rattle.wires.specs.declared.ends.Ends.{Ends}
 use Rattle.wires.specs.Wires.{AreWired}
-use Rattle.basics.proofs.Laws.{by_eq, by_less, some_at, get_set_same, get_set_other}
+use Rattle.basics.proofs.Lemmas.{by_eq, by_less, some_at, get_set_same, get_set_other}
 use Rattle.node_loop.specs.View.{NodeView, raised}
 use Rattle.node_loop.specs.Turns.{IsActInRange, IsInRange, can, entry_limit}
 use Rattle.node_loop.specs.declared.node.Turned.{Turned}

@@ -6,7 +6,7 @@ use Rattle.node_loop.specs.declared.node.Turned.{Turned}
 use Rattle.node_loop.specs.declared.node.Turned.TheVariants.{Did, Idle}
 use Rattle.cluster.specs.Standing.{HasRoom, IsStanding, Steps}
 use Rattle.cluster.specs.View.{ClusterView}
-use Rattle.cluster.proofs.Laws.{has_room}
+use Rattle.cluster.proofs.Lemmas.{has_room}
 use Rattle.cluster_tests.specs.Walks.{IsWalked}
 
 pub room : (c : ClusterView) → IsWalked c → c.turns < 1000 → (n : ℕ) → HasRoom c n

@@ -81,7 +81,7 @@ fn gives(nodes: &mut [Ends<u32>], first: u32, end: u32) -> bool
 }
 
 // Sends back a packet of node 0, if its ring shows one, plus 1000.
-#[tactic(auto, using(wires::proofs::Laws::stays_trans))]
+#[tactic(auto, using(wires::proofs::Lemmas::stays_trans))]
 fn answer_one(ends: &mut Ends<u32>) -> Result<(), NoMemory>
     requires { 0 < width ends.old }
     ensures wired { StaysWired ends.old ends.new }
@@ -95,7 +95,7 @@ fn answer_one(ends: &mut Ends<u32>) -> Result<(), NoMemory>
 }
 
 // Node 1 answers what its ring shows, and each node goes on with its outbox.
-#[tactic(auto, using(wires::proofs::Laws::stays_trans))]
+#[tactic(auto, using(wires::proofs::Lemmas::stays_trans))]
 fn answer(ends: &mut Ends<u32>) -> Result<(), NoMemory>
     requires { 0 < width ends.old }
     ensures { StaysWired ends.old ends.new }

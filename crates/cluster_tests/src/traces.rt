@@ -267,7 +267,7 @@ pub(crate) fn image(alloc: Global, words: &[u32]) -> Result<Image, NoMemory>
 }
 
 /// The entries of a trace text.
-#[tactic(auto, using(trace_text::proofs::Laws::few_lines))]
+#[tactic(auto, using(trace_text::proofs::Lemmas::few_lines))]
 fn entries(alloc: Global, text: &str) -> Result<Items<Entry>, Fail> {
     let text = text.as_bytes();
     if text.len() >= 0xffff_ffff {

@@ -6,7 +6,7 @@ use Rattle.std.proofs.lemmas.Bool.Decides.{nat_tests}
 use Rattle.std.proofs.lemmas.Bool.{false≢true, lt-ltb, le-ltb, eq-eqb, ne_eqb, cases_lt, cases_eq}
 use Rattle.slot_space.specs.Sets.{has, insert, union, minus, run, least_from, IsAscending}
 use Rattle.slot_space.specs.WordsBack.{has-run}
-use Rattle.slot_space.proofs.Laws.{has-insert, has-union, has-minus, ascending-insert, ascending-union, ascending-run, ascending-minus, same_members, least_from-found}
+use Rattle.slot_space.proofs.Lemmas.{has-insert, has-union, has-minus, ascending-insert, ascending-union, ascending-run, ascending-minus, same_members, least_from-found}
 
 -- a set without the members of another, by the test that the other answers
 pub minus-filter : (p : ℕ → Bool) (xs ys : List ℕ) → ((s : ℕ) → has s ys ≡ p s) → minus xs ys ≡ filter (λ s. not (p s)) xs

@@ -4,7 +4,7 @@ use Rattle.std.proofs.lemmas.Bool.{true≢false, le-leb, lt-ltb, and_parts, not-
 use Rattle.slot_space.specs.Limits.{slots_end, slot_size, slot_limit}
 use Rattle.slot_space.specs.Sets.{has, insert, union, minus, run, IsSlotSet}
 use Rattle.slot_space.specs.Places.{slot_base, HoldsAddress}
-use Rattle.slot_space.proofs.Laws.{has-union, ascending-insert, ascending-minus, below-insert, below-minus, length-insert, length-minus}
+use Rattle.slot_space.proofs.Lemmas.{has-union, ascending-insert, ascending-minus, below-insert, below-minus, length-insert, length-minus}
 use Rattle.iso_blocks.specs.declared.layout.Layout.{Layout}
 use Rattle.iso_blocks.specs.Bytes.{lies_in, in_slots, in_blocks, is_met}
 use Rattle.iso_blocks.specs.Heap.{IsBlock, with_block, without, Fits}

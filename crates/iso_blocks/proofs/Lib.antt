@@ -1,4 +1,4 @@
-pub mod Laws
+pub mod Lemmas
 pub mod Fit
 pub mod Edits
 pub mod Parts

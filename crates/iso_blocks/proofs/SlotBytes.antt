@@ -6,7 +6,7 @@ use Rattle.std.proofs.lemmas.Bool.{false≢true, le-leb, lt-ltb, eq-eqb, ne_eqb,
 use Rattle.slot_space.specs.Limits.{slot_size}
 use Rattle.slot_space.specs.Sets.{has, insert, minus, run}
 use Rattle.slot_space.specs.Places.{slot_base, HoldsAddress}
-use Rattle.slot_space.proofs.Laws.{has-insert}
+use Rattle.slot_space.proofs.Lemmas.{has-insert}
 use Rattle.slot_space.specs.WordsBack.{has-run}
 use Rattle.iso_blocks.specs.Bytes.{lies_in, in_slots, in_blocks, is_met}
 use Rattle.iso_blocks.specs.Heap.{IsBlock, StandFrom}

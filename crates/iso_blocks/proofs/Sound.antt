@@ -6,7 +6,7 @@ use Rattle.slot_space.specs.Limits.{slot_limit}
 use Rattle.slot_space.specs.Sets.{union, minus, run, IsSlotSet}
 use Rattle.slot_space.specs.Places.{HoldsAddress}
 use Rattle.slot_space.specs.WordsBack.{has-filter}
-use Rattle.slot_space.proofs.Laws.{has-union, has-minus, ascending-union, ascending-run, ascending-minus, below-union, below-run, below-minus}
+use Rattle.slot_space.proofs.Lemmas.{has-union, has-minus, ascending-union, ascending-run, ascending-minus, below-union, below-run, below-minus}
 use Rattle.iso_blocks.specs.Bytes.{in_slots, in_blocks, is_met}
 use Rattle.iso_blocks.specs.Heap.{Heap, StandFrom, IsSound, without, placed, with_slots, emptied, freed, Fits, IsLowestFit}
 use Rattle.iso_blocks.proofs.LiveBlocks.{StandFrom-with_block, StandFrom-without, StandFrom-slots, in_blocks-in_slots}

@@ -4,7 +4,7 @@ use Rattle.std.specs.Prelude.{nat_lt}
 use Rattle.std.proofs.lemmas.Bool.{eq-eqb, eqb-true, ltb-true}
 use Rattle.std.proofs.lemmas.Bool.Decides.{nat_tests}
 use Rattle.slot_space.specs.Sets.{has, minus, run, least_from, IsSlotSet}
-use Rattle.slot_space.proofs.Laws.{has-run, least_from-found}
+use Rattle.slot_space.proofs.Lemmas.{has-run, least_from-found}
 
 -- what is taken out counts among the members alone
 minus-same : (xs ys zs : List ℕ) → ((s : ℕ) → has s xs ≡ true → has s ys ≡ has s zs) → minus xs ys ≡ minus xs zs

@@ -4,7 +4,7 @@ use Rattle.std.proofs.Math.ListN.{drop_of_length-le}
 use Rattle.std.specs.List.{list_any}
 use Rattle.std.specs.Prelude.{map}
 use Rattle.slot_space.specs.Sets.{has, run, lowest_run, union}
-use Rattle.slot_space.proofs.Laws.{has-minus, has-union, found}
+use Rattle.slot_space.proofs.Lemmas.{has-minus, has-union, found}
 use Rattle.negotiate.specs.Runs.{without}
 use Rattle.negotiate.specs.Buying.{hand, is_in_one, times, parts, loans_in}
 

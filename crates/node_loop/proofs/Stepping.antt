@@ -17,7 +17,7 @@ use Rattle.run_trace.specs.Cluster.{taken_of}
 use Rattle.run_trace.specs.Histories.{IsShape, seen}
 use Rattle.wires.specs.declared.ends.Ends.{Ends}
 use Rattle.wires.specs.Ends.{received_from}
-use Rattle.wires.proofs.Laws.{stays_trans}
+use Rattle.wires.proofs.Lemmas.{stays_trans}
 use Rattle.node_state.specs.declared.done.Done.{Done}
 use Rattle.node_state.specs.Events.{Answers, event_of}
 use Rattle.node_loop.specs.View.{NodeView, unbooted}

@@ -13,8 +13,8 @@ use Rattle.wires.specs.declared.link.Link.{Link}
 use Rattle.wires.specs.Ends.{node_of, width, link_of, of_link, count_of_link, sent_to, received_from, spare_to, LinkChanged}
 use Rattle.wires.specs.Link.{link_sent, link_received, link_known, link_spare, HasTaken, HasSent, SameLink}
 use Rattle.wires.specs.Wires.{StaysWired}
-use Rattle.wires.proofs.Laws.{of_before, of_after, of_other, stays_refl, stays_trans}
-use Rattle.basics.proofs.Laws.{by_eq}
+use Rattle.wires.proofs.Lemmas.{of_before, of_after, of_other, stays_refl, stays_trans}
+use Rattle.basics.proofs.Lemmas.{by_eq}
 use Rattle.node_loop.specs.Turns.{CarriesNothing}
 use Rattle.node_loop.specs.Links.{TakesFirst, Took, Reserved, HasRoom, Sent}
 use Rattle.run_trace.specs.Links.{packets_to}

@@ -3,7 +3,7 @@ use Rattle.std.proofs.Common.{◌≡◌, ℕ, zero, suc, ◌+◌, ◌-◌, ◌<�
 use Rattle.run_trace.specs.Machine.{free_run}
 use Rattle.std.proofs.lemmas.Bool.Decides.{nat_tests}
 use Rattle.slot_space.specs.Sets.{has, minus, run, has_run, lowest_from, lowest_run, IsSlotSet}
-use Rattle.slot_space.proofs.Laws.{has-run, has-minus, found}
+use Rattle.slot_space.proofs.Lemmas.{has-run, has-minus, found}
 
 below : (set : ℕ → Bool) (count s left k : ℕ) → lowest_from set count s left ≡ Some k → k < s + left
 unfolding lowest_from

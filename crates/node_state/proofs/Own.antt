@@ -2,13 +2,13 @@
 use Rattle.std.proofs.Common.{◌≡◌, ℕ, List, [], ◌∷◌, Bool, true, false, eqb, cond, not, refl, sym, ap, ◌∙◌, subst, arith}
 use Rattle.std.proofs.lemmas.Bool.{eq-eqb, eqb-true}
 use Rattle.slot_space.specs.Sets.{has, union, minus, run, IsAscending, IsSlotSet}
-use Rattle.slot_space.proofs.Laws.{has-union, has-minus, has-filter, ascending-union, ascending-minus, ascending-run, same_members}
+use Rattle.slot_space.proofs.Lemmas.{has-union, has-minus, has-filter, ascending-union, ascending-minus, ascending-run, same_members}
 use Rattle.iso_blocks.specs.Bytes.{is_met}
 use Rattle.iso_blocks.specs.Heap.{Heap, with_slots, without, emptied, freed}
 use Rattle.rv_step.specs.declared.hart.Hart.{Hart}
 use Rattle.rv_step.specs.Memory.{slots_of}
 use Rattle.run_trace.specs.Guests.{with_zero_slots, without_slots}
-use Rattle.run_trace.proofs.Laws.{slots_takes, slots_gives}
+use Rattle.run_trace.proofs.Lemmas.{slots_takes, slots_gives}
 use Rattle.node_state.specs.Views.{IsOwn}
 
 -- a new thread has its stack alone

@@ -5,11 +5,11 @@ use Rattle.std.specs.List.{insert, remove}
 use Rattle.std.proofs.lemmas.Bool.{eq-eqb, cases_eq}
 use Rattle.std.proofs.lemmas.Bool.Decides.{nat_tests}
 use Rattle.slot_space.specs.Sets.{has, run}
-use Rattle.slot_space.proofs.Laws.{has-run}
+use Rattle.slot_space.proofs.Lemmas.{has-run}
 use Rattle.rv_step.specs.declared.memory.Held.{Held}
 use Rattle.rv_step.specs.Memory.{Memory, slots_of, new_place, block_of, slot_place}
 use Rattle.run_trace.specs.Guests.{zeros_of, with_zero_slot, with_zero_slots, without_slots}
-use Rattle.run_trace.proofs.Laws.{has_takes, none_held, some_held, not_held, missing}
+use Rattle.run_trace.proofs.Lemmas.{has_takes, none_held, some_held, not_held, missing}
 
 -- ## A run that is granted
 

@@ -4,7 +4,7 @@ use Rattle.std.specs.Prelude.{slice_index}
 use Rattle.std.proofs.lemmas.Bool.{eq-eqb}
 use Rattle.slot_space.specs.declared.names.Tid.{Tid}
 use Rattle.slot_space.specs.Sets.{has, insert, minus, IsSlotSet}
-use Rattle.slot_space.proofs.Laws.{ascending-insert, ascending-minus, same_members, has-insert, has-minus, has-left_out, insert-left_out, proper-left_out, length-insert}
+use Rattle.slot_space.proofs.Lemmas.{ascending-insert, ascending-minus, same_members, has-insert, has-minus, has-left_out, insert-left_out, proper-left_out, length-insert}
 use Rattle.iso_blocks.specs.Heap.{Heap, IsSound}
 use Rattle.rv_step.specs.declared.hart.Hart.{Hart}
 use Rattle.rv_step.specs.Memory.{slots_of}
@@ -12,7 +12,7 @@ use Rattle.rv_step.specs.Step.{state_of}
 use Rattle.lrpc.specs.declared.duty.Duty.TheVariants as duties
 use Rattle.pack_thread.specs.Rules.{KeepsRules}
 use Rattle.pack_thread.specs.Threads.{Thread as Packed, IsThread, IsTyped}
-use Rattle.pack_thread.proofs.Laws.{packable, rules_of_typed}
+use Rattle.pack_thread.proofs.Lemmas.{packable, rules_of_typed}
 use Rattle.run_trace.specs.declared.node.Wait.{Wait}
 use Rattle.run_trace.specs.Guests.{packed, guest_slots, unpacked}
 use Rattle.node_state.specs.Views.{thread_of, IsOwn, CanTravel}

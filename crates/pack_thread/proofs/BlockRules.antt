@@ -4,7 +4,7 @@ use Rattle.std.proofs.lemmas.Bool.{and_parts, and_from, eqb-true, eq-eqb, leb-tr
 use Rattle.slot_space.specs.Sets.{has_run}
 use Rattle.iso_blocks.specs.Bytes.{in_slots}
 use Rattle.iso_blocks.specs.Heap.{IsBlock}
-use Rattle.iso_blocks.proofs.Laws.{in_slots-some, in_slots-has}
+use Rattle.iso_blocks.proofs.Lemmas.{in_slots-some, in_slots-has}
 use Rattle.pack_thread.specs.Grammar.{is_start, is_size}
 
 pub same_test : (b c : Bool) → (b ≡ true → c ≡ true) → (c ≡ true → b ≡ true) → b ≡ c

@@ -1,4 +1,4 @@
-pub mod Laws
+pub mod Lemmas
 pub mod FieldLaws
 pub mod Steps
 pub mod PlaceSteps

@@ -3,10 +3,10 @@ use Rattle.std.proofs.Common.{◌≡◌, ℕ, ◌+◌, ◌*◌, ◌^◌, ◌<◌
 use Rattle.std.proofs.lemmas.Bool.{eq-eqb, ne_eqb, eqb-false, true≢false}
 use Rattle.slot_space.specs.Limits.{slots_end, slot_limit}
 use Rattle.slot_space.specs.Places.{slot_base}
-use Rattle.slot_space.proofs.Laws.{ascending-insert, below-insert}
+use Rattle.slot_space.proofs.Lemmas.{ascending-insert, below-insert}
 use Rattle.slot_space.specs.Sets.{has, insert, IsAscending, AreBelow, IsSlotSet}
 use Rattle.iso_blocks.specs.Heap.{StandFrom}
-use Rattle.iso_blocks.proofs.Laws.{slots_within}
+use Rattle.iso_blocks.proofs.Lemmas.{slots_within}
 
 -- numbers that ascend from one on and stay below a limit are no more than there are
 count_between : (low limit : ℕ) (xs : List ℕ) → low ≤ limit → IsAscending xs → ((s : ℕ) → has s xs ≡ true → low ≤ s) → AreBelow limit xs → low + length xs ≤ limit

@@ -11,7 +11,7 @@ use Rattle.slot_space.specs.Limits.{slot_size}
 use Rattle.slot_space.specs.Sets as sets
 use Rattle.rv_step.specs.declared.memory.Held.{Held}
 use Rattle.rv_step.specs.Memory.{Memory, IsAscending, slots_of, slot_place, block_of, new_place}
-use Rattle.rv_step.proofs.Laws.{place_at, no_place}
+use Rattle.rv_step.proofs.Lemmas.{place_at, no_place}
 use Rattle.pack_thread.specs.Threads.{bytes_of, AreWhole}
 
 -- each slot is one of the slots

@@ -4,7 +4,7 @@ use Rattle.std.specs.Prelude.{slice_index}
 use Rattle.std.proofs.lemmas.Bool.{eqb-true}
 use Rattle.slot_space.specs.Limits.{slot_limit}
 use Rattle.slot_space.specs.Sets.{has, insert, minus, IsAscending, IsSlotSet}
-use Rattle.slot_space.proofs.Laws.{ascending-insert, ascending-minus, below-minus, same_members, has-insert, has-minus}
+use Rattle.slot_space.proofs.Lemmas.{ascending-insert, ascending-minus, below-minus, same_members, has-insert, has-minus}
 use Rattle.rv_step.specs.Memory.{slots_of}
 use Rattle.pack_thread.specs.Rules.{KeepsRules}
 use Rattle.pack_thread.specs.Threads.{Thread, IsThread, IsTyped}

@@ -14,7 +14,7 @@ use Rattle.pack_thread.specs.Rules.{ServesNodes, KeepsRules}
 use Rattle.pack_thread.specs.Threads.{Thread, duty_numbers, block_numbers, heap_numbers, numbers_of}
 use Rattle.pack_thread.proofs.BlockRules.{run_all, all_run}
 use Rattle.pack_thread.proofs.Limits.{slots_few, with_stack}
-use Rattle.slot_space.proofs.Laws.{length-insert}
+use Rattle.slot_space.proofs.Lemmas.{length-insert}
 
 -- ## Blocks
 

@@ -3,7 +3,7 @@ use Rattle.std.proofs.Common.{◌≡◌, ℕ, zero, suc, ◌+◌, ◌-◌, ◌*�
 use Rattle.std.proofs.lemmas.Bool.{and_parts, not-true, ltb-true, leb-true, eq-eqb, ne_eqb, le-ltb, lt-ltb, ltb-false}
 use Rattle.slot_space.specs.Limits.{slot_limit}
 use Rattle.slot_space.specs.Sets.{has, insert, IsAscending, AreBelow}
-use Rattle.slot_space.proofs.Laws.{has-insert, ascending-insert, below-insert}
+use Rattle.slot_space.proofs.Lemmas.{has-insert, ascending-insert, below-insert}
 use Rattle.byteorder.specs.Endian.{little_number}
 use Rattle.pack_thread.specs.Fields.{Fields, Field, Reading, behind, number_at, read}
 use Rattle.std.proofs.lemmas.List.{append-nil, take_all, take_more_set, length-take}

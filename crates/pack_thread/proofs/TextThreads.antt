@@ -13,7 +13,7 @@ use Rattle.pack_thread.specs.Packed.{duty_numbered, call_numbered, blocks_number
 use Rattle.pack_thread.specs.Threads.{Thread, duty_numbers, block_numbers, heap_numbers, numbers_of, bytes_of, head_of, text_of, AreWhole, IsThread, IsTyped, IsTextOf}
 use Rattle.pack_thread.proofs.Building.{built}
 use Rattle.pack_thread.proofs.FieldLaws.{IsBytes}
-use Rattle.slot_space.proofs.Laws.{length-insert}
+use Rattle.slot_space.proofs.Lemmas.{length-insert}
 use Rattle.pack_thread.proofs.Texts.{text_read, same_pair, same_held, same_call, same_thread, found}
 
 -- ## Each section

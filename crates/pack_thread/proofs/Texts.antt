@@ -13,7 +13,7 @@ use Rattle.pack_thread.specs.Fields.{Reading, spelled, Obey, Fit, blocks_behind,
 use Rattle.pack_thread.specs.Grammar.{thread_fields, duty_fields, register_fields, place_fields, slot_fields, live_fields, block_fields, ends, read_text}
 use Rattle.pack_thread.specs.Threads.{Thread, duty_numbers, block_numbers, heap_numbers, numbers_of, bytes_of, head_of, text_of, AreWhole, IsThread, IsTyped, IsTextOf}
 use Rattle.pack_thread.proofs.FieldLaws.{IsBytes, takes, again}
-use Rattle.slot_space.proofs.Laws.{length-insert}
+use Rattle.slot_space.proofs.Lemmas.{length-insert}
 use Rattle.pack_thread.proofs.RuleLaws.{keeps}
 
 -- ## How many blocks stand behind the numbers

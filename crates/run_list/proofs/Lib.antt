@@ -1,4 +1,4 @@
-pub mod Laws
+pub mod Lemmas
 pub mod Sorted
 pub mod OfRows
 pub mod Rows

@@ -10,7 +10,7 @@ use Rattle.run_trace.specs.Names.{tid_cmp, is_tid}
 use Rattle.run_trace.specs.Places.{is_listed, without_row}
 use Rattle.run_list.specs.Names.{names_of}
 use Rattle.run_list.specs.Sorted.{put, without, holds, AreUp}
-use Rattle.run_trace.proofs.Laws.{is-true}
+use Rattle.run_trace.proofs.Lemmas.{is-true}
 use Rattle.run_list.proofs.Sorted.{put_put, up_put, holds_put, put_length, without_put}
 
 pub total : IsTotalOrder tid_cmp

@@ -110,7 +110,7 @@ impl RunList {
     }
 
     /// The thread arrives. Want of memory is also where no more arrivals can be counted.
-    #[tactic(auto, using(run_trace::proofs::Laws::root_pushed))]
+    #[tactic(auto, using(run_trace::proofs::Lemmas::root_pushed))]
     pub fn arrive(&mut self, t: Tid, priority: u8) -> Result<(), NoMemory>
         ensures { IfOk result (λ _. self.new ≡ arrived t priority self.old) }
     {
@@ -131,7 +131,7 @@ impl RunList {
     }
 
     /// The thread's first row goes, if it has one.
-    #[tactic(auto, using(run_trace::proofs::Laws::root_without))]
+    #[tactic(auto, using(run_trace::proofs::Lemmas::root_without))]
     pub fn take_off(&mut self, t: Tid)
         ensures { self.new ≡ taken_off t self.old }
     {
@@ -162,7 +162,7 @@ impl RunList {
     }
 
     /// The row that is picked, on whatever processor of whatever tree.
-    #[tactic(auto, using(run_trace::proofs::Laws::on_root))]
+    #[tactic(auto, using(run_trace::proofs::Lemmas::on_root))]
     pub fn best(&self) -> Option<Row>
         ensures { (tree : Tree) (vp : ℕ) → result ≡ best_on tree vp self.now.rows }
     {

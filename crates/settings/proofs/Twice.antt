@@ -6,7 +6,7 @@ use Rattle.std.specs.List.{list_all}
 use Rattle.std.proofs.lemmas.List.Elements.{All-cons, All-nil}
 use Rattle.words.specs.Uses.{is_use}
 use Rattle.words.specs.Words.{Item, Text, file, form_of, is_name, items_of, plain, values}
-use Rattle.words.proofs.Laws.{same_text, tally, tally_is, uses_have_values}
+use Rattle.words.proofs.Lemmas.{same_text, tally, tally_is, uses_have_values}
 use Rattle.settings.specs.declared.verb.Verb.{Verb}
 use Rattle.settings.specs.declared.command.Command.{Command}
 use Rattle.settings.specs.declared.command.Command.TheVariants as command

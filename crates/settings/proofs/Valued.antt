@@ -5,7 +5,7 @@ use Rattle.std.specs.Str.{bytes_eq}
 use Rattle.std.specs.List.{list_all, list_any}
 use Rattle.std.proofs.lemmas.List.Elements.{All-cons, All-nil}
 use Rattle.words.specs.Words.{Form, GrammarOf, Item, Text, end, file, form_of, has, is_clean, is_name, items_from, items_of, long, long_items, plain, value_items, values, with_item, word_items}
-use Rattle.words.proofs.Laws.{same_text}
+use Rattle.words.proofs.Lemmas.{same_text}
 use Rattle.std.proofs.lemmas.Bool.{and_parts}
 use Rattle.settings.specs.declared.verb.Verb.{Verb}
 use Rattle.settings.specs.declared.verb.Verb.TheVariants as verb

@@ -16,7 +16,7 @@ use Rattle.run_trace.specs.Program.{Program, nodes_of}
 use Rattle.run_trace.specs.Rules.{spots_of}
 use Rattle.run_trace.specs.Spots.{Spots, Ready, On, at_first, after_labels}
 use Rattle.run_trace.specs.Stands.{Here, listed, listed_name, row_in_life}
-use Rattle.trace_laws.proofs.Laws.{starts, run_whole}
+use Rattle.trace_laws.proofs.Lemmas.{starts, run_whole}
 use Rattle.cluster.specs.Acts.{has_pick, acts_of, takes_of, moves_of, possible_acts}
 use Rattle.cluster.specs.Standing.{net_after}
 use Rattle.simulation.specs.Drawn.{possible_after}

@@ -15,7 +15,7 @@ use Rattle.run_trace.specs.Program.{Program, nodes_of}
 use Rattle.run_trace.specs.Spots.{at_first}
 use Rattle.node_loop.specs.Turns.{IsActInRange, entry_limit}
 use Rattle.node_loop.specs.View.{next_round}
-use Rattle.cluster.proofs.Laws.{next_is}
+use Rattle.cluster.proofs.Lemmas.{next_is}
 use Rattle.wires.specs.declared.ends.Ends.{Ends}
 use Rattle.cluster.specs.Acts.{is_possible}
 use Rattle.cluster.specs.Outcomes.{GoesOn, IsDoneAt, IsStuckAt, IsAt}

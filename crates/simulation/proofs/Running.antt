@@ -17,7 +17,7 @@ use Rattle.run_trace.specs.Spots.{at_first}
 use Rattle.cluster.specs.Outcomes.{GoesOn, IsDoneAt, IsStuckAt, IsAt}
 use Rattle.cluster.specs.declared.deciding.State.{State}
 use Rattle.cluster.specs.declared.deciding.State.TheVariants.{Going, Done, Stalled}
-use Rattle.cluster.proofs.Laws.{next_is}
+use Rattle.cluster.proofs.Lemmas.{next_is}
 use Rattle.node_loop.specs.Turns.{entry_limit}
 use Rattle.node_loop.specs.View.{next_round}
 use Rattle.cluster.specs.Standing.{StandsFor, HaveCarried, Loses}

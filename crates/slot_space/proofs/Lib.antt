@@ -1,4 +1,4 @@
-pub mod Laws
+pub mod Lemmas
 pub mod Ascending
 pub mod Lengths
 mod Ones

@@ -22,7 +22,7 @@
 --   told                Outcomes.Legals, over Underway.Simulate
 --   unforged            Strays.Strangers
 --   whole               Outcomes.Legals, over Underway.Simulate
-pub mod Laws
+pub mod Lemmas
 pub mod Merging
 pub mod Lists
 pub mod Lives

@@ -1,4 +1,4 @@
-pub mod Laws
+pub mod Lemmas
 pub mod Again
 pub mod Digits
 pub mod LineFacts

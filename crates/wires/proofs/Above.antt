@@ -8,7 +8,7 @@ use Rattle.wires.specs.declared.ends.Ends.{Ends}
 use Rattle.wires.specs.Link.{link_sent, link_received, link_known, link_waiting, SameLink}
 use Rattle.wires.specs.Ends.{link_of, of_link, sent_to, received_from, known_from, LinkChanged, AreFlushed, AreUnused}
 use Rattle.wires.specs.Wires.{row_link, link_at, sent_on, received_on, known_on, waiting_on, AreWired, StaysWired, AreInOrder, AreSettled, AreFreshFor}
-use Rattle.basics.proofs.Laws.{by_eq, by_less, some_at, get_set_same, get_set_other}
+use Rattle.basics.proofs.Lemmas.{by_eq, by_less, some_at, get_set_same, get_set_other}
 
 -- lists that have the same at each place are the same
 same_list : {A : Type 0} (xs ys : List A) → ((i : ℕ) → slice_get xs i ≡ slice_get ys i) → xs ≡ ys

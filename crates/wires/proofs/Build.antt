@@ -10,7 +10,7 @@ use Rattle.wires.specs.Link.{link_sent, link_received, link_known}
 use Rattle.wires.specs.Wires.{link_at, AreWired, AreFreshFor}
 use Rattle.wires.specs.Built.{IsFresh, IsBuilt, Gains, Joined, JoinedBelow}
 use Rattle.wires.proofs.Pairs.{row_case}
-use Rattle.basics.proofs.Laws.{by_eq, by_less, get_set_same, get_set_other, get_last, get_before, some_at}
+use Rattle.basics.proofs.Lemmas.{by_eq, by_less, get_set_same, get_set_other, get_last, get_before, some_at}
 
 -- a relation holds along equations
 pub along : {A B : Type 0} (R : A → B → Type 0) (a a' : A) (b b' : B) → a' ≡ a → b' ≡ b → R a b → R a' b'

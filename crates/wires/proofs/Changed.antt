@@ -8,7 +8,7 @@ use Rattle.wires.specs.declared.ends.Ends.{Ends}
 use Rattle.wires.specs.Link.{link_spare, SameRings}
 use Rattle.wires.specs.Ends.{node_of, width, link_of, count_of_link, spare_to, SameOthers, LinkChanged, ArePaired, BothChanged}
 use Rattle.wires.specs.Wires.{StaysWired}
-use Rattle.basics.proofs.Laws.{by_eq, get_set_same, get_set_other}
+use Rattle.basics.proofs.Lemmas.{by_eq, get_set_same, get_set_other}
 use Rattle.wires.proofs.Rings.{rings_refl, pair_kept, keeps_wired}
 
 module _ {P : Type 0} where

@@ -5,7 +5,7 @@ use Rattle.wires.specs.declared.link.Link.{Link}
 use Rattle.wires.specs.declared.ends.Ends.{Ends}
 use Rattle.wires.specs.Link.{HasFlushed}
 use Rattle.wires.specs.Ends.{node_of, width, link_of, LinkChanged, AreFlushed}
-use Rattle.basics.proofs.Laws.{by_eq}
+use Rattle.basics.proofs.Lemmas.{by_eq}
 
 module _ {P : Type 0} where
   -- the links below n were flushed, and the others are the same

@@ -1,4 +1,4 @@
-pub mod Laws
+pub mod Lemmas
 pub mod Order
 pub mod Rings
 pub mod Changed

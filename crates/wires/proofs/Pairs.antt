@@ -8,7 +8,7 @@ use Rattle.wires.specs.declared.ends.Ends.{Ends}
 use Rattle.wires.specs.Ends.{node_of, link_of, SameOthers, LinkChanged, BothChanged, ArePaired}
 use Rattle.wires.specs.Wires.{row_link, link_at, AreWired, StaysWired}
 use Rattle.wires.specs.Pairs.{PairChanged, SelfChanged}
-use Rattle.basics.proofs.Laws.{by_eq, by_less, some_at, get_set_same, get_set_other}
+use Rattle.basics.proofs.Lemmas.{by_eq, by_less, some_at, get_set_same, get_set_other}
 
 module _ {P : Type 0} where
   -- a link that is there is one of a node that is there

@@ -8,7 +8,7 @@ use Rattle.wires.specs.declared.ends.Ends.{Ends}
 use Rattle.wires.specs.Link.{SameRings}
 use Rattle.wires.specs.Ends.{node_of, width, link_of}
 use Rattle.wires.specs.Wires.{row_link, link_at, AreWired, StaysWired}
-use Rattle.basics.proofs.Laws.{by_eq, some_at, get_set_same, get_set_other, set_get}
+use Rattle.basics.proofs.Lemmas.{by_eq, some_at, get_set_same, get_set_other, set_get}
 use Rattle.std.proofs.lemmas.List.{set-set}
 
 module _ {P : Type 0} where

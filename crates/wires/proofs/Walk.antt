@@ -8,7 +8,7 @@ use Rattle.wires.specs.Link.{link_sent, link_received, link_known, link_waiting,
 use Rattle.wires.specs.Ends.{of_link, count_of_link}
 use Rattle.wires.specs.Wires.{row_link, link_at, AreWired, AreInOrder, AreSettled, CarriedNoMore}
 use Rattle.wires.specs.Pairs.{PairChanged, SelfChanged}
-use Rattle.basics.proofs.Laws.{by_eq, by_less, by_pair, some_at, prefix_refl, prefix_trans}
+use Rattle.basics.proofs.Lemmas.{by_eq, by_less, by_pair, some_at, prefix_refl, prefix_trans}
 
 module _ {P : Type 0} where
   kept_refl : (a : Link P) → KeptLink a a

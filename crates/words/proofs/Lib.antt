@@ -1,4 +1,4 @@
-pub mod Laws
+pub mod Lemmas
 pub mod Rules
 pub mod Rows
 pub mod Values

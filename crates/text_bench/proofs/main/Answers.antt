@@ -1,5 +1,5 @@
 use Rattle.std.proofs.Common.{rules, tests}
-use Rattle.trace_text.proofs.Laws.{few_lines}
+use Rattle.trace_text.proofs.Lemmas.{few_lines}
 use Rattle.text_bench.proofs.main.Goals as goal
 
 pub read_trace-requires : goal.read_trace-requires

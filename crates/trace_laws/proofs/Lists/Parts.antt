@@ -11,7 +11,7 @@ use Rattle.run_trace.specs.Places.{Places, arrived, without_row, is_listed, IsIn
 use Rattle.run_trace.specs.Keyed.{AreApart, item_of}
 use Rattle.run_trace.specs.Spots.{Stage, Ready, Running, Due, Served, Told_next, Told_then, Departs, Ends, Leaves, Halts, Stays, Shows, Shown_there, Asks, Awaits, Answered, Life, Unborn, On, Moving, Noting, Gone, Response, Spot}
 use Rattle.run_trace.specs.Stands.{listed, listed_name, Busy, busy, busy_part, thread_part, thread_in_life, row_part, row_in_life, row_in_stage, Word, Travels, Line, Line_shown, Joins, Reply, Ended_word, Way, ways_of}
-use Rattle.run_trace.proofs.Laws.{is-true, is-refl}
+use Rattle.run_trace.proofs.Lemmas.{is-true, is-refl}
 use Rattle.trace_laws.proofs.Lists.KeyedLemmas.{without}
 use Rattle.trace_laws.proofs.Lists.Subjects.{IsOneOf}
 use Rattle.trace_laws.proofs.Underway.Midst.{Frame, Plain}

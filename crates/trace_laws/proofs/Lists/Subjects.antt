@@ -3,7 +3,7 @@ use Rattle.std.proofs.Common.{◌≡◌, ◌⊎◌, inl, inr, ℕ, List, [], ◌
 use Rattle.std.proofs.lemmas.Bool.{eqb-true}
 use Rattle.run_trace.specs.Items.{Subject, Thread, same_subject}
 use Rattle.run_trace.specs.Stands.{Word, word_subject, words_about, Way, on_link}
-use Rattle.run_trace.proofs.Laws.{is-true, is-refl}
+use Rattle.run_trace.proofs.Lemmas.{is-true, is-refl}
 
 pub subject-true : (a b : Subject) → same_subject a b ≡ true → a ≡ b
 subject-true (Thread t) (Thread u) e = ap Thread (is-true t u e)

@@ -34,7 +34,7 @@ use Rattle.run_trace.specs.Spots.{Stage, Life, Unborn, On, Moving, Noting, Gone,
 use Rattle.run_trace.specs.Stands.{Stands, thread_part, thread_in_life, thread_in_stage, held, slots_held, is_thread, Word, Travels, word_subject, word_of, words_of, words_about, ways_of, on_link}
 use Rattle.run_trace.specs.Alone.{Alone, alone_then, alone_after, alone_in, alone_of, asked_in, heap_call, unless_refused, answered, is_about, EachRunsAlone, remote_in, remote_of}
 use Rattle.run_trace.specs.Holding.{Place, On_node, On_link, IsAmong, IsAt, Has, EachHeldOnce}
-use Rattle.run_trace.proofs.Laws.{is-true, is-refl}
+use Rattle.run_trace.proofs.Lemmas.{is-true, is-refl}
 use Rattle.trace_laws.proofs.Lists.Parts.{Tells, at_way}
 use Rattle.trace_laws.proofs.Lists.Subjects.{IsOneOf, on_way}
 use Rattle.run_trace.specs.Items.{subject, same_subject, Thread as Subject_of}

@@ -8,7 +8,7 @@ use Rattle.run_trace.specs.Guests.{Guest, Thread, waits, is_unwaiting}
 use Rattle.run_trace.specs.Places.{best, best_of, best_on, is_listed, IsIn, AreOnRoot}
 use Rattle.run_trace.specs.declared.node.Row.{Row}
 use Rattle.run_trace.specs.World.{Listed}
-use Rattle.run_trace.proofs.Laws.{on_root}
+use Rattle.run_trace.proofs.Lemmas.{on_root}
 use Rattle.run_trace.specs.Cluster.{Net}
 use Rattle.run_trace.specs.Holding.{IsOn}
 use Rattle.run_trace.specs.Spots.{Stage, Ready, Running, Due, Served, Told_next, Told_then, Departs, Ends, Leaves, Halts, Stays, Shows, Showing, Shown_there, Asks, Awaits, Answers, Answered, Life, On, Spots}

@@ -4,7 +4,7 @@ use Rattle.std.proofs.lemmas.Bool.{ltb-true}
 use Rattle.slot_space.specs.Sets.{has, run}
 use Rattle.slot_space.specs.Places.{starting_slots}
 use Rattle.slot_space.specs.declared.names.Tid.{Tid}
-use Rattle.slot_space.proofs.Laws.{has-filter, has-run}
+use Rattle.slot_space.proofs.Lemmas.{has-filter, has-run}
 use Rattle.run_trace.specs.declared.entry.Entry.{Entry}
 use Rattle.run_trace.specs.declared.label.Label.{Label}
 use Rattle.run_trace.specs.declared.packet.Send.{Send}

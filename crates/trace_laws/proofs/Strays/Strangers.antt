@@ -6,7 +6,7 @@ use Rattle.std.specs.Map.{lookup, set_value}
 use Rattle.std.specs.BTreeMap.{insert_entry}
 use Rattle.std.proofs.lemmas.Bool.{and_parts}
 use Rattle.slot_space.specs.Sets.{has, meets}
-use Rattle.slot_space.proofs.Laws.{meets-common}
+use Rattle.slot_space.proofs.Lemmas.{meets-common}
 use Rattle.slot_space.specs.Replies.{reply_code}
 use Rattle.slot_space.specs.declared.names.Tid.{Tid}
 use Rattle.marcel_core.specs.declared.end.End.{End}
@@ -24,7 +24,7 @@ use Rattle.run_trace.specs.Local.{Local, nothing}
 use Rattle.run_trace.specs.Steps.{tell, tell_found, comes, arrive, thread_in, say, keep, put, print, shows, acknowledges, hears, knows, change_name, reply_by_link}
 use Rattle.run_trace.specs.Machine.{takes, accepts, is_stray, may_come, is_unserving, lives_yet, are_away, judges_join, tells_joiner}
 use Rattle.trace_laws.specs.Strays.{slots_with, slots_here, IsHeldOnce}
-use Rattle.run_trace.proofs.Laws.{is-true, is-refl}
+use Rattle.run_trace.proofs.Lemmas.{is-true, is-refl}
 use Rattle.trace_laws.proofs.Lists.KeyedLemmas.{lookup-set_same, lookup-set_other, lookup-insert}
 
 -- a node whose own slots and whose threads' slots are as before

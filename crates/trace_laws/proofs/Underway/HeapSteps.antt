@@ -3,7 +3,7 @@ use Rattle.std.proofs.Common.{◌≡◌, ℕ, ◌<◌, List, [], ◌∷◌, Opti
 use Rattle.std.proofs.lemmas.Bool.{eq-eqb}
 use Rattle.slot_space.specs.Sets.{has, minus, run}
 use Rattle.slot_space.specs.declared.names.Tid.{Tid}
-use Rattle.slot_space.proofs.Laws.{lowest_run-found, lowest_run-same, has-minus}
+use Rattle.slot_space.proofs.Lemmas.{lowest_run-found, lowest_run-same, has-minus}
 use Rattle.iso_blocks.specs.Heap.{rounded, place, emptied}
 use Rattle.run_trace.specs.declared.label.Label.TheVariants.{Took, Gave}
 use Rattle.run_trace.specs.declared.node.Wait.TheVariants as wait
@@ -22,7 +22,7 @@ use Rattle.run_trace.specs.Cluster.{Net}
 use Rattle.run_trace.specs.Spots.{Stage, Served, On, Spot, Spots, Of_node, Of_thread, update, gave_life}
 use Rattle.run_trace.specs.Rules.{Occasion, is_free, lowest_free, MayGive}
 use Rattle.run_trace.specs.Stands.{Busy, busy, busy_name, busy_part, thread_part, row_part, listed, listed_name, held, slots_held, IsWellHeld, is_thread}
-use Rattle.run_trace.proofs.Laws.{is-true, is-refl, has_gives, has_takes}
+use Rattle.run_trace.proofs.Lemmas.{is-true, is-refl, has_gives, has_takes}
 use Rattle.trace_laws.proofs.Lists.KeyedLemmas.{kept, map_set}
 use Rattle.run_trace.specs.World.{World, world_after}
 use Rattle.trace_laws.proofs.Underway.Midst.{Links, Midst, keeps, spots_with, Then, updated}

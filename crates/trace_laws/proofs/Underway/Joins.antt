@@ -23,7 +23,7 @@ use Rattle.run_trace.specs.Keyed.{StandsFor}
 use Rattle.run_trace.specs.Spots.{Stays, Asks, Awaits, Answers, Life, Unborn, On, Noting, Gone, Spot, Spots, update, at_node, heard_life, heard_at, joined_at, end_in, joiner_served, after_label}
 use Rattle.run_trace.specs.Rules.{Occasion, JoinerAwaits}
 use Rattle.run_trace.specs.Stands.{way, Agrees, Busy, busy, busy_name, busy_part, thread_part, thread_in_life, row_part, row_in_life, listed, listed_name, Joins, Ended_word, ways_of, phase_of, phase_at, During, After, held, holding_of, slots_held, IsWellHeld, is_thread}
-use Rattle.run_trace.proofs.Laws.{is-true, is-refl, is-false, is-other, is-flip, same_name}
+use Rattle.run_trace.proofs.Lemmas.{is-true, is-refl, is-false, is-other, is-flip, same_name}
 use Rattle.trace_laws.proofs.Lists.KeyedLemmas.{kept, fronted, map_kept}
 use Rattle.trace_laws.proofs.Lists.Births.{get-with, with-none}
 use Rattle.run_trace.specs.World.{World}

@@ -7,7 +7,7 @@ use Rattle.std.proofs.lemmas.List.{append-nil}
 use Rattle.slot_space.specs.Sets.{has, minus, union, run}
 use Rattle.slot_space.specs.Replies.{tid_value}
 use Rattle.slot_space.specs.declared.names.Tid.{Tid}
-use Rattle.slot_space.proofs.Laws.{has-union, has-minus, has-run, lowest_run-same, found}
+use Rattle.slot_space.proofs.Lemmas.{has-union, has-minus, has-run, lowest_run-same, found}
 use Rattle.marcel_core.specs.declared.end.End.{End}
 use Rattle.marcel_core.specs.declared.birth.Birth.TheVariants.{Lives, Awaited}
 use Rattle.run_trace.specs.declared.label.Label.{Label}
@@ -29,7 +29,7 @@ use Rattle.run_trace.specs.Spots.{Stage, Stays, Ready, Due, Served, Ends, Leaves
 use Rattle.run_trace.specs.Rules.{Occasion, is_free, lowest_free, MayGive}
 use Rattle.run_trace.specs.Console.{shown_by}
 use Rattle.run_trace.specs.Stands.{Here, Agrees, Busy, busy, busy_name, busy_part, thread_part, thread_in_life, row_part, row_in_life, listed, listed_name, ways_of, phase_of, phase_at, Before, During, held, slots_held, IsWellHeld, is_thread}
-use Rattle.run_trace.proofs.Laws.{is-other, is-true, is-refl, is-false, is-flip, same_name}
+use Rattle.run_trace.proofs.Lemmas.{is-other, is-true, is-refl, is-false, is-flip, same_name}
 use Rattle.trace_laws.proofs.Lists.KeyedLemmas.{kept, added, unfronted, refronted, map_kept, map_removed, map_added}
 use Rattle.trace_laws.proofs.Lists.Births.{get-push, get-past, no_bytes, plain_start}
 use Rattle.run_trace.specs.World.{World}

@@ -24,7 +24,7 @@ use Rattle.trace_laws.proofs.Lists.Arriving.{places_after, places_after_all, ris
 use Rattle.run_trace.specs.Causes.{causes, send_to}
 use Rattle.run_trace.specs.Obeying.{IsNext, Allows}
 use Rattle.run_trace.specs.Stands.{Here, Agrees, Busy, busy_name, busy_part, thread_part, row_part, link_part, listed, listed_name, Word, word_subject, word_of, words_about, Way, way, ways_of, on_link, phase_of, phase_at, Holding, held, slots_held, IsWellHeld, is_thread}
-use Rattle.run_trace.proofs.Laws.{is-true, is-refl, is-same}
+use Rattle.run_trace.proofs.Lemmas.{is-true, is-refl, is-same}
 use Rattle.trace_laws.proofs.Lists.Subjects.{less_word, rest_words, about-append, about-less, about-less_other, on_link-append}
 use Rattle.trace_laws.proofs.Lists.KeyedLemmas.{kept, map_kept}
 use Rattle.run_trace.specs.Items.{Subject, Thread, same_subject, Item, Does, is_busy, goes_on_with, busy_among, all_but_first, to_do_after}

@@ -31,7 +31,7 @@ use Rattle.run_trace.specs.Console.{shown_by_all}
 use Rattle.run_trace.specs.Obeying.{Starts, first_birth}
 use Rattle.run_trace.specs.Spots.{Ready, Shown_there, Answered, Unborn, On, Noting, Response, Spots, second_of, after_labels}
 use Rattle.run_trace.specs.Stands.{Here, Stands, Line_shown, Reply, word_subject, word_of, words_of, words_about, way, ways_of, link_part, listed, listed_name, phase_of}
-use Rattle.run_trace.proofs.Laws.{is-refl}
+use Rattle.run_trace.proofs.Lemmas.{is-refl}
 use Rattle.run_trace.specs.declared.label.Label.{Label}
 use Rattle.trace_laws.proofs.Lists.Arriving.{places_after_all, picked_is, on_list_is}
 use Rattle.run_trace.specs.World.{Listed, World}

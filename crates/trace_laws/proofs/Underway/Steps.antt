@@ -34,7 +34,7 @@ use Rattle.run_trace.specs.Spots.{Stage, Ready, Running, Due, Served, Told_next,
 use Rattle.run_trace.specs.Rules.{Occasion, quantum_in, MayTell, MayLeave, lowest_free}
 use Rattle.run_trace.specs.Console.{shown_by}
 use Rattle.run_trace.specs.Stands.{Busy, busy, busy_name, busy_part, thread_part, thread_in_life, thread_in_stage, row_part, row_in_life, row_in_stage, listed, listed_name, word_subject, word_of, way, ways_of, phase_of, held, held_in_stage, holding_of}
-use Rattle.run_trace.proofs.Laws.{is-true, is-refl}
+use Rattle.run_trace.proofs.Lemmas.{is-true, is-refl}
 use Rattle.trace_laws.proofs.Lists.KeyedLemmas.{lookup-set_same, kept, removed, added, replaced, fronted, unfronted, refronted, map_kept, map_removed, map_set}
 use Rattle.trace_laws.proofs.Lives.RunLemmas.{run_does, run_stepped, run_slots}
 use Rattle.trace_laws.proofs.Lists.Arriving.{places_after, ran_places}

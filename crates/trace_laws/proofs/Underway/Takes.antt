@@ -5,7 +5,7 @@ use Rattle.std.specs.List.{list_all}
 use Rattle.std.specs.Map.{lookup}
 use Rattle.std.proofs.lemmas.Bool.{eq-eqb, eqb-true}
 use Rattle.slot_space.specs.Sets.{has, meets}
-use Rattle.slot_space.proofs.Laws.{meets-some}
+use Rattle.slot_space.proofs.Lemmas.{meets-some}
 use Rattle.slot_space.specs.Replies.{reply_code}
 use Rattle.slot_space.specs.declared.names.Tid.{Tid}
 use Rattle.slot_space.specs.declared.names.Reply.{Reply as TheReply}
@@ -29,7 +29,7 @@ use Rattle.run_trace.specs.Spots.{Stage, Ready, Shows, Showing, Shown_there, Awa
 use Rattle.run_trace.specs.Rules.{Occasion, MayTell, is_free}
 use Rattle.run_trace.specs.Console.{asked_bytes}
 use Rattle.run_trace.specs.Stands.{Busy, busy, busy_name, busy_part, thread_part, thread_in_life, thread_in_stage, row_part, row_in_life, row_in_stage, listed, listed_name, Word, Travels, Line, Line_shown, way, ways_of, phase_of, phase_at, During, held, holding_of, slots_held, is_thread}
-use Rattle.run_trace.proofs.Laws.{is-true, is-refl}
+use Rattle.run_trace.proofs.Lemmas.{is-true, is-refl}
 use Rattle.trace_laws.proofs.Lists.KeyedLemmas.{kept, added, fronted, unfronted, map_kept, map_set, map_added}
 use Rattle.run_trace.specs.World.{World}
 use Rattle.trace_laws.proofs.Underway.Midst.{Links, Midst, plain, keeps, LinkStands, at_link, spots_with, take_link, nothing_sent, nothing_sent_from}

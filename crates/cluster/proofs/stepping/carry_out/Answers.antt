@@ -1,6 +1,6 @@
 use Rattle.std.proofs.Common.{set, sym, subst, ap}
 use Rattle.wires.specs.Wires.{AreWired}
-use Rattle.basics.proofs.Laws.{some_at}
+use Rattle.basics.proofs.Lemmas.{some_at}
 use Rattle.node_loop.specs.View.{raised}
 use Rattle.node_loop.specs.Turns.{IsLost, Turns}
 use Rattle.cluster.specs.Between.{AreNumbered, SettlesOf, wires_in}

@@ -2,8 +2,8 @@ use Rattle.std.proofs.Common.{◌≡◌, ◌∙◌, Some, get_or, set, sym, ap, 
 use Rattle.std.specs.Prelude.{slice_get}
 use Rattle.wires.specs.Link.{IsSettled, BothBecome}
 use Rattle.wires.specs.Pairs.{PairChanged}
-use Rattle.basics.proofs.Laws.{get_set_other, set_two, get_front, get_back}
-use Rattle.wires.proofs.Laws.{paired_at, pair_changed}
+use Rattle.basics.proofs.Lemmas.{get_set_other, set_two, get_front, get_back}
+use Rattle.wires.proofs.Lemmas.{paired_at, pair_changed}
 use Rattle.cluster.specs.Between.{KeepNodes, wires_in}
 use Rattle.cluster.proofs.Lists.{wires-get, wires-set, keeps_one, keeps_on}
 use Rattle.cluster.proofs.stepping.settle_pair.Goals as goal

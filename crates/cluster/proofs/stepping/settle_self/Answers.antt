@@ -4,7 +4,7 @@ use Rattle.std.proofs.lemmas.Option.{slice_get-get_or}
 use Rattle.wires.specs.Ends.{LinkChanged}
 use Rattle.wires.specs.Link.{IsSettled, OwnBecomes}
 use Rattle.wires.specs.Pairs.{SelfChanged}
-use Rattle.wires.proofs.Laws.{paired_at, self_changed}
+use Rattle.wires.proofs.Lemmas.{paired_at, self_changed}
 use Rattle.cluster.specs.Between.{wires_in}
 use Rattle.cluster.proofs.Lists.{wires-get, wires-set, keeps_one}
 use Rattle.cluster.proofs.stepping.settle_self.Goals as goal

@@ -1,7 +1,7 @@
 use Rattle.std.proofs.Common.{◌≡◌, get_or, length, sym, ◌∙◌, subst, arith}
 use Rattle.std.proofs.lemmas.Option.{get_or_from_slice_get, slice_get_within}
 use Rattle.wires.specs.Wires.{StaysWired}
-use Rattle.wires.proofs.Laws.{all_stay_wired}
+use Rattle.wires.proofs.Lemmas.{all_stay_wired}
 use Rattle.cluster_tests.proofs.links.answer_beside.Goals as goal
 
 pub returns : goal.returns

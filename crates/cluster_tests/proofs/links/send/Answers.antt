@@ -1,7 +1,7 @@
 use Rattle.std.proofs.Common.{◌≡◌, ℕ, Some, get_or, arith}
 use Rattle.std.specs.Prelude.{slice_get}
 use Rattle.std.proofs.lemmas.Option.{slice_get-get_or}
-use Rattle.wires.proofs.Laws.{stays_trans}
+use Rattle.wires.proofs.Lemmas.{stays_trans}
 use Rattle.cluster_tests.proofs.links.send.Goals as goal
 
 pub returns : goal.returns

@@ -1,7 +1,7 @@
 use Rattle.std.proofs.Common.{◌≡◌, ◌∙◌}
 use Rattle.slot_space.specs.Sets.{insert}
 use Rattle.pack_thread.proofs.Limits.{slots_few, with_stack}
-use Rattle.slot_space.proofs.Laws.{length-insert}
+use Rattle.slot_space.proofs.Lemmas.{length-insert}
 use Rattle.pack_thread.proofs.held.held_slots.Goals as goal
 
 items : (c : goal.In_ok-held) → c.in_ok-held.held.items ≡ insert c.args.stack c.args.heap.now

@@ -1,6 +1,6 @@
 use Rattle.std.proofs.Common.{ℕ, arith}
 use Rattle.std.proofs.lemmas.Result.{err_from_is_err_and}
-use Rattle.iso_blocks.proofs.Laws.{slots_within}
+use Rattle.iso_blocks.proofs.Lemmas.{slots_within}
 use Rattle.pack_thread.specs.Fields.{read}
 use Rattle.pack_thread.specs.Grammar.{block_fields}
 use Rattle.pack_thread.proofs.Steps.{block_read, block_refused, blocks_begin, blocks_all, block_stands, stand_begin, stand_all}

@@ -6,7 +6,7 @@ use Rattle.node_loop.specs.Turns.{IsActInRange}
 use Rattle.cluster.specs.Acts.{is_possible}
 use Rattle.cluster.specs.Standing.{Steps, net_after}
 use Rattle.cluster.specs.declared.deciding.State.TheVariants as states
-use Rattle.cluster.proofs.Laws.{has_room}
+use Rattle.cluster.proofs.Lemmas.{has_room}
 use Rattle.simulation.proofs.Running.{at_whole}
 use Rattle.cluster.specs.View.{console_in}
 use Rattle.simulation.specs.Replayed.{HasReplayed}

@@ -1,6 +1,6 @@
 use Rattle.std.proofs.Common.{[]}
 use Rattle.simulation.proofs.Choosing.{chosen_possible, chosen_whole, some_chosen, draws}
-use Rattle.cluster.proofs.Laws.{has_room}
+use Rattle.cluster.proofs.Lemmas.{has_room}
 use Rattle.simulation.proofs.simulation.draw.Goals as goal
 
 pub unreachable-requires : goal.unreachable-requires

@@ -2,7 +2,7 @@ use Rattle.std.proofs.Common.{◌≡◌, Some, get_or, sym, subst, arith}
 use Rattle.std.specs.Prelude.{slice_get}
 use Rattle.wires.specs.Link.{IsSettled, BothBecome}
 use Rattle.wires.specs.Pairs.{PairChanged}
-use Rattle.basics.proofs.Laws.{set_two, get_front, get_back}
+use Rattle.basics.proofs.Lemmas.{set_two, get_front, get_back}
 use Rattle.wires.proofs.Pairs.{paired_at, pair_changed}
 use Rattle.wires.proofs.all.settle_pair.Goals as goal
 

@@ -2,7 +2,7 @@ use Rattle.std.proofs.Common.{arith, ◌+◌, sym, ap, ◌∙◌, refl, length}
 use Rattle.slot_space.specs.Limits.{slot_size}
 use Rattle.iso_blocks.proofs.FreeBytes.{heap}
 use Rattle.iso_blocks.proofs.Edits.{length-join}
-use Rattle.slot_space.proofs.Laws.{insert-same, length-insert}
+use Rattle.slot_space.proofs.Lemmas.{insert-same, length-insert}
 use Rattle.iso_blocks.proofs.KeptBy.{kept-grow}
 use Rattle.iso_blocks.proofs.layout.Layout.add_slot.Goals as goal
 

@@ -1,5 +1,5 @@
 use Rattle.std.proofs.Common.{arith, refl}
-use Rattle.slot_space.proofs.Laws.{length-minus}
+use Rattle.slot_space.proofs.Lemmas.{length-minus}
 use Rattle.iso_blocks.proofs.KeptBy.{kept-shrink, slot_free}
 use Rattle.iso_blocks.proofs.layout.Layout.drop_slot.Goals as goal
 

@@ -1,6 +1,6 @@
 use Rattle.std.proofs.Common.{arith, ◌≡◌, ℕ, List, Some, sym, ap, ◌∙◌}
 use Rattle.slot_space.specs.Sets.{has, least_from}
-use Rattle.slot_space.proofs.Laws.{least_from-found}
+use Rattle.slot_space.proofs.Lemmas.{least_from-found}
 use Rattle.iso_blocks.specs.Heap.{Heap}
 use Rattle.iso_blocks.specs.Bytes.{is_met}
 use Rattle.iso_blocks.proofs.FreeBytes.{heap}

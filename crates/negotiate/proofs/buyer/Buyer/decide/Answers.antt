@@ -1,6 +1,6 @@
 use Rattle.std.proofs.Common.{ap, ◌∙◌}
 use Rattle.slot_space.specs.Sets.{has}
-use Rattle.slot_space.proofs.Laws.{lowest_run-same}
+use Rattle.slot_space.proofs.Lemmas.{lowest_run-same}
 use Rattle.negotiate.specs.Buying.{BuyerView, hand, is_in_one}
 use Rattle.negotiate.proofs.buyer.Buyer.decide.Goals as goal
 

@@ -2,7 +2,7 @@ use Rattle.std.proofs.Common.{◌≡◌, ◌++◌, ◌∷◌, [], suc, max, refl
 use Rattle.run_trace.specs.declared.node.Row.{Row}
 use Rattle.run_trace.specs.Names.{tid_cmp}
 use Rattle.run_trace.specs.Places.{AreOnRoot, IsRising}
-use Rattle.run_trace.proofs.Laws.{root_pushed, arrival_rises}
+use Rattle.run_trace.proofs.Lemmas.{root_pushed, arrival_rises}
 use Rattle.run_list.specs.Names.{names_of}
 use Rattle.run_list.specs.Sorted.{AreUp, put}
 use Rattle.run_list.specs.Tops.{greatest}

@@ -1,7 +1,7 @@
 use Rattle.std.proofs.Common.{List, sym, ap, ◌∙◌}
 use Rattle.run_trace.specs.declared.node.Row.{Row}
 use Rattle.run_trace.specs.Places.{Places, best_on}
-use Rattle.run_trace.proofs.Laws.{on_root}
+use Rattle.run_trace.proofs.Lemmas.{on_root}
 use Rattle.run_list.specs.Tops.{first_of}
 use Rattle.run_list.proofs.Tops.{first_best}
 use Rattle.run_list.proofs.run_list.RunList.best.Goals as goal

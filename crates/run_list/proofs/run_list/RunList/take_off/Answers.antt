@@ -1,7 +1,7 @@
 use Rattle.std.proofs.Common.{◌≤◌, sym, ap, ◌∙◌, subst}
 use Rattle.run_trace.specs.Names.{tid_cmp}
 use Rattle.run_trace.specs.Places.{AreOnRoot, IsRising, without_row}
-use Rattle.run_trace.proofs.Laws.{root_without, less_rises}
+use Rattle.run_trace.proofs.Lemmas.{root_without, less_rises}
 use Rattle.run_list.specs.Names.{names_of}
 use Rattle.run_list.specs.Sorted.{AreUp, without}
 use Rattle.run_list.specs.Tops.{greatest}

@@ -1,4 +1,4 @@
--- Laws of links between nodes. Other crates cite these alone.
+-- Lemmas of links between nodes. Other crates cite these alone.
 use Rattle.std.proofs.Common.{List, Some, length, set, ℕ, ◌<◌, ◌≡◌, ◌≢◌}
 use Rattle.std.specs.Prelude.{slice_get}
 use Rattle.wires.specs.Ends.{ArePaired, BothChanged, LinkChanged, known_from, link_of, node_of, of_link, received_from, sent_to}

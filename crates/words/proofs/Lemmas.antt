@@ -1,4 +1,4 @@
--- Laws of the words of a command. Other crates cite these alone.
+-- Lemmas of the words of a command. Other crates cite these alone.
 use Rattle.std.proofs.Common.{Bool, List, Some, length, true, ◌≡◌, ◌≤◌}
 use Rattle.std.specs.List.{list_all}
 use Rattle.std.specs.Prelude.{count_by}

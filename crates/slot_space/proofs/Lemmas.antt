@@ -1,4 +1,4 @@
--- Laws of sets and runs of slots. Other crates cite these alone.
+-- Lemmas of sets and runs of slots. Other crates cite these alone.
 use Rattle.std.proofs.Common.{[], arith, Bool, List, None, Some, cond, eqb, false, length, true, ℕ, ◌+◌, ◌-◌, ◌<◌, ◌∷◌, ◌≡◌, ◌≤◌}
 use Rattle.std.specs.Prelude.{nat_lt}
 use Rattle.std.specs.List.{filter}

@@ -1,4 +1,4 @@
--- Laws of a cluster. Other crates cite these alone.
+-- Lemmas of a cluster. Other crates cite these alone.
 use Rattle.std.proofs.Common.{List, suc, ℕ, ◌+◌, ◌-◌, ◌<◌, ◌^◌, ◌≡◌}
 use Rattle.cluster.specs.Standing.{AgreesWith, HasRoom}
 use Rattle.cluster.specs.View.{ClusterView, greatest_clock}

@@ -1,4 +1,4 @@
--- Laws of run lists. Other crates cite these alone.
+-- Lemmas of run lists. Other crates cite these alone.
 use Rattle.std.proofs.Common.{List, false, length, true, ◌∷◌, ◌≡◌}
 use Rattle.run_list.specs.Names.{names_of}
 use Rattle.run_list.specs.Sorted.{IsLeast, put}

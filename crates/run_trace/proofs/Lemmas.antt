@@ -1,4 +1,4 @@
--- Laws of the definitions of runs. Other crates cite these alone.
+-- Lemmas of the definitions of runs. Other crates cite these alone.
 use Rattle.std.proofs.Common.{IsSome, List, None, cond, false, true, ℕ, ◌++◌, ◌∷◌, ◌≡◌, refl, sym, ap, ◌∙◌, subst, arith}
 use Rattle.run_trace.specs.Guests.{with_zero_slots, without_slots}
 use Rattle.run_trace.specs.Places.{AreOnRoot, IsRising, Places, arrived, best, best_on, taken_off, without_row}

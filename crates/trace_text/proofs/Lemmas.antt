@@ -1,4 +1,4 @@
--- Laws of the text of a trace. Other crates cite these alone.
+-- Lemmas of the text of a trace. Other crates cite these alone.
 use Rattle.std.proofs.Common.{List, length, ℕ, ◌+◌, ◌<◌, ◌^◌}
 use Rattle.trace_text.specs.Reading.{parts}
 use Rattle.trace_text.proofs.LineFacts

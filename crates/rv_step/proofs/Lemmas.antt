@@ -1,4 +1,4 @@
--- Laws of a thread's memory as a map from slots to blocks. Other crates cite these alone.
+-- Lemmas of a thread's memory as a map from slots to blocks. Other crates cite these alone.
 use Rattle.std.proofs.Common.{None, Some, get_or, length, set, ℕ, ◌<◌, ◌≡◌, ◌≢◌}
 use Rattle.rv_step.specs.Memory.{IsAscending, Memory, block_of, slot_place, slots_of}
 use Rattle.rv_step.specs.declared.memory.Held.{Held}

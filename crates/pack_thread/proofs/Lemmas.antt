@@ -1,4 +1,4 @@
--- Laws of packed threads. Other crates cite these alone.
+-- Lemmas of packed threads. Other crates cite these alone.
 use Rattle.std.proofs.Common.{length, ◌≡◌}
 use Rattle.pack_thread.specs.Rules.{KeepsRules}
 use Rattle.pack_thread.specs.Threads.{IsThread, IsTyped, Thread}
