@@ -1,6 +1,6 @@
 -- How many slots and blocks there can be.
-use Rattle.std.proofs.Common.{◌≡◌, ℕ, ◌+◌, ◌*◌, ◌^◌, ◌<◌, ◌≤◌, Bool, true, false, cond, ltb, eqb, List, [], ◌∷◌, length, refl, sym, arith}
-use Rattle.std.proofs.lemmas.Bool.{eq-eqb, ne_eqb, eqb-false, true≢false}
+use Rattle.std.proofs.Common.{◌≡◌, ℕ, ◌+◌, ◌*◌, ◌^◌, ◌<◌, ◌≤◌, true, false, cond, eqb, List, [], ◌∷◌, length, refl, arith}
+use Rattle.std.proofs.lemmas.Bool.{eq-eqb}
 use Rattle.slot_space.specs.Limits.{slots_end, slot_limit}
 use Rattle.slot_space.specs.Places.{slot_base}
 use Rattle.slot_space.proofs.Lemmas.{ascending-insert, below-insert}

@@ -1,10 +1,7 @@
 -- When a thread can be packed.
-use Rattle.std.proofs.Common.{◌≡◌, ℕ, true, false, List, [], ◌∷◌, length, arith}
+use Rattle.std.proofs.Common.{◌≡◌, length}
 use Rattle.std.specs.Prelude.{slice_index}
-use Rattle.std.proofs.lemmas.Bool.{eqb-true}
-use Rattle.slot_space.specs.Limits.{slot_limit}
-use Rattle.slot_space.specs.Sets.{has, insert, minus, IsAscending, IsSlotSet}
-use Rattle.slot_space.proofs.Lemmas.{ascending-insert, ascending-minus, below-minus, same_members, has-insert, has-minus}
+use Rattle.slot_space.specs.Sets.{insert}
 use Rattle.rv_step.specs.Memory.{slots_of}
 use Rattle.pack_thread.specs.Rules.{KeepsRules}
 use Rattle.pack_thread.specs.Threads.{Thread, IsThread, IsTyped}

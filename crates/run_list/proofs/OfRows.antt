@@ -1,5 +1,5 @@
 -- The names of rows: as rows come and go.
-use Rattle.std.proofs.Common.{◌≡◌, ℕ, suc, length, true, false, Bool, List, [], ◌∷◌, ◌++◌, cond, refl, sym, ap, ◌∙◌, arith}
+use Rattle.std.proofs.Common.{◌≡◌, suc, length, true, false, Bool, List, [], ◌∷◌, ◌++◌, cond, refl, sym, ap, ◌∙◌}
 use Rattle.std.specs.Cmp.{IsTotalOrder}
 use Rattle.std.specs.declared.cmp.Ordering.TheVariants.{Equal}
 use Rattle.std.specs.Ordering.{nat_cmp, is_eq}

@@ -1,5 +1,5 @@
 -- Prefixes.
-use Rattle.std.proofs.Common.{◌≡◌, List, [], ◌++◌, sym, ap, ◌∙◌, append_assoc, append-nil}
+use Rattle.std.proofs.Common.{◌≡◌, List, ◌++◌, sym, ap, ◌∙◌, append_assoc}
 use mathlib.Core.List.{IsPrefix}
 
 -- what was received and is known in the ring is what the ring was given, so what was received begins all that was sent

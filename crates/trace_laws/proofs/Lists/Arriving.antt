@@ -11,7 +11,7 @@ use Rattle.run_trace.specs.declared.node.Row.{Row}
 use Rattle.run_trace.specs.Names.{is_tid}
 use Rattle.run_trace.specs.Program.{Program}
 use Rattle.run_trace.proofs.Lemmas.{arrival_rises, less_rises}
-use Rattle.run_trace.specs.Places.{Places, arrived, taken_off, without_row, is_listed, best_on, best_with, better_on, IsBefore, IsIn, AreAfter, AreAscending, AreArrived, IsRising}
+use Rattle.run_trace.specs.Places.{Places, arrived, taken_off, without_row, is_listed, best_on, best_with, better_on, IsBefore, IsIn, AreAfter, AreAscending, IsRising}
 use Rattle.run_trace.specs.Spots.{Spots, priority_by, after_label}
 use Rattle.run_trace.specs.Stands.{listed}
 use Rattle.run_trace.specs.World.{Listed, arrives, off, ran_list, list_after, list_after_all}

@@ -86,13 +86,28 @@ module _ (p : Program) (net : Net) (q : Occasion) (n : ℕ) (opening ahead : Lis
       let x : s.life ≡ On n a = in_hand p net q n opening ahead w L d t (On n a) hs m in
       let r : Spot = record s { guest = takes_slots got g } in
       let holder : (y : ℕ) → has y got ≡ true → v.slots y ≡ Of_node n = λ y h. lowest_held n count v first y free h in
-      slots_step p net q n opening ahead w L d _ (busy t (On n a) ∷ hs) (Took t first count) t r _ (taken t got v.slots) a a m refl
-      (record { solo = tt; holders = holder; life = rw x refl; replies = tt; grants = (rw x (none, refl), free) }) refl refl x x refl refl
-      (served_ties d t (Isomalloc len) (takes_slots got g) hs _ m x refl refl) refl refl
-      (takes_change p n v t r d.node.slots.own got m.agrees m.here.own holder
-      (λ y. ap (λ z. has y (slots_held (held z (takes_slots got g)))) x ∙ has_takes y got g.solo.state.memory ∙ ap (λ z. cond (has y got) true (has y (slots_held (held z g)))) (sym x)))
-      (subst (λ z. IsWellHeld (held z (takes_slots got g))) (sym x) (takes_well g got (subst (λ z. IsWellHeld (held z g)) x (m.agrees.blocks t))))
-      (own_stays p net q n opening ahead w L d t (On n a) hs (Took t first count) s.life (On n a) m refl refl (ap (is_busy n) x ∙ eq-eqb n n refl)) refl refl
+      slots_step p net q n opening ahead w L d _ (busy t (On n a) ∷ hs) (Took t first count) t r _ (taken t got v.slots) a a m
+      (record {
+        same = refl;
+        may = record { solo = tt; holders = holder; life = rw x refl; replies = tt; grants = (rw x (none, refl), free) };
+        ties = served_ties d t (Isomalloc len) (takes_slots got g) hs _ m x refl refl;
+        names = refl;
+        halted = refl;
+        change = takes_change p n v t r d.node.slots.own got m.agrees m.here.own holder
+            (λ y. ap (λ z. has y (slots_held (held z (takes_slots got g)))) x ∙ has_takes y got g.solo.state.memory ∙ ap (λ z. cond (has y got) true (has y (slots_held (held z g)))) (sym x));
+        well = subst (λ z. IsWellHeld (held z (takes_slots got g))) (sym x) (takes_well g got (subst (λ z. IsWellHeld (held z g)) x (m.agrees.blocks t)));
+        next = own_stays p net q n opening ahead w L d t (On n a) hs (Took t first count) s.life (On n a) m refl refl (ap (is_busy n) x ∙ eq-eqb n n refl);
+        places = refl;
+        booted = refl;
+      })
+      (record {
+        sent = refl;
+        shown = refl;
+        was = x;
+        is = x;
+        home_was = refl;
+        home_is = refl;
+      })
 
   taken_guest : (v u : World) (t : Tid) (first count : ℕ) → u ≡ world_after p n (Took t first count) v → (u.spots.threads t).guest ≡ takes_slots (run first count) (spot v.spots t).guest
   taken_guest v u t first count e = ap (λ (z : World). (z.spots.threads t).guest) e ∙ ap (λ (z : Spot). z.guest) (updated v.spots.threads t _)
@@ -168,13 +183,27 @@ module _ (p : Program) (net : Net) (q : Occasion) (n : ℕ) (opening ahead : Lis
       let had : (y : ℕ) → has y (slots_held (held s.life g)) ≡ has y (guest_slots g) = λ y. ap (λ z. has y (slots_held (held z g))) x in
       let holder : (y : ℕ) → has y back ≡ true → v.slots y ≡ Of_thread t = λ y h. thread_holds t (v.slots y) (sym (m.agrees.slots t y) ∙ had y ∙ empty_held g address y h) in
       slots_step p net q n opening ahead w L d _ (busy t (On n a) ∷ hs) (Gave t back) t r _ (given n back v.slots) a a m
-      (ap (λ z. spots_with (update v.threads t (record s { life = z; guest = gives_slots back g })) (given n back v.slots) v.births v.halts v.remote) (ap gave_life x ∙ sym x))
-      (record { solo = tt; holders = holder; life = subst (λ z. MayGive n z g back) (sym x) (refl, refl, some); replies = tt; grants = tt }) refl refl x x refl refl
-      (served_ties d t (Isofree address) (gives_slots back g) hs _ m x refl refl) refl refl
-      (gives_change p n v t r d.node.slots.own back m.agrees m.here.own holder
-      (λ y. ap (λ z. has y (slots_held (held z (gives_slots back g)))) x ∙ has_gives y back g.solo.state.memory ∙ ap (λ z. cond (has y back) false (has y (slots_held (held z g)))) (sym x)))
-      (subst (λ z. IsWellHeld (held z (gives_slots back g))) (sym x) (gave_well g address (subst (λ z. IsWellHeld (held z g)) x (m.agrees.blocks t))))
-      (own_stays p net q n opening ahead w L d t (On n a) hs (Gave t back) s.life (On n a) m refl refl (ap (is_busy n) x ∙ eq-eqb n n refl)) refl refl
+      (record {
+        same = ap (λ z. spots_with (update v.threads t (record s { life = z; guest = gives_slots back g })) (given n back v.slots) v.births v.halts v.remote) (ap gave_life x ∙ sym x);
+        may = record { solo = tt; holders = holder; life = subst (λ z. MayGive n z g back) (sym x) (refl, refl, some); replies = tt; grants = tt };
+        ties = served_ties d t (Isofree address) (gives_slots back g) hs _ m x refl refl;
+        names = refl;
+        halted = refl;
+        change = gives_change p n v t r d.node.slots.own back m.agrees m.here.own holder
+            (λ y. ap (λ z. has y (slots_held (held z (gives_slots back g)))) x ∙ has_gives y back g.solo.state.memory ∙ ap (λ z. cond (has y back) false (has y (slots_held (held z g)))) (sym x));
+        well = subst (λ z. IsWellHeld (held z (gives_slots back g))) (sym x) (gave_well g address (subst (λ z. IsWellHeld (held z g)) x (m.agrees.blocks t)));
+        next = own_stays p net q n opening ahead w L d t (On n a) hs (Gave t back) s.life (On n a) m refl refl (ap (is_busy n) x ∙ eq-eqb n n refl);
+        places = refl;
+        booted = refl;
+      })
+      (record {
+        sent = refl;
+        shown = refl;
+        was = x;
+        is = x;
+        home_was = refl;
+        home_is = refl;
+      })
 
   returned_guest : (v u : World) (t : Tid) (slots : List ℕ) → u ≡ world_after p n (Gave t slots) v → (u.spots.threads t).guest ≡ gives_slots slots (spot v.spots t).guest
   returned_guest v u t slots e = ap (λ (z : World). (z.spots.threads t).guest) e ∙ ap (λ (z : Spot). z.guest) (updated v.spots.threads t _)

@@ -27,7 +27,6 @@ use Rattle.run_trace.specs.Cluster.{Net}
 use Rattle.run_trace.specs.Keyed.{StandsFor}
 use Rattle.run_trace.specs.Spots.{Stage, Stays, Ready, Due, Served, Ends, Leaves, Awaits, Life, Unborn, On, Moving, Noting, Gone, Response, Spot, Spots, Holder, Of_node, Of_thread, update, at_node, after_label, gave_life, born_spot, asked_priority, no_response, Remote}
 use Rattle.run_trace.specs.Rules.{Occasion, is_free, lowest_free, MayGive}
-use Rattle.run_trace.specs.Console.{shown_by}
 use Rattle.run_trace.specs.Stands.{Here, Agrees, Busy, busy, busy_name, busy_part, thread_part, thread_in_life, row_part, row_in_life, listed, listed_name, ways_of, phase_of, phase_at, Before, During, held, slots_held, IsWellHeld, is_thread}
 use Rattle.run_trace.proofs.Lemmas.{is-other, is-true, is-refl, is-false, is-flip, same_name}
 use Rattle.trace_laws.proofs.Lists.KeyedLemmas.{kept, added, unfronted, refronted, map_kept, map_removed, map_added}
@@ -35,10 +34,9 @@ use Rattle.trace_laws.proofs.Lists.Births.{get-push, get-past, no_bytes, plain_s
 use Rattle.run_trace.specs.World.{World}
 use Rattle.run_trace.specs.Obeying.{Allows, IsBy}
 use Rattle.trace_laws.proofs.Underway.Midst.{having_said, Then, doing, Own, beside, Links, Midst, Plain, plain, keeps, under, LinkStands, spots_with, labelled, here_kept, agrees_kept, links_kept}
-use Rattle.trace_laws.proofs.Lists.Parts.{listed_arrived, is_home, home_way, home_quiet, home_plain, frame_home, away_thread, away_row, busy_none}
+use Rattle.trace_laws.proofs.Lists.Parts.{listed_arrived, home_way, home_quiet, home_plain, frame_home, away_thread, away_row, busy_none}
 use Rattle.trace_laws.proofs.Lists.Arriving.{places_after}
-use Rattle.trace_laws.proofs.Underway.Steps.{own_stays, own_goes, life_then, Ties, in_hand, thread_was, row_was, busy_was, send_step}
-use Rattle.run_trace.specs.Causes.{causes}
+use Rattle.trace_laws.proofs.Underway.Steps.{IsAtHome, own_stays, own_goes, life_then, Ties, in_hand, thread_was, row_was, busy_was, send_step}
 use Rattle.run_trace.specs.Items.{Thread as Its, Does, Says, Item, is_busy}
 
 -- ## Holders
@@ -154,31 +152,37 @@ module _ (p : Program) (net : Net) (q : Occasion) (n : ℕ) (opening ahead : Lis
   abbrev spot : Spots → Tid → Spot
   spot v t = v.threads t
 
-  -- a label by which slots go between node n and its thread t
+  -- a label by which slots go between node n and its thread t, and what it leaves as it was
+  pub record IsHandover (d : Doing) (hand more : List Busy) (l : Label) (t : Tid) (r : Spot) (now : Local) (f : ℕ → Holder) (m : Is d hand) : Type 0 where
+    pub same : after_label p n l m.now.spots ≡ spots_with (update m.now.spots.threads t r) f m.now.spots.births m.now.spots.halts m.now.spots.remote
+    pub may : Allows p (having_said d.labels q) n l m.now
+    pub ties : Ties p net q n opening ahead w L m.now.spots t r now more
+    pub names : now.names ≡ d.node.names
+    pub halted : now.halted ≡ d.node.halted
+    pub change : Changes n m.now.spots t r now.slots.own f
+    pub well : IsWellHeld (held r.life r.guest)
+    pub next : Own n l t m.now.spots ahead ahead hand more r.life
+    pub places : now.places ≡ places_after l m.now.spots d.node.places
+    pub booted : now.booted ≡ d.node.booted
+
+  -- by it the thread stays on the node
   pub slots_step : (d : Doing) (hand more : List Busy) (l : Label) (t : Tid) (r : Spot) (now : Local) (f : ℕ → Holder) (a b : Stage)
-      → (m : Is d hand)
-      → after_label p n l m.now.spots ≡ spots_with (update m.now.spots.threads t r) f m.now.spots.births m.now.spots.halts m.now.spots.remote
-      → Allows p (having_said d.labels q) n l m.now
-      → causes p n l m.now.spots ≡ [] → shown_by l m.now.spots ≡ []
-      → (spot m.now.spots t).life ≡ On n a → r.life ≡ On n b → is_home a ≡ true → is_home b ≡ true
-      → Ties p net q n opening ahead w L m.now.spots t r now more
-      → now.names ≡ d.node.names → now.halted ≡ d.node.halted
-      → Changes n m.now.spots t r now.slots.own f
-      → IsWellHeld (held r.life r.guest)
-      → Own n l t m.now.spots ahead ahead hand more r.life → now.places ≡ places_after l m.now.spots d.node.places → now.booted ≡ d.node.booted
+      → (m : Is d hand) → IsHandover d hand more l t r now f m → IsAtHome p net q n opening ahead w L l t r a b m.now.spots
       → Then p net q n opening ahead w L m.now l (record { node = now; labels = d.labels ++ l ∷ []; sends = d.sends; prints = d.prints }) more
-  slots_step d hand more l t r now f a b m same ok sent shown x y home_a home_b ties names halted change well next places booted =
+  slots_step d hand more l t r now f a b m move home =
       let v : Spots = m.now.spots in
       let s : Spot = spot m.now.spots t in
-      let before : ways_of t s.life s.verdict s.guest ≡ [] = ap (λ z. ways_of t z s.verdict s.guest) x ∙ home_way t n a s.verdict s.guest home_a in
-      let after : ways_of t r.life r.verdict r.guest ≡ [] = ap (λ z. ways_of t z r.verdict r.guest) y ∙ home_way t n b r.verdict r.guest home_b in
-      labelled p net q n opening ahead w ahead L L d hand more l (spots_with (update v.threads t r) f v.births v.halts v.remote) now d.sends d.prints m same ok
-      (sym (append-nil d.sends) ∙ ap (λ z. d.sends ++ z) (sym sent)) (sym (append-nil d.prints) ∙ ap (λ z. d.prints ++ z) (sym shown))
-      (record { threads = ties.threads; rows = ties.rows; busy = ties.busy; names = names ∙ m.here.names; own = change.own; halted = halted ∙ m.here.halted })
-      (λ k e. here_kept k v t r f v.births v.halts (net.nodes k) [] (m.there k e) (frame_home n k t s r a b x y home_a home_b e) refl (change.there k e) refl)
+      let x : s.life ≡ On n a = home.was in
+      let y : r.life ≡ On n b = home.is in
+      let before : ways_of t s.life s.verdict s.guest ≡ [] = ap (λ z. ways_of t z s.verdict s.guest) x ∙ home_way t n a s.verdict s.guest home.home_was in
+      let after : ways_of t r.life r.verdict r.guest ≡ [] = ap (λ z. ways_of t z r.verdict r.guest) y ∙ home_way t n b r.verdict r.guest home.home_is in
+      labelled p net q n opening ahead w ahead L L d hand more l (spots_with (update v.threads t r) f v.births v.halts v.remote) now d.sends d.prints m move.same move.may
+      (sym (append-nil d.sends) ∙ ap (λ z. d.sends ++ z) (sym home.sent)) (sym (append-nil d.prints) ∙ ap (λ z. d.prints ++ z) (sym home.shown))
+      (record { threads = move.ties.threads; rows = move.ties.rows; busy = move.ties.busy; names = move.names ∙ m.here.names; own = move.change.own; halted = move.halted ∙ m.here.halted })
+      (λ k e. here_kept k v t r f v.births v.halts (net.nodes k) [] (m.there k e) (frame_home n k t s r a b x y home.home_was home.home_is e) refl (move.change.there k e) refl)
       (λ i j. links_kept t r v.threads (under n L d.sends) m.links (after ∙ sym before) i j)
-      (agrees_slots p v t r f m.agrees (ap phase_of y ∙ sym (ap phase_of x)) (λ u k e. home_quiet n a home_a u k (sym x ∙ e)) (λ e. absurd (cc (e, x))) (subst (λ z. Plain z) (sym y) (home_plain n b home_b)) change.slots well)
-      (beside p n v l t ahead ahead d.node now hand more r.life next (life_then p net q n opening ahead w L m.now.spots l t r _ same refl) places booted)
+      (agrees_slots p v t r f m.agrees (ap phase_of y ∙ sym (ap phase_of x)) (λ u k e. home_quiet n a home.home_was u k (sym x ∙ e)) (λ e. absurd (cc (e, x))) (subst (λ z. Plain z) (sym y) (home_plain n b home.home_is)) move.change.slots move.well)
+      (beside p n v l t ahead ahead d.node now hand more r.life move.next (life_then p net q n opening ahead w L m.now.spots l t r _ move.same refl) move.places move.booted)
 
   pub gives_ok : (d : Doing) (t : Tid) (end : End) (hs : List Busy) → (m : Is d (busy t (On n (Ends end)) ∷ hs)) → Is (gives t (waits wait.No (spot m.now.spots t).guest) d) (busy t (On n (Leaves end)) ∷ hs)
   unfolding gives thread_out slots_in say
@@ -191,15 +195,30 @@ module _ (p : Program) (net : Net) (q : Occasion) (n : ℕ) (opening ahead : Lis
       let had : (y : ℕ) → has y (slots_held (held s.life s.guest)) ≡ has y mine = λ y. ap (λ z. has y (slots_held (held z s.guest))) x in
       let holder : (y : ℕ) → has y mine ≡ true → v.slots y ≡ Of_thread t = λ y h. thread_holds t (v.slots y) (sym (sym (had y) ∙ m.agrees.slots t y) ∙ h) in
       (slots_step d _ (busy t (On n (Leaves end)) ∷ hs) (Gave t mine) t r _ (given n mine v.slots) (Ends end) (Leaves end) m
-      (ap (λ z. spots_with (update v.threads t (record s { life = gave_life z; guest = gives_slots mine s.guest })) (given n mine v.slots) v.births v.halts v.remote) x)
-      (record { solo = tt; holders = holder; life = subst (λ z. MayGive n z s.guest mine) (sym x) (refl, refl); replies = tt; grants = tt }) refl refl x refl refl refl
       (record {
-        threads = map_removed is_tid is-true is-refl (thread_part n) v.threads t r d.node.threads m.here.threads (thread_was p net q n opening ahead w L r t (Leaves end) refl);
-        rows = kept is_tid is-true is-refl listed_name (row_part n) v.threads t r (map listed d.node.places.rows) m.here.rows (row_was p net q n opening ahead w L r t (Leaves end) refl ∙ sym (row_was p net q n opening ahead w L s t (Ends end) x));
-        busy = refronted is_tid is-true is-refl busy_name (busy_part n) v.threads t r hs (busy t (On n (Ends end))) (busy t (On n (Leaves end))) m.here.busy refl refl (busy_was p net q n opening ahead w L r t (On n (Leaves end)) refl (eq-eqb n n refl));
-      }) refl refl
-      (gives_change p n v t r d.node.slots.own mine m.agrees m.here.own holder (λ y. elim (has y mine) as (λ b. has y mine ≡ b → false ≡ cond b false (has y (slots_held (held s.life s.guest)))) [ true ↦ λ h. refl | false ↦ λ h. sym (had y ∙ h) ] refl))
-      tt (own_stays p net q n opening ahead w L d t (On n (Ends end)) hs (Gave t mine) (On n (Leaves end)) (On n (Leaves end)) m refl refl (eq-eqb n n refl)) refl refl).midst
+        same = ap (λ z. spots_with (update v.threads t (record s { life = gave_life z; guest = gives_slots mine s.guest })) (given n mine v.slots) v.births v.halts v.remote) x;
+        may = record { solo = tt; holders = holder; life = subst (λ z. MayGive n z s.guest mine) (sym x) (refl, refl); replies = tt; grants = tt };
+        ties = record {
+          threads = map_removed is_tid is-true is-refl (thread_part n) v.threads t r d.node.threads m.here.threads (thread_was p net q n opening ahead w L r t (Leaves end) refl);
+          rows = kept is_tid is-true is-refl listed_name (row_part n) v.threads t r (map listed d.node.places.rows) m.here.rows (row_was p net q n opening ahead w L r t (Leaves end) refl ∙ sym (row_was p net q n opening ahead w L s t (Ends end) x));
+          busy = refronted is_tid is-true is-refl busy_name (busy_part n) v.threads t r hs (busy t (On n (Ends end))) (busy t (On n (Leaves end))) m.here.busy refl refl (busy_was p net q n opening ahead w L r t (On n (Leaves end)) refl (eq-eqb n n refl));
+        };
+        names = refl;
+        halted = refl;
+        change = gives_change p n v t r d.node.slots.own mine m.agrees m.here.own holder (λ y. elim (has y mine) as (λ b. has y mine ≡ b → false ≡ cond b false (has y (slots_held (held s.life s.guest)))) [ true ↦ λ h. refl | false ↦ λ h. sym (had y ∙ h) ] refl);
+        well = tt;
+        next = own_stays p net q n opening ahead w L d t (On n (Ends end)) hs (Gave t mine) (On n (Leaves end)) (On n (Leaves end)) m refl refl (eq-eqb n n refl);
+        places = refl;
+        booted = refl;
+      })
+      (record {
+        sent = refl;
+        shown = refl;
+        was = x;
+        is = refl;
+        home_was = refl;
+        home_is = refl;
+      })).midst
 
   pub ends_ok : (d : Doing) (t : Tid) (end : End) (hs : List Busy) → (m : Is d (busy t (On n (Leaves end)) ∷ hs)) → Is (ends t end d) hs
   unfolding ends put say

@@ -101,7 +101,6 @@ module _ (p : Program) (net : Net) (q : Occasion) (n : ℕ) (opening ahead : Lis
     pub is : r.life ≡ On n b
     pub home_was : is_home a ≡ true
     pub home_is : is_home b ≡ true
-    pub holds : Keeps (held_in_stage a (spot v t).guest) (held_in_stage b r.guest)
 
   -- t's one packet goes to a node
   pub record IsSent (l : Label) (t : Tid) (r : Spot) (to : ℕ) (body : Body) (v : Spots) : Type 0 where
@@ -130,8 +129,9 @@ module _ (p : Program) (net : Net) (q : Occasion) (n : ℕ) (opening ahead : Lis
   -- a label that leaves its thread on node n, and no packet
   pub home_step : (due : List Item) (d : Doing) (hand more : List Busy) (l : Label) (t : Tid) (r : Spot) (now : Local) (a b : Stage)
       → (m : Midst p net q n opening due w L d hand) → IsMove due d hand more l t r now m → IsAtHome l t r a b m.now.spots
+      → Keeps (held_in_stage a (spot m.now.spots t).guest) (held_in_stage b r.guest)
       → Then p net q n opening ahead w L m.now l (record { node = now; labels = d.labels ++ l ∷ []; sends = d.sends; prints = d.prints }) more
-  home_step due d hand more l t r now a b m move home =
+  home_step due d hand more l t r now a b m move home holds =
       let s : Spot = spot m.now.spots t in
       let old : ways_of t s.life s.verdict s.guest ≡ [] = ap (λ z. ways_of t z s.verdict s.guest) home.was ∙ home_way t n a s.verdict s.guest home.home_was in
       let new : ways_of t r.life r.verdict r.guest ≡ [] = ap (λ z. ways_of t z r.verdict r.guest) home.is ∙ home_way t n b r.verdict r.guest home.home_is in
@@ -142,7 +142,7 @@ module _ (p : Program) (net : Net) (q : Occasion) (n : ℕ) (opening ahead : Lis
         frame = λ k e. frame_home n k t s r a b home.was home.is home.home_was home.home_is e;
         phase = ap phase_of home.is ∙ sym (ap phase_of home.was);
         quiet = λ u k e. home_quiet n a home.home_was u k (sym home.was ∙ e);
-        holds = subst (λ z. Keeps (held s.life s.guest) (held z r.guest)) (sym home.is) (subst (λ z. Keeps (held z s.guest) (held_in_stage b r.guest)) (sym home.was) home.holds);
+        holds = subst (λ z. Keeps (held s.life s.guest) (held z r.guest)) (sym home.is) (subst (λ z. Keeps (held z s.guest) (held_in_stage b r.guest)) (sym home.was) holds);
         unborn = unborn;
         whole = subst (λ z. Plain z) (sym home.is) (home_plain n b home.home_is);
       })
@@ -254,8 +254,8 @@ module _ (p : Program) (net : Net) (q : Occasion) (n : ℕ) (opening ahead : Lis
         is = refl;
         home_was = home;
         home_is = home_b;
-        holds = keeps _ _ (slots_b ∙ sym slots);
       })
+      (keeps _ _ (slots_b ∙ sym slots))
 
   -- what a thread that is told is then
   abbrev told_with : Spots → Tid → Stage → Spot
@@ -303,8 +303,8 @@ module _ (p : Program) (net : Net) (q : Occasion) (n : ℕ) (opening ahead : Lis
         is = refl;
         home_was = home_a;
         home_is = home_b;
-        holds = keeps _ _ (held_b y ∙ sym (held_a s.guest));
-      })).midst
+      })
+      (keeps _ _ (held_b y ∙ sym (held_a s.guest)))).midst
 
   -- it is told, and is ready
   pub tell_ok : (d : Doing) (t : Tid) (hs : List Busy) → (m : Is d (busy t (On n Told_next) ∷ hs)) → Is (tell t (spot m.now.spots t).verdict.code (second_of (spot m.now.spots t).verdict.extra) d) hs
@@ -417,8 +417,8 @@ module _ (p : Program) (net : Net) (q : Occasion) (n : ℕ) (opening ahead : Lis
         is = refl;
         home_was = refl;
         home_is = refl;
-        holds = holds;
       })
+      holds
 
   -- and is told at once
   pub settles_ok : (d : Doing) (t : Tid) (code : ℕ) (g : Guest) (c : Call) (hs : List Busy) → (m : Is d (busy t (On n (Served c)) ∷ hs))
@@ -503,8 +503,8 @@ module _ (p : Program) (net : Net) (q : Occasion) (n : ℕ) (opening ahead : Lis
         is = y;
         home_was = refl;
         home_is = home;
-        holds = keeps _ _ (slots ∙ ran_holding m.now.spots t);
       })
+      (keeps _ _ (slots ∙ ran_holding m.now.spots t))
 
   -- what the thread has become
   pub ran_guest : (v u : World) (t : Tid) (vp : ℕ) → u ≡ world_after p n (ran_label v.spots t vp) v → (u.spots.threads t).guest ≡ with_state (run_now v.spots t).state (spot v.spots t).guest
@@ -545,8 +545,8 @@ module _ (p : Program) (net : Net) (q : Occasion) (n : ℕ) (opening ahead : Lis
         is = y;
         home_was = refl;
         home_is = refl;
-        holds = keeps _ _ (ran_holding m.now.spots t);
-      })).midst
+      })
+      (keeps _ _ (ran_holding m.now.spots t))).midst
 
   -- ## Calls
 
@@ -600,8 +600,8 @@ module _ (p : Program) (net : Net) (q : Occasion) (n : ℕ) (opening ahead : Lis
         is = refl;
         home_was = refl;
         home_is = home;
-        holds = slots;
-      })).midst
+      })
+      slots).midst
 
   -- a call that sends a packet
   asks_out_ok : (d : Doing) (t : Tid) (bytes : List ℕ) (b : Stage) (waiting : Wait) (to : ℕ) (body : Body) (hs : List Busy) → (m : Is d (busy t (On n Running) ∷ hs))
