@@ -1,5 +1,5 @@
 -- Lemmas of the definitions of runs. Other crates cite these alone.
-use Rattle.std.proofs.Common.{IsSome, List, None, cond, false, true, ℕ, ◌++◌, ◌∷◌, ◌≡◌, refl, sym, ap, ◌∙◌, subst, arith}
+use Rattle.std.proofs.Common.{[], IsSome, List, None, cond, false, true, ℕ, ◌++◌, ◌∷◌, ◌≡◌, refl, sym, ap, ◌∙◌, subst, arith}
 use Rattle.run_trace.specs.Guests.{with_zero_slots, without_slots}
 use Rattle.run_trace.specs.Places.{AreOnRoot, IsRising, Places, arrived, best, best_on, taken_off, without_row}
 use Rattle.run_trace.specs.Trees.{Tree}

@@ -1,5 +1,5 @@
 -- Lemmas of legal traces. Other crates cite these alone.
-use Rattle.std.proofs.Common.{List, Some, false, map, true, ℕ, ◌++◌, ◌<◌, ◌∷◌, ◌≡◌}
+use Rattle.std.proofs.Common.{[], List, Some, false, map, true, ℕ, ◌++◌, ◌<◌, ◌∷◌, ◌≡◌}
 use Rattle.run_trace.specs.Cluster.{Event, Merges, Net, Runs, fresh_net, net_of, own, received, sent, state}
 use Rattle.run_trace.specs.Guests.{Thread, is_unwaiting}
 use Rattle.run_trace.specs.Histories.{IsInOrder, Turn}
