@@ -1,3 +1,4 @@
+# The loop of multiplications and divisions that bench/instructions counts.
 main:
   li t0, 50000000
   li a0, 1

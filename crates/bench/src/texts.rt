@@ -1,14 +1,12 @@
-//! Makes a trace of so many yields, and writes its text, or writes and reads it, and prints how many bytes the text has.
-//! Its words are KIND ENTRIES; KIND is make, write or read. `bench/texts` measures the time of it.
-#![tactic(auto)]
+//! The text of a trace of yields: KIND is make (the trace alone), write (its text too) or read (the text read as well), COUNT the
+//! entries. The number is how many entries were made, bytes written or entries read.
 
-use anyhow::{Context, Result, bail};
+use anyhow::{Result, bail};
 use basics::Items;
 use run_trace::{Act, Entry, Extra, Label, Labels};
 use rv_step::Stop;
 use slot_space::{NodeNo, Tid};
 use std::alloc::{AllocError, Global};
-use std::env;
 use trace_text::{read_trace, trace_text};
 
 fn tid(seq: u32) -> Tid {
@@ -56,25 +54,35 @@ fn trace(alloc: Global, entries: u32) -> Result<Vec<Entry>, AllocError> {
     Ok(trace)
 }
 
-fn main(rt: HostRuntime) -> Result<()> {
-    let mut words = env::args(&rt)?;
-    let _program = words.next();
-    let kind = words.next().context("KIND ENTRIES")?;
-    let entries = words.next().context("KIND ENTRIES")?;
-    let entries = entries.as_str().parse::<u32>().context("a number")?;
-    let trace = trace(rt.alloc(), entries)?;
-    if kind.as_str() == "make" {
-        return Ok(());
+fn written(alloc: Global, trace: &[Entry], rounds: u32) -> Result<u64> {
+    let mut sum = 0u64;
+    for _ in 0..rounds {
+        sum = sum.wrapping_add(trace_text(alloc, trace)?.len() as u64);
     }
-    let text = trace_text(rt.alloc(), &trace)?;
-    println!(rt; "{} bytes", text.len())?;
-    if kind.as_str() == "write" {
-        return Ok(());
-    }
+    Ok(sum)
+}
+
+fn entries_of(alloc: Global, text: &[u8]) -> Result<u64> {
     if text.len() >= 0xffff_ffff {
         bail!("too long");
     }
-    let read = read_trace(rt.alloc(), &text)?;
-    println!(rt; "{} entries", read.as_slice().len())?;
-    Ok(())
+    Ok(read_trace(alloc, text)?.as_slice().len() as u64)
+}
+
+fn read(alloc: Global, text: &[u8], rounds: u32) -> Result<u64> {
+    let mut sum = 0u64;
+    for _ in 0..rounds {
+        sum = sum.wrapping_add(entries_of(alloc, text)?);
+    }
+    Ok(sum)
+}
+
+pub fn measured(alloc: Global, kind: &str, entries: u32, rounds: u32) -> Result<u64> {
+    let trace = trace(alloc, entries)?;
+    match kind {
+        "make" => Ok(trace.len() as u64),
+        "write" => written(alloc, &trace, rounds),
+        "read" => read(alloc, &trace_text(alloc, &trace)?, rounds),
+        _ => bail!("KIND is make, write or read"),
+    }
 }

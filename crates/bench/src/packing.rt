@@ -1,13 +1,11 @@
-//! Packs a thread, unpacks its text, or copies the text, many times over, and prints how many bytes that were.
-//! Its words are KIND SLOTS ROUNDS. KIND is pack, unpack or copy; the thread holds so many slots, 1 to 4096.
-#![tactic(auto)]
+//! A thread is packed, its text unpacked, or the text copied: KIND is pack, unpack or copy, COUNT the slots that the thread holds.
+//! The number is how many bytes that were.
 
-use anyhow::{Context, Result, bail};
+use anyhow::{Result, bail};
 use pack_thread::{Baggage, pack, unpack};
 use raw_slots::Pool;
 use slot_space::SlotNo;
 use std::alloc::{AllocError, Global};
-use std::env;
 
 /// The bytes of one slot.
 const SIZE: usize = 65536;
@@ -71,28 +69,13 @@ fn copied(alloc: Global, text: &[u8], rounds: u32) -> Result<u64> {
     Ok(sum)
 }
 
-fn main(rt: HostRuntime) -> Result<()> {
-    let alloc = rt.alloc();
-    let mut words = env::args(&rt)?;
-    let _program = words.next();
-    let kind = words.next().context("KIND SLOTS ROUNDS")?;
-    let slots = words
-        .next()
-        .context("KIND SLOTS ROUNDS")?
-        .as_str()
-        .parse::<u16>()?;
-    let rounds = words
-        .next()
-        .context("KIND SLOTS ROUNDS")?
-        .as_str()
-        .parse::<u32>()?;
+pub fn measured(alloc: Global, kind: &str, count: u32, rounds: u32) -> Result<u64> {
+    let slots = count.clamp(1, 4096) as u16;
     let text = text_of(alloc, slots)?;
-    let sum = match kind.as_str() {
-        "pack" => packed(alloc, &text, rounds)?,
-        "unpack" => unpacked(alloc, &text, slots, rounds)?,
-        "copy" => copied(alloc, &text, rounds)?,
+    match kind {
+        "pack" => packed(alloc, &text, rounds),
+        "unpack" => unpacked(alloc, &text, slots, rounds),
+        "copy" => copied(alloc, &text, rounds),
         _ => bail!("KIND is pack, unpack or copy"),
-    };
-    println!(rt; "{sum}")?;
-    Ok(())
+    }
 }

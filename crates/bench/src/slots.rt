@@ -1,11 +1,10 @@
-//! Asks a set of slots for its lowest run, many times over, and prints the sum of the answers.
-//! Its words are SET COUNT ROUNDS; SET is full, empty, alternating, random, dense or short.
-#![tactic(auto)]
+//! The lowest run of so many slots of a set: KIND is full, empty, alternating, random, dense or short, COUNT the slots asked for.
+//! The number is the sum of the answers.
 
 ghost use Rattle.std.specs.Prelude.{◌<◌};
 
+use anyhow::{Result, bail};
 use slot_space::{SlotNo, SlotSet};
-use std::{env, io};
 
 /// The set of this name.
 fn chosen(name: &str) -> Option<SlotSet> {
@@ -50,21 +49,10 @@ fn asked(mut set: SlotSet, count: u16, rounds: u32) -> u64
     sum
 }
 
-/// The words of the command line: the set, the count and the rounds.
-fn main(rt: HostRuntime) -> io::Result<()> {
-    let mut words = env::args(&rt)?.skip(1);
-    let (Some(name), Some(count), Some(rounds)) = (words.next(), words.next(), words.next()) else {
-        return println!(rt; "usage: slots_bench SET COUNT ROUNDS");
-    };
-    let (Some(set), Ok(count), Ok(rounds)) = (
-        chosen(name.as_str()),
-        count.as_str().parse::<u16>(),
-        rounds.as_str().parse::<u32>(),
-    ) else {
-        return println!(rt; "usage: slots_bench SET COUNT ROUNDS");
-    };
-    if count == 0 {
-        return println!(rt; "usage: slots_bench SET COUNT ROUNDS");
+pub fn measured(kind: &str, count: u32, rounds: u32) -> Result<u64> {
+    let count = count.clamp(1, 4096) as u16;
+    match chosen(kind) {
+        Some(set) => Ok(asked(set, count, rounds)),
+        None => bail!("KIND is full, empty, alternating, random, dense or short"),
     }
-    println!(rt; "{}", asked(set, count, rounds))
 }

@@ -1,13 +1,11 @@
-//! Frees a block and places one of the same size, many times over, and prints the sum of the addresses.
-//! Its words are KIND LIVE ROUNDS. Blocks have 16 bytes; KIND is packed (no hole) or sparse (a hole of 16 bytes behind each).
-#![tactic(auto)]
+//! A block is freed and one of the same size placed: KIND is packed (no hole) or sparse (a hole of 16 bytes behind each block of
+//! 16), COUNT the live blocks. The number is the sum of the addresses.
 
-use anyhow::{Context, Result, bail};
+use anyhow::{Result, bail};
 use basics::NoMemory;
 use iso_blocks::Blocks;
 use slot_space::SlotNo;
 use std::alloc::Global;
-use std::env;
 
 /// The first address of slot 0.
 const FIRST: u64 = 0x1_0000_0000;
@@ -52,23 +50,11 @@ fn sparse(blocks: &mut Blocks, rounds: u32) -> Result<u64, NoMemory> {
     Ok(sum)
 }
 
-fn number(word: Option<String>) -> Result<u32> {
-    let word = word.context("KIND LIVE ROUNDS")?;
-    let number = word.as_str().parse::<u32>().context("a number")?;
-    Ok(number)
-}
-
-fn main(rt: HostRuntime) -> Result<()> {
-    let mut words = env::args(&rt)?;
-    let _program = words.next();
-    let kind = words.next().context("KIND LIVE ROUNDS")?;
-    let live = number(words.next())?;
-    let rounds = number(words.next())?;
-    let sum = match kind.as_str() {
-        "packed" => packed(&mut filled(rt.alloc(), live, false)?, live, rounds)?,
-        "sparse" => sparse(&mut filled(rt.alloc(), live, true)?, rounds)?,
+pub fn measured(alloc: Global, kind: &str, live: u32, rounds: u32) -> Result<u64> {
+    let sum = match kind {
+        "packed" => packed(&mut filled(alloc, live, false)?, live, rounds)?,
+        "sparse" => sparse(&mut filled(alloc, live, true)?, rounds)?,
         _ => bail!("KIND is packed or sparse"),
     };
-    println!(rt; "{sum}")?;
-    Ok(())
+    Ok(sum)
 }
