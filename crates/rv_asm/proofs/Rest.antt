@@ -3,7 +3,7 @@ use Rattle.std.proofs.Common.{◌≡◌, ℕ, ◌+◌, ◌*◌, ◌^◌, ◌≤�
 use Rattle.rv_asm.specs.declared.labels.Mark.{Mark}
 use Rattle.rv_asm.specs.Layout.{base}
 
--- so many lines stand before this place
+-- how many lines stand before this place
 pub record IsAt (mark : Mark) (count : ℕ) : Type 0 where
   pub line : mark.line ≡ count + 1
   pub first : base ≤ mark.address

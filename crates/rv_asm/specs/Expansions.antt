@@ -34,7 +34,7 @@ load_short rd n =
     if fits_signed 11 n then Imm Addi rd 0 (low n) ∷ []
     else Lui rd (high n) ∷ Imm Addiw rd rd (low n) ∷ []
 
--- a number into a register, by at most so many shifts
+-- the instructions that load a number into a register, with at most that many shifts
 abbrev pub load_within : (shifts rd n : ℕ) → List Inst
 load_within zero rd n = load_short rd n
 load_within (suc shifts) rd n =

@@ -2,6 +2,7 @@
 use Rattle.std.specs.Prelude.{ℕ, ◌+◌, ◌-◌, ◌*◌, ◌%◌, ◌^◌, ◌≤◌, Bool, false, ◌==◌, List, [], ◌∷◌, length, All, Option, Some, None, Result, Ok, Err, if◌then◌else◌}
 use Rattle.std.specs.Option.{option_map_or, option_or}
 use Rattle.std.specs.Str.{bytes_eq}
+use Rattle.rv_inst.specs.Image.{image_start}
 use Rattle.asm_text.specs.declared.slots.What.{What}
 use Rattle.asm_text.specs.declared.reading.Line.{Line}
 use Rattle.asm_text.specs.declared.statements.Width.{Width}
@@ -15,7 +16,7 @@ use Rattle.rv_asm.specs.Expansions as expansions
 
 -- where the first line stands: behind the stub
 abbrev pub base : ℕ
-base = 0x1_0008
+base = image_start + 8
 
 -- the most bytes of a source and of an image
 abbrev pub limit : ℕ

@@ -19,14 +19,11 @@ use crate::labels::{Labels, Mark, Services, mark_in, service_in};
 use crate::layout::{end_of, labels_of, services_of};
 use asm_text::{Reading, read_source};
 use basics::Items;
-use rv_inst::Image;
+use rv_inst::{IMAGE_START, Image};
 use std::alloc::{AllocError, Global};
 
 /// The most bytes of a source and of an image.
 const LIMIT: u64 = 0x10_0000;
-
-/// Where an image starts.
-const IMAGE_START: u64 = 0x1_0000;
 
 /// `addi a7, x0, 1` and `ecall`.
 const STUB: [u8; 8] = [0x93, 0x08, 0x10, 0x00, 0x73, 0x00, 0x00, 0x00];

@@ -19,7 +19,7 @@ pub enum AsmError {
     FarTarget { line: u32 },
     /// No label `main` at a multiple of 4.
     NoMain,
-    /// A source or an image of more than 1,048,576 bytes.
+    /// A source or an image that is longer than the limit, 1,048,576 bytes.
     TooLong,
     /// There was not enough memory.
     NoMemory,

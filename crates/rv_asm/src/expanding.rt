@@ -84,7 +84,7 @@ fn push_low(out: &mut Vec<u8>, op: ImmOp, rd: Reg, rs1: Reg, n: u64) -> Result<(
     )
 }
 
-/// Appends what loads a number of 32 signed bits into a register.
+/// Appends the instructions that load a number of 32 signed bits into a register.
 fn push_short(out: &mut Vec<u8>, rd: Reg, n: u64) -> Result<(), AllocError>
     ensures { OnOk result (out.new.items ≡ out.old.items ++ code (load_short rd n)) }
 {
@@ -95,7 +95,7 @@ fn push_short(out: &mut Vec<u8>, rd: Reg, n: u64) -> Result<(), AllocError>
     push_low(out, ImmOp::Addiw, rd, rd, n)
 }
 
-/// Appends what loads a number into a register, by at most so many shifts.
+/// Appends the instructions that load a number into a register, with at most that many shifts.
 fn push_within(out: &mut Vec<u8>, shifts: u8, rd: Reg, n: u64) -> Result<(), AllocError>
     ensures { OnOk result (out.new.items ≡ out.old.items ++ code (load_within shifts rd n)) }
 {
@@ -115,7 +115,7 @@ fn push_within(out: &mut Vec<u8>, shifts: u8, rd: Reg, n: u64) -> Result<(), All
     push_low(out, ImmOp::Addi, rd, rd, n)
 }
 
-/// Appends what loads a number into a register.
+/// Appends the instructions that load a number into a register.
 #[tactic(auto, unfolding(crate::specs::Expansions::load_number))]
 pub fn push_number(out: &mut Vec<u8>, rd: Reg, n: u64) -> Result<(), AllocError>
     ensures { OnOk result (out.new.items ≡ out.old.items ++ code (load_number rd n)) }
@@ -123,7 +123,7 @@ pub fn push_number(out: &mut Vec<u8>, rd: Reg, n: u64) -> Result<(), AllocError>
     push_within(out, 3, rd, n)
 }
 
-/// How many instructions load a number, by at most so many shifts.
+/// How many instructions load a number, with at most that many shifts.
 fn count_within(shifts: u8, n: u64) -> u64
     requires { shifts ≤ 3 }
     ensures count { (rd : ℕ) → result ≡ length (load_within shifts rd n) }

@@ -11,13 +11,14 @@ ghost use Rattle.rv_asm.specs.Layout.{IsReadable, base, limit, width_len, paddin
 use crate::expanding::number_count;
 use crate::labels::{Labels, Mark, Service, Services, add_label, add_service};
 use asm_text::{Line, Reading, Statement, Width};
+use rv_inst::IMAGE_START;
 use std::alloc::{AllocError, Global};
 use std::collections::BTreeMap;
 
 /// Where the first line stands: behind the stub.
 pub const FIRST: Mark = Mark {
     line: 1,
-    address: 0x1_0008,
+    address: IMAGE_START + 8,
 };
 
 fn width_len(width: Width) -> u64
