@@ -3,6 +3,7 @@ use Rattle.std.proofs.Common.{◌≡◌, ℕ, ◌-◌, ◌<◌, List, [], ◌∷
 use Rattle.std.specs.Prelude.{nat_lt}
 use Rattle.std.proofs.lemmas.Bool.{eq-eqb, eqb-true, ltb-true}
 use Rattle.std.proofs.lemmas.Bool.Decides.{nat_tests}
+use Rattle.slot_space.specs.Limits.{slot_limit}
 use Rattle.slot_space.specs.Sets.{has, minus, run, least_from, IsSlotSet}
 use Rattle.slot_space.proofs.Lemmas.{has-run, least_from-found}
 
@@ -37,11 +38,11 @@ past_all xs first count e = sym (minus-none xs (run first count) (λ s h.
     let low = least_from-missing first s xs (sym e) h in
     has-run s first count ∙ grind (arith, nat_tests, low)))
 
-pub starts_low : (xs : List ℕ) (first s : ℕ) → IsSlotSet xs → Some s ≡ least_from first xs → first < 4096
+pub starts_low : (xs : List ℕ) (first s : ℕ) → IsSlotSet xs → Some s ≡ least_from first xs → first < slot_limit
 starts_low xs first s p e = let f = least_from-found first s xs (sym e) in omega (arith, f.0, p.small s f.1)
 
 -- a run may be cut off where no member can be
-pub cut_off : (xs : List ℕ) (first count : ℕ) → IsSlotSet xs → minus xs (run first (min count (4096 - first))) ≡ minus xs (run first count)
-cut_off xs first count p = minus-same xs (run first (min count (4096 - first))) (run first count) (λ s h.
+pub cut_off : (xs : List ℕ) (first count : ℕ) → IsSlotSet xs → minus xs (run first (min count (slot_limit - first))) ≡ minus xs (run first count)
+cut_off xs first count p = minus-same xs (run first (min count (slot_limit - first))) (run first count) (λ s h.
     let low = p.small s h in
-    has-run s first (min count (4096 - first)) ∙ grind (arith, nat_tests, low) ∙ sym (has-run s first count))
+    has-run s first (min count (slot_limit - first)) ∙ grind (arith, nat_tests, low) ∙ sym (has-run s first count))

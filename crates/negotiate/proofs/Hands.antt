@@ -3,6 +3,7 @@ use Rattle.std.proofs.Common.{◌≡◌, ℕ, ◌+◌, ◌<◌, ◌≤◌, suc, 
 use Rattle.std.proofs.Math.ListN.{drop_of_length-le}
 use Rattle.std.specs.List.{list_any}
 use Rattle.std.specs.Prelude.{map}
+use Rattle.slot_space.specs.Limits.{slot_limit}
 use Rattle.slot_space.specs.Sets.{has, run, lowest_run, union}
 use Rattle.slot_space.proofs.Lemmas.{has-minus, has-union, found}
 use Rattle.negotiate.specs.Runs.{without}
@@ -23,11 +24,11 @@ times-some s [] h = absurd (cc h)
 times-some s (set ∷ sets) h = grind (arith, h, times-some s sets)
 
 pub none_lost : (own : List ℕ) (loans : List (Option (List ℕ))) (first : Option ℕ) (count : ℕ)
-    → ((s : ℕ) → times s (hand own loans) ≤ 1) → lowest_run (is_in_one (hand own loans)) count 4096 ≡ first
+    → ((s : ℕ) → times s (hand own loans) ≤ 1) → lowest_run (is_in_one (hand own loans)) count slot_limit ≡ first
     → (s : ℕ) → times s (parts own loans first count) ≡ times s (hand own loans)
 none_lost own loans None count once e s = omega (arith, times-whole s count (hand own loans))
 none_lost own loans (Some first) count once e s =
-    by (has s (run first count)) refl (times-without s first count (hand own loans)) (λ h. times-some s (hand own loans) (found (is_in_one (hand own loans)) count 4096 first s e h)) (once s)
+    by (has s (run first count)) refl (times-without s first count (hand own loans)) (λ h. times-some s (hand own loans) (found (is_in_one (hand own loans)) count slot_limit first s e h)) (once s)
   where
     by : (b : Bool) → has s (run first count) ≡ b → times s (map (without (Some first) count) (hand own loans)) ≡ cond (has s (run first count)) 0 (times s (hand own loans))
         → (has s (run first count) ≡ true → 1 ≤ times s (hand own loans)) → times s (hand own loans) ≤ 1

@@ -1,5 +1,6 @@
 -- The moves of a node's own slots.
 use Rattle.std.specs.Prelude.{ℕ, List, [], Option, Some, None, Bool, true, false, if◌then◌else◌}
+use Rattle.slot_space.specs.Limits.{slot_limit}
 use Rattle.slot_space.specs.Sets.{has, union, lowest_run}
 use Rattle.negotiate.specs.declared.lender.Phase.{Phase}
 use Rattle.negotiate.specs.declared.lender.Phase.TheVariants.{Free, Buying, Away}
@@ -34,7 +35,7 @@ is_kept Turn = true
 
 -- the lowest run of so many own slots
 abbrev pub lowest_own : LenderView → ℕ → Option ℕ
-lowest_own l count = lowest_run (λ s. has s l.own) count 4096
+lowest_own l count = lowest_run (λ s. has s l.own) count slot_limit
 
 -- what a claim is answered, where this is the lowest run of own slots
 abbrev pub granted : Phase → Option ℕ → Grant

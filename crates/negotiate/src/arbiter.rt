@@ -2,6 +2,7 @@
 
 ghost use Rattle.std.specs.Prelude.{◌≡◌, ◌<◌, ◌++◌, [], ◌∷◌, false, length, drop, slice_get, ◌==◌, if◌then◌else◌};
 ghost use Rattle.std.specs.List.{list_any};
+ghost use Rattle.slot_space.specs.Limits.{node_limit};
 ghost use Rattle.negotiate.specs.Turns.{AreOnceEach};
 
 use arrayvec::ArrayVec;
@@ -55,7 +56,7 @@ impl Arbiter {
 
     /// The node wants a turn. It is answered where the turn is its own at once.
     pub fn want(&mut self, node: NodeNo) -> Option<NodeNo>
-        requires small { node < 8 }
+        requires small { node < node_limit }
         requires other { list_any (λ n. n == node) self.old ≡ false }
         ensures list { self.new ≡ self.old ++ node ∷ [] }
         ensures turn { result ≡ (if length self.old == 0 then Some node else None) }

@@ -1,36 +1,41 @@
 //! The loans of a node that buys, and its decision.
 
 ghost use Rattle.std.specs.Prelude.{◌≡◌, ℕ, List, Option, ◌<◌, ◌≤◌, ◌↔◌, true, IsTrue, IsSome, IfSome, is_some, slice_set, slice_index_or};
+ghost use Rattle.slot_space.specs.Limits.{slot_limit, node_limit};
 ghost use Rattle.slot_space.specs.Sets.{has, lowest_run};
 ghost use Rattle.negotiate.specs.Buying.{begun, loan_from, awaits, AllAreIn, hand, is_in_one, times, parts};
 ghost use Rattle.negotiate.specs.Runs.{without};
 
 use crate::runs::take_run;
-use slot_space::{NodeNo, SlotNo, SlotSet};
+use slot_space::{NODE_LIMIT, NodeNo, SlotNo, SlotSet};
 use std::marker::Model;
+
+/// A place for each node that there can be.
+const NODES: usize = NODE_LIMIT as usize;
 
 /// The loans of the other nodes that are in, at a node that buys.
 #[derive(Drop)]
 pub struct Buyer {
     me: NodeNo,
     nodes: u8,
-    loans: [Option<SlotSet>; 8],
+    loans: [Option<SlotSet>; NODES],
 }
 
 impl Model for Buyer {
     ghost use Rattle.std.specs.Prelude.{◌≤◌};
+    ghost use Rattle.slot_space.specs.Limits.{node_limit};
     ghost use Rattle.negotiate.specs.Buying.{BuyerView, view_of};
 
     ghost Value = { BuyerView };
 
     ghost view = { λ b. view_of b.me b.nodes b.loans };
 
-    ghost invariant = { λ b. b.nodes ≤ 8 };
+    ghost invariant = { λ b. b.nodes ≤ node_limit };
 }
 
 /// Whether there is a loan under this number.
-fn is_in(loans: &[Option<SlotSet>; 8], n: usize) -> bool
-    requires { n < 8 }
+fn is_in(loans: &[Option<SlotSet>; NODES], n: usize) -> bool
+    requires { n < node_limit }
     ensures { result ≡ is_some (slice_index_or loans.now n None) }
 {
     loans[n].is_some()
@@ -53,14 +58,14 @@ fn together(own: &SlotSet, loans: &[Option<SlotSet>]) -> SlotSet
 impl Buyer {
     /// One of so many nodes begins to buy: no loan is in.
     pub fn begin(me: NodeNo, nodes: u8) -> Buyer
-        requires few { nodes ≤ 8 }
+        requires few { nodes ≤ node_limit }
         requires me { me < nodes }
         ensures { result ≡ begun me nodes }
     {
         Buyer {
             me,
             nodes,
-            loans: [None; 8],
+            loans: [None; NODES],
         }
     }
 
@@ -101,7 +106,7 @@ impl Buyer {
     pub fn decide(&self, own: &SlotSet, count: u16) -> Option<SlotNo>
         requires all { AllAreIn self.now }
         requires some { 0 < count }
-        ensures { result ≡ lowest_run (is_in_one (hand own.now self.now.loans)) count 4096 }
+        ensures { result ≡ lowest_run (is_in_one (hand own.now self.now.loans)) count slot_limit }
     {
         together(own, &self.loans).lowest_run(count)
     }
@@ -123,6 +128,6 @@ impl Buyer {
 /// buyer keeps, and in what the lenders get back, taken together, as it was at hand.
 pub fn nothing_lost()
     ensures { (own : List ℕ) (loans : List (Option (List ℕ))) (first : Option ℕ) (count : ℕ)
-        → ((s : ℕ) → times s (hand own loans) ≤ 1) → lowest_run (is_in_one (hand own loans)) count 4096 ≡ first
+        → ((s : ℕ) → times s (hand own loans) ≤ 1) → lowest_run (is_in_one (hand own loans)) count slot_limit ≡ first
         → (s : ℕ) → times s (parts own loans first count) ≡ times s (hand own loans) }
 {}
