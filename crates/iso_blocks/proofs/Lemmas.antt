@@ -1,5 +1,5 @@
 -- Lemmas of blocks in slots. Other crates cite these alone.
-use Rattle.std.proofs.Common.{List, None, Some, false, true, ℕ, ◌+◌, ◌-◌, ◌<◌, ◌||◌, ◌≡◌, ◌≤◌}
+use Rattle.std.proofs.Common.{List, None, Some, false, true, ℕ, ◌+◌, ◌<◌, ◌||◌, ◌≡◌, ◌≤◌}
 use Rattle.iso_blocks.specs.Bytes.{in_blocks, in_slots, is_met, lies_in}
 use Rattle.iso_blocks.specs.Heap.{Fits, Heap, place, with_block}
 use Rattle.slot_space.specs.Places.{HoldsAddress, slot_base}

@@ -1,5 +1,5 @@
 -- Lemmas of sets and runs of slots. Other crates cite these alone.
-use Rattle.std.proofs.Common.{[], arith, Bool, List, None, Some, cond, eqb, false, length, true, ℕ, ◌+◌, ◌-◌, ◌<◌, ◌∷◌, ◌≡◌, ◌≤◌}
+use Rattle.std.proofs.Common.{[], arith, Bool, List, None, Some, cond, eqb, false, length, true, ℕ, ◌+◌, ◌<◌, ◌∷◌, ◌≡◌, ◌≤◌}
 use Rattle.std.specs.Prelude.{nat_lt}
 use Rattle.std.specs.List.{filter}
 use Rattle.std.proofs.lemmas.Bool.{eqb-true}
