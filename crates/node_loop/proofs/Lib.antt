@@ -3,3 +3,4 @@ mod Wiring
 mod Stepping
 mod Locally
 mod ManyTurns
+mod Rounding

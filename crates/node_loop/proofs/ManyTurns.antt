@@ -36,7 +36,7 @@ module _ (v mid new : NodeView) (before : List Turn) (i : HasHistory v before mi
       (subst (λ m. IsTurn v.program m (clock v.clock before) mid.state t) i.me
       (subst (λ (q : Program). IsTurn q mid.me (clock v.clock before) mid.state t) i.program h))
 
-one_more : (v mid new : NodeView) (before : List Turn) (t : Turn) → HasHistory v before mid → TakesTurn mid t new → HasHistory v (t ∷ before) new
+pub one_more : (v mid new : NodeView) (before : List Turn) (t : Turn) → HasHistory v before mid → TakesTurn mid t new → HasHistory v (t ∷ before) new
 one_more v mid new before t i h = subst (λ z. HasHistory v (z ∷ before) new) (sym h.is) (record {
   program = h.waits.program ∙ ap (λ (z : NodeView). z.program) h.does.after ∙ i.program;
   me = h.waits.me ∙ ap (λ (z : NodeView). z.me) h.does.after ∙ i.me;

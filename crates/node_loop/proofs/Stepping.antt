@@ -1,5 +1,5 @@
 -- What a step in code comes to, in the words of a turn.
-use Rattle.std.proofs.Common.{◌≡◌, ℕ, suc, ◌+◌, ◌^◌, ◌<◌, ◌≤◌, List, [], ◌∷◌, ◌++◌, max, Option, Some, None, Bool, true, false, Ok, Err, cond, ltb, refl, sym, ap, ◌∙◌, subst, arith}
+use Rattle.std.proofs.Common.{◌≡◌, ◌≢◌, ℕ, suc, ◌+◌, ◌^◌, ◌<◌, ◌≤◌, List, [], ◌∷◌, ◌++◌, max, Option, Some, None, Bool, true, false, Ok, Err, cond, ltb, refl, sym, ap, ◌∙◌, subst, arith}
 use Rattle.std.specs.Prelude.{nat_lt, ◌&&◌, Result, OnErr}
 use Rattle.std.proofs.lemmas.Bool.{lt-ltb}
 use Rattle.std.proofs.lemmas.Bool.Decides.{nat_tests}
@@ -16,12 +16,13 @@ use Rattle.run_trace.specs.Machine.{local_event, turn_event, is_beyond, is_range
 use Rattle.run_trace.specs.Cluster.{taken_of}
 use Rattle.run_trace.specs.Histories.{IsShape, seen}
 use Rattle.wires.specs.declared.ends.Ends.{Ends}
-use Rattle.wires.specs.Ends.{received_from}
-use Rattle.wires.proofs.Lemmas.{stays_trans}
+use Rattle.wires.specs.Ends.{received_from, known_from}
+use Rattle.wires.proofs.Gets.{by_eq}
+use Rattle.wires.proofs.Rings.{stays_trans}
 use Rattle.node_state.specs.declared.done.Done.{Done}
 use Rattle.node_state.specs.Events.{Answers, event_of}
 use Rattle.node_loop.specs.View.{NodeView, unbooted}
-use Rattle.node_loop.specs.Turns.{TakesKnown, Carries, CarriesNothing, IsImpossible, IsInRange, IsLost, Turns}
+use Rattle.node_loop.specs.Turns.{StaysKnown, TakesKnown, Carries, CarriesNothing, IsImpossible, IsInRange, IsLost, Turns}
 use Rattle.node_loop.specs.Links.{TakesFirst, Took, Reserved, Sent, Rests, Records}
 use Rattle.node_loop.specs.declared.node.Turned.{Turned}
 use Rattle.node_loop.specs.declared.node.Turned.TheVariants.{Did, Idle}
@@ -88,7 +89,7 @@ record IsStill (v : NodeView) (act : Act) (new : Ends Packet) : Type 0 where
 
 still : (v : NodeView) (act : Act) (o : Option Packet) (new : Ends Packet) → v.me < nodes_of v.program → v.state.booted ≡ true → IsInRange v act → Took act o v.ends new
     → turn_event v.program v.me v.state act o ≡ None → IsStill v act new
-still v act o new m b r t e = record { impossible = impossible act o r t.first e; links = record { node = t.node; wide = t.wide; received = λ k. t.received k ∙ (ap (λ zs. received_from v.ends k ++ zs) (none act o k r t.first e) ∙ append-nil (received_from v.ends k)); sent = t.sent; wired = t.wired } }
+still v act o new m b r t e = record { impossible = impossible act o r t.first e; links = record { node = t.node; wide = t.wide; received = λ k. t.received k ∙ (ap (λ zs. received_from v.ends k ++ zs) (none act o k r t.first e) ∙ append-nil (received_from v.ends k)); sent = t.sent; known = known act o r t.first t.known e; wired = t.wired } }
   where
     impossible : (a : Act) (o : Option Packet) → IsInRange v a → TakesFirst v.ends a o → turn_event v.program v.me v.state a o ≡ None → IsImpossible v a
     impossible Boot o r f e = absurd r
@@ -96,6 +97,15 @@ still v act o new m b r t e = record { impossible = impossible act o r t.first e
     impossible (Move u to) o r f e = subst (λ z. turn_event v.program v.me v.state (Move u to) z ≡ None) f e
     impossible (Take from) None r f e = f
     impossible (Take from) (Some packet) r f e = absurd (takes_some v.program v.me v.state from packet m b r e)
+
+    known : (a : Act) (o : Option Packet) → IsInRange v a → TakesFirst v.ends a o → ((k : ℕ) → a ≢ Take k → StaysKnown k v.ends new) → turn_event v.program v.me v.state a o ≡ None → (k : ℕ) → StaysKnown k v.ends new
+    known Boot o r f t e k = absurd r
+    known (Run vp quantum) o r f t e k = t k (λ h. absurd (cc h))
+    known (Move u to) o r f t e k = t k (λ h. absurd (cc h))
+    known (Take from) (Some packet) r f t e k = absurd (takes_some v.program v.me v.state from packet m b r e)
+    known (Take from) None r f t e k = λ p ps h. by_eq k from
+        (λ same. let some : known_from v.ends from ≡ p ∷ ps = subst (λ i. known_from v.ends i ≡ p ∷ ps) same h in absurd (cc (some, f)))
+        (λ ne. t k (λ same. (let is : from ≡ k = cc same in absurd (ne (sym is)))) p ps h)
 
     none : (a : Act) (o : Option Packet) (k : ℕ) → IsInRange v a → TakesFirst v.ends a o → turn_event v.program v.me v.state a o ≡ None → taken_of k a o ≡ []
     none Boot o k r f e = refl
@@ -143,6 +153,7 @@ records v w new stamp act done b c sends entries console e n xs bytes same r s =
         received = λ k. all.received k ∙ r.nothing.received k;
         sent = λ k l. all.sent k (omega (arith, l, r.nothing.wide)) ∙ ap (λ zs. zs ++ packets_to k stamp done.sends) (r.nothing.sent k);
         spare = λ k. omega (arith, r.spare k, all.spare k);
+        known = λ k p ps e. all.known k p ps (r.nothing.known k p ps e);
         wired = stays_trans v.ends b c r.nothing.wired all.wired;
       };
     }))
@@ -174,6 +185,7 @@ carries act o stamp done a b c t s = record {
   wide = s.wide ∙ t.wide;
   received = λ k. s.received k ∙ t.received k;
   sent = λ k l. s.sent k (omega (arith, l, t.wide)) ∙ ap (λ zs. zs ++ packets_to k stamp done.sends) (t.sent k);
+  known = λ k ne p ps e. s.known k p ps (t.known k ne p ps e);
   wired = stays_trans a b c t.wired s.wired;
 }
 

@@ -1,6 +1,8 @@
 -- What calls on one link of a node come to.
 use Rattle.std.proofs.Common.{◌≡◌, ◌≢◌, ℕ, zero, suc, drop, get_or, ◌+◌, ◌<◌, ◌≤◌, List, [], ◌∷◌, ◌++◌, length, Option, Some, None, Bool, true, false, cond, eqb, eq-eqb, ne_eqb, refl, sym, ap, ◌∙◌, subst, arith, append_assoc}
 use Rattle.std.proofs.lemmas.List.{append-nil}
+use Rattle.std.specs.Prelude.{slice_get}
+use Rattle.std.proofs.lemmas.Option.{slice_get_past}
 use Rattle.std.proofs.Math.Seq.{drop-cons}
 use Rattle.run_trace.specs.declared.entry.Act.{Act}
 use Rattle.run_trace.specs.declared.entry.Act.TheVariants.{Boot, Run, Take, Move}
@@ -10,12 +12,13 @@ use Rattle.run_trace.specs.declared.packet.Send.{Send}
 use Rattle.run_trace.specs.Cluster.{taken_of}
 use Rattle.wires.specs.declared.ends.Ends.{Ends}
 use Rattle.wires.specs.declared.link.Link.{Link}
-use Rattle.wires.specs.Ends.{node_of, width, link_of, of_link, count_of_link, sent_to, received_from, spare_to, LinkChanged}
-use Rattle.wires.specs.Link.{link_sent, link_received, link_known, link_spare, HasTaken, HasSent, SameLink}
+use Rattle.wires.specs.Ends.{node_of, width, link_of, of_link, count_of_link, sent_to, received_from, spare_to, AreFlushed, LinkChanged}
+use Rattle.wires.specs.Link.{link_sent, link_received, link_known, link_spare, HasTaken, HasSent, SameLink, HasFlushed}
 use Rattle.wires.specs.Wires.{StaysWired}
-use Rattle.wires.proofs.Lemmas.{of_before, of_after, of_other, stays_refl, stays_trans}
-use Rattle.basics.proofs.Lemmas.{by_eq}
-use Rattle.node_loop.specs.Turns.{CarriesNothing}
+use Rattle.wires.proofs.Above.{of_before, of_after, of_other}
+use Rattle.wires.proofs.Gets.{by_eq, by_less, some_at}
+use Rattle.wires.proofs.Rings.{stays_refl, stays_trans}
+use Rattle.node_loop.specs.Turns.{CarriesNothing, StaysKnown}
 use Rattle.node_loop.specs.Links.{TakesFirst, Took, Reserved, HasRoom, Sent}
 use Rattle.run_trace.specs.Links.{packets_to}
 
@@ -36,6 +39,10 @@ more_word f s R a b l xs more k ys here there = by_eq k s
     (of_after f s R a b l ∙ (more ∙ (ap (λ zs. zs ++ xs) (sym (of_before f s R a b l)) ∙ ap (λ zs. of_link f (link_of a s) ++ zs) (sym (here e))))))
     (λ ne. of_other f s k R a b l ne ∙ (sym (append-nil (of_link f (link_of a k))) ∙ ap (λ zs. of_link f (link_of a k) ++ zs) (sym (there ne))))
 
+-- what is known of the senders of which nothing is taken
+others_known : (from : ℕ) (R : Link Packet → Link Packet → Type 0) (a b : Ends Packet) → LinkChanged from R a b → (k : ℕ) → Take from ≢ Take k → StaysKnown k a b
+others_known from R a b l k ne p ps e = by_eq k from (λ h. absurd (ne (ap Take (sym h)))) (λ apart. ap (of_link link_known) (l.others.links k apart) ∙ e)
+
 pub took_link : (from : ℕ) (o : Option Packet) (a b : Ends Packet) → LinkChanged from (HasTaken o) a b → StaysWired a b → Took (Take from) o a b
 took_link from None a b l w = record {
   first = of_before link_known from (HasTaken None) a b l ∙ l.changed.takes.1;
@@ -43,6 +50,7 @@ took_link from None a b l w = record {
   wide = l.others.width;
   received = λ k. more_word link_received from (HasTaken None) a b l [] (l.changed.takes.0 ∙ sym (append-nil (link_received l.before))) k [] (λ e. refl) (λ ne. refl);
   sent = same_word link_sent from (HasTaken None) a b l l.changed.same_sent;
+  known = others_known from (HasTaken None) a b l;
   wired = w;
 }
 took_link from (Some x) a b l w = record {
@@ -54,6 +62,7 @@ took_link from (Some x) a b l w = record {
   received = λ k. more_word link_received from (HasTaken (Some x)) a b l (x ∷ []) l.changed.takes.0 k (cond (eqb from k) (x ∷ []) [])
       (λ e. ap (λ c. cond c (x ∷ []) []) (eq-eqb from k (sym e))) (λ ne. ap (λ c. cond c (x ∷ []) []) (ne_eqb from k (λ e. ne (sym e))));
   sent = same_word link_sent from (HasTaken (Some x)) a b l l.changed.same_sent;
+  known = others_known from (HasTaken (Some x)) a b l;
   wired = w;
 }
   where
@@ -67,6 +76,7 @@ took_nothing act a f none = record {
   wide = refl;
   received = λ k. sym (append-nil (received_from a k)) ∙ ap (λ zs. received_from a k ++ zs) (sym (none k));
   sent = λ k. refl;
+  known = λ k ne p ps e. e;
   wired = stays_refl a;
 }
 
@@ -82,7 +92,7 @@ run_takes vp quantum a = took_nothing (Run vp quantum) a refl (λ k. refl)
 -- ## Room
 
 pub nothing_carried : (a : Ends Packet) → CarriesNothing a a
-nothing_carried a = record { node = refl; wide = refl; received = λ k. refl; sent = λ k. refl; wired = stays_refl a }
+nothing_carried a = record { node = refl; wide = refl; received = λ k. refl; sent = λ k. refl; known = λ k p ps e. e; wired = stays_refl a }
 
 pub then_nothing : (a b c : Ends Packet) → CarriesNothing a b → CarriesNothing b c → CarriesNothing a c
 then_nothing a b c h g = record {
@@ -90,6 +100,7 @@ then_nothing a b c h g = record {
   wide = g.wide ∙ h.wide;
   received = λ k. g.received k ∙ h.received k;
   sent = λ k. g.sent k ∙ h.sent k;
+  known = λ k p ps e. g.known k p ps (h.known k p ps e);
   wired = stays_trans a b c h.wired g.wired;
 }
 
@@ -106,6 +117,7 @@ reserved_link to a b l w = record {
     wide = l.others.width;
     received = same_word link_received to SameLink a b l l.changed.same_received;
     sent = same_word link_sent to SameLink a b l l.changed.same_sent;
+    known = λ k p ps e. same_word link_known to SameLink a b l l.changed.same_known k ∙ e;
     wired = w;
   };
   spare = λ k. by_eq k to
@@ -149,6 +161,7 @@ sent_link stamp x p a b e l w = record {
   spare = λ k. by_eq k x.to
       (λ e. subst (λ j. spare_to a j ≤ spare_to b j + 1) (sym e) (omega (arith, l.changed.spare, ap (count_of_link link_spare) l.was, ap (count_of_link link_spare) l.is)))
       (λ ne. omega (arith, ap (count_of_link link_spare) (l.others.links k ne)));
+  known = λ k q qs e. same_word link_known x.to (HasSent p) a b l l.changed.same_known k ∙ e;
   wired = w;
 }
 
@@ -159,6 +172,7 @@ sent_past stamp x a past = record {
   received = λ k. refl;
   sent = λ k lt. sym (append-nil (sent_to a k)) ∙ ap (λ c. sent_to a k ++ cond c ((record { stamp = stamp; body = x.body }) ∷ []) []) (sym (ne_eqb x.to k (λ e. absurd (omega (arith, e, lt, past)))));
   spare = λ k. omega arith;
+  known = λ k p ps e. e;
   wired = stays_refl a;
 }
 
@@ -169,6 +183,7 @@ pub record Sends (stamp : ℕ) (all rest : List Send) (old now : Ends Packet) : 
   pub received : (k : ℕ) → received_from now k ≡ received_from old k
   pub sent : (k : ℕ) → k < width old → sent_to now k ++ packets_to k stamp rest ≡ sent_to old k ++ packets_to k stamp all
   pub spare : (k : ℕ) → spare_to old k + length rest ≤ spare_to now k + length all
+  pub known : (k : ℕ) → StaysKnown k old now
   pub wired : StaysWired old now
   pub room : HasRoom (length rest) now rest
 
@@ -179,6 +194,7 @@ sends_none stamp all a room = record {
   received = λ k. refl;
   sent = λ k lt. refl;
   spare = λ k. omega arith;
+  known = λ k p ps e. e;
   wired = stays_refl a;
   room = room;
 }
@@ -205,6 +221,7 @@ sends_more stamp x all xs a b c h s = record {
       ∙ (append_assoc (sent_to b k) (packets_to k stamp (x ∷ [])) (packets_to k stamp xs)
       ∙ (ap (λ zs. sent_to b k ++ zs) (sym (packets-cons k stamp x xs)) ∙ h.sent k lt));
   spare = λ k. omega (arith, h.spare k, s.spare k);
+  known = λ k p ps e. s.known k p ps (h.known k p ps e);
   wired = stays_trans a b c h.wired s.wired;
   room = room_less (length xs) stamp x b c s xs h.room.1;
 }
@@ -216,8 +233,52 @@ sends_all stamp all a b h = record {
   received = h.received;
   sent = λ k lt. sym (append-nil (sent_to b k)) ∙ h.sent k lt;
   spare = λ k. omega (arith, h.spare k);
+  known = h.known;
   wired = h.wired;
 }
+
+-- ## Flushing
+
+pub flushed : (a b : Ends Packet) → AreFlushed a b → StaysWired a b → CarriesNothing a b
+flushed a b f w = record {
+  node = f.node;
+  wide = f.width;
+  received = same link_received (λ x y h. h.same.same_received);
+  sent = same link_sent (λ x y h. h.same.same_sent);
+  known = λ k p ps e. same link_known (λ x y h. h.same.same_known) k ∙ e;
+  wired = w;
+}
+  where
+    same : (word : Link Packet → List Packet) → ((x y : Link Packet) → HasFlushed x y → word y ≡ word x) → (k : ℕ) → of_link word (slice_get b.links.items k) ≡ of_link word (slice_get a.links.items k)
+    same word keeps k = by_less k (width a)
+        (λ l.
+        let x = some_at a.links.items k (omega (arith, l, a.links.ok.0)) in
+        let y = some_at b.links.items k (omega (arith, l, f.width, b.links.ok.0)) in
+        ap (of_link word) y.1 ∙ keeps x.0 y.0 (f.each k x.0 y.0 x.1 y.1) ∙ sym (ap (of_link word) x.1))
+        (λ past. ap (of_link word) (slice_get_past b.links.items k (omega (arith, past, f.width, b.links.ok.0))) ∙ sym (ap (of_link word) (slice_get_past a.links.items k (omega (arith, past, a.links.ok.0)))))
+
+-- a flush loses no spare place
+flush_spare : (a b : Ends Packet) → AreFlushed a b → (k : ℕ) → spare_to a k ≤ spare_to b k
+flush_spare a b f k = by_less k (width a)
+    (λ l.
+    let x = some_at a.links.items k (omega (arith, l, a.links.ok.0)) in
+    let y = some_at b.links.items k (omega (arith, l, f.width, b.links.ok.0)) in
+    omega (arith, ap (count_of_link link_spare) x.1, ap (count_of_link link_spare) y.1, (f.each k x.0 y.0 x.1 y.1).same.spare))
+    (λ past. omega (arith, ap (count_of_link link_spare) (slice_get_past a.links.items k (omega (arith, past, a.links.ok.0)))))
+
+-- what was sent goes into the rings
+pub sent_flushed : (stamp : ℕ) (all : List Send) (a b c : Ends Packet) → Sent stamp all a b → AreFlushed b c → StaysWired b c → Sent stamp all a c
+sent_flushed stamp all a b c s f w =
+    let n : CarriesNothing b c = flushed b c f w in
+    record {
+      node = n.node ∙ s.node;
+      wide = n.wide ∙ s.wide;
+      received = λ k. n.received k ∙ s.received k;
+      sent = λ k l. n.sent k ∙ s.sent k l;
+      spare = λ k. omega (arith, s.spare k, flush_spare b c f k);
+      known = λ k p ps e. n.known k p ps (s.known k p ps e);
+      wired = stays_trans a b c s.wired w;
+    }
 
 -- ## Reading what a loop over a slice goes over
 

@@ -1,5 +1,5 @@
 -- What a turn does with the node's ends, part by part.
-use Rattle.std.specs.Prelude.{◌≡◌, ℕ, ◌+◌, ◌<◌, ◌≤◌, List, [], ◌∷◌, ◌++◌, length, Option, Some, None, ⊤}
+use Rattle.std.specs.Prelude.{◌≡◌, ◌≢◌, ℕ, ◌+◌, ◌<◌, ◌≤◌, List, [], ◌∷◌, ◌++◌, length, Option, Some, None, ⊤}
 use Rattle.run_trace.specs.declared.entry.Act.{Act}
 use Rattle.run_trace.specs.declared.entry.Act.TheVariants.{Boot, Run, Take, Move}
 use Rattle.run_trace.specs.declared.packet.Packet.{Packet}
@@ -10,7 +10,7 @@ use Rattle.wires.specs.Ends.{node_of, width, sent_to, received_from, known_from,
 use Rattle.wires.specs.Wires.{StaysWired}
 use Rattle.node_state.specs.declared.done.Done.{Done}
 use Rattle.node_loop.specs.View.{NodeView, with_ends}
-use Rattle.node_loop.specs.Turns.{CarriesNothing}
+use Rattle.node_loop.specs.Turns.{CarriesNothing, StaysKnown}
 use Rattle.run_trace.specs.Links.{packets_to}
 
 -- only a Take takes; it takes what is known first, and nothing only where nothing is known
@@ -28,6 +28,7 @@ pub record Took (act : Act) (took : Option Packet) (old new : Ends Packet) : Typ
   pub wide : width new ≡ width old
   pub received : (k : ℕ) → received_from new k ≡ received_from old k ++ taken_of k act took
   pub sent : (k : ℕ) → sent_to new k ≡ sent_to old k
+  pub known : (k : ℕ) → act ≢ Take k → StaysKnown k old new
   pub wired : StaysWired old new
 
 -- the sender that an act names is among the ends
@@ -54,6 +55,7 @@ pub record Sent (stamp : ℕ) (sends : List Send) (old new : Ends Packet) : Type
   pub received : (k : ℕ) → received_from new k ≡ received_from old k
   pub sent : (k : ℕ) → k < width old → sent_to new k ≡ sent_to old k ++ packets_to k stamp sends
   pub spare : (k : ℕ) → spare_to old k ≤ spare_to new k + length sends
+  pub known : (k : ℕ) → StaysKnown k old new
   pub wired : StaysWired old new
 
 -- ## A node

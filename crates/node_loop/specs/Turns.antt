@@ -27,12 +27,17 @@ TakesKnown ends Boot took = ⊤
 TakesKnown ends (Run vp quantum) took = ⊤
 TakesKnown ends (Move t to) took = ⊤
 
+-- what is known of this sender is known still
+abbrev pub StaysKnown : ℕ → Ends Packet → Ends Packet → Type 0
+StaysKnown k old new = (p : Packet) (ps : List Packet) → known_from old k ≡ p ∷ ps → known_from new k ≡ p ∷ ps
+
 -- the links have carried what was taken and what was sent, and nothing else
 pub record Carries (act : Act) (took : Option Packet) (stamp : ℕ) (sends : List Send) (old new : Ends Packet) : Type 0 where
   pub node : node_of new ≡ node_of old
   pub wide : width new ≡ width old
   pub received : (k : ℕ) → received_from new k ≡ received_from old k ++ taken_of k act took
   pub sent : (k : ℕ) → k < width old → sent_to new k ≡ sent_to old k ++ packets_to k stamp sends
+  pub known : (k : ℕ) → act ≢ Take k → StaysKnown k old new
   pub wired : StaysWired old new
 
 -- the links have carried nothing; a look at a ring may have shown a packet
@@ -41,6 +46,7 @@ pub record CarriesNothing (old new : Ends Packet) : Type 0 where
   pub wide : width new ≡ width old
   pub received : (k : ℕ) → received_from new k ≡ received_from old k
   pub sent : (k : ℕ) → sent_to new k ≡ sent_to old k
+  pub known : (k : ℕ) → StaysKnown k old new
   pub wired : StaysWired old new
 
 -- ## A turn

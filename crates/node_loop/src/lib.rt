@@ -3,9 +3,11 @@
 //! what the node's links have carried by it.
 #![tactic(auto)]
 
+mod gate;
 mod laws;
 mod links;
 mod node;
 
+pub use gate::{Gate, Open};
 pub use laws::{turns_are_a_history, turns_are_local};
-pub use node::{Node, Turned};
+pub use node::{Node, RoundEnd, Turned};

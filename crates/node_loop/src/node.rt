@@ -4,6 +4,7 @@ ghost use Rattle.std.specs.Prelude.{◌≡◌, ◌+◌, ◌^◌, ◌<◌, ◌≤
 ghost use Rattle.run_trace.specs.Guests.{unwaiting};
 ghost use Rattle.run_trace.specs.Histories.{seen};
 ghost use Rattle.run_trace.specs.Machine.{turn_event, is_beyond};
+ghost use Rattle.run_trace.specs.Program.{quantum_limit};
 ghost use Rattle.wires.specs.Ends.{node_of, width, ArePaired, BothChanged, LinkChanged};
 ghost use Rattle.wires.specs.Link.{IsInOrder, IsSettled, BothBecome, OwnBecomes};
 ghost use Rattle.wires.specs.Wires.{StaysWired};
@@ -12,8 +13,10 @@ ghost use Rattle.node_state.specs.Views.{AreInOrder};
 ghost use Rattle.node_state.specs.Events.{program, Answers, StartsAligned};
 ghost use Rattle.node_loop.specs.View.{unbooted, raised, with_ends};
 ghost use Rattle.node_loop.specs.Links.{Records, Rests};
+ghost use Rattle.node_loop.specs.Rounds.{DoesPass, DoesPasses, DoesTakes, FailsLater, Rounds};
 ghost use Rattle.node_loop.specs.Turns.{Turns, IsInRange, IsLost, can, entry_limit};
 
+use crate::gate::Gate;
 use crate::links;
 use basics::{Items, NoMemory};
 use node_state::{Done, NodeState};
@@ -34,6 +37,15 @@ pub enum Turned {
     Did,
     /// The act isn't possible, and nothing has changed.
     Idle,
+}
+
+/// How a round has ended.
+#[derive(Clone, Copy, PartialEq, Eq)]
+pub enum RoundEnd {
+    /// The node has nothing more to do, or has done as much as it may.
+    Through,
+    /// A turn found no memory, and the node is lost.
+    Lost,
 }
 
 /// One node with its entries, its console and its ends of its links. After want of memory it is used no more.
@@ -157,7 +169,7 @@ impl Node {
         }
     }
 
-    // Adds the entry and sends its packets. Where there is no memory, neither is done.
+    // Adds the entry and sends its packets, which go into the rings as far as these take them. Where there is no memory, neither is done.
     fn record(&mut self, stamp: u64, act: &Act, done: Done) -> Result<(), NoMemory>
         requires { stamp ≤ 2 ^ 62 + length self.old.entries + 1 }
         ensures ok { OnOk result (Records stamp act.now done self.old self.new) }
@@ -173,6 +185,7 @@ impl Node {
         self.entries.reserve(1)?;
         self.console.extend_from_slice(prints.as_slice())?;
         links::send_all(&mut self.ends, stamp, sends.into_vec());
+        self.ends.flush();
         self.entries.push_reserved(Entry {
             stamp,
             node: self.me,
@@ -182,6 +195,109 @@ impl Node {
         });
         self.clock = stamp;
         Ok(())
+    }
+
+    /// A round: passes over all links and the run list, until `events` events are done or a pass finds nothing to do. Each pass
+    /// takes one packet from each link that shows one, in the order of senders, and then runs the processor if it has a pick. The
+    /// gate is passed at the start and between events.
+    pub fn round<G: Gate>(&mut self, gate: &G, events: u32) -> RoundEnd
+        requires entries { length self.old.entries + events ≤ entry_limit }
+        requires quantum { (0 < self.old.program.setup.quantum) × (self.old.program.setup.quantum ≤ quantum_limit) }
+        requires booted { self.old.state.booted ≡ true }
+        ensures { Rounds self.old events self.new result }
+    {
+        gate.pass(self.me, self.round);
+        match self.passes(gate, events) {
+            Ok(()) => RoundEnd::Through,
+            Err(NoMemory) => {
+                self.state = NodeState::fresh(self.alloc, &self.setup, self.me);
+                RoundEnd::Lost
+            }
+        }
+    }
+
+    // Passes, until so many events are done or one finds nothing to do.
+    fn passes<G: Gate>(&mut self, gate: &G, events: u32) -> Result<(), NoMemory>
+        requires entries { length self.old.entries + events ≤ entry_limit }
+        requires quantum { (0 < self.old.program.setup.quantum) × (self.old.program.setup.quantum ≤ quantum_limit) }
+        requires booted { self.old.state.booted ≡ true }
+        ensures ok { OnOk result (DoesPasses events self.old self.new) }
+        ensures err { OnErr result (FailsLater self.old self.new) }
+    {
+        let mut left = events;
+        for _n in 0..events {
+            let done = self.pass(gate, left)?;
+            if done == 0 {
+                return Ok(());
+            }
+            left -= done;
+            if left == 0 {
+                return Ok(());
+            }
+        }
+        Ok(())
+    }
+
+    // A pass of at most so many events.
+    fn pass<G: Gate>(&mut self, gate: &G, room: u32) -> Result<u32, NoMemory>
+        requires entries { length self.old.entries + room ≤ entry_limit }
+        requires quantum { (0 < self.old.program.setup.quantum) × (self.old.program.setup.quantum ≤ quantum_limit) }
+        requires booted { self.old.state.booted ≡ true }
+        ensures ok { IfOk result (λ count. DoesPass room count self.old self.new) }
+        ensures err { OnErr result (FailsLater self.old self.new) }
+    {
+        let takes = self.take_each(gate, room)?;
+        if takes == room {
+            return Ok(takes);
+        }
+        let quantum = self.setup.quantum;
+        match self.event(gate, Act::Run(0, quantum))? {
+            Turned::Did => Ok(takes + 1),
+            Turned::Idle => Ok(takes),
+        }
+    }
+
+    // Takes a packet of each sender of whom one shows, at most so many.
+    fn take_each<G: Gate>(&mut self, gate: &G, room: u32) -> Result<u32, NoMemory>
+        requires entries { length self.old.entries + room ≤ entry_limit }
+        requires booted { self.old.state.booted ≡ true }
+        ensures ok { IfOk result (λ count. DoesTakes room count self.old self.new) }
+        ensures err { OnErr result (FailsLater self.old self.new) }
+    {
+        let mut taken = 0;
+        for sender in 0..self.setup.geometry.nodes() {
+            if taken == room {
+                return Ok(taken);
+            }
+            match self.event(gate, Act::Take(NodeNo(sender)))? {
+                Turned::Did => taken += 1,
+                Turned::Idle => continue,
+            }
+        }
+        Ok(taken)
+    }
+
+    // An event, after which the gate is passed.
+    fn event<G: Gate>(&mut self, gate: &G, act: Act) -> Result<Turned, NoMemory>
+        requires entries { length self.old.entries < entry_limit }
+        requires booted { self.old.state.booted ≡ true }
+        requires range { IsInRange self.old act }
+        ensures turned { IfOk result (λ turned. Turns self.old act self.new turned) }
+        ensures still { OnOk result (self.new.state.booted ≡ true) }
+        ensures err { OnErr result (IsLost self.old self.new) }
+    {
+        let turned = self.turn(act)?;
+        if turned == Turned::Did {
+            gate.pass(self.me, self.round);
+        }
+        Ok(turned)
+    }
+
+    /// Whether it goes on: a turn in a round that found no memory has lost it.
+    pub fn stands(&self) -> bool
+        ensures { result ≡ self.now.state.booted }
+    {
+        self.state.begun()
     }
 
     /// The node's clock is at least this from now on, and its next round begins.

@@ -104,6 +104,13 @@ impl NodeState {
         self.doing.node.threads.len()
     }
 
+    /// Whether the node has begun.
+    pub fn begun(&self) -> bool
+        ensures { result ≡ self.now.booted }
+    {
+        self.doing.node.booted
+    }
+
     /// Whether a thread has called halt here.
     pub fn halted(&self) -> bool
         ensures { result ≡ self.now.halted }

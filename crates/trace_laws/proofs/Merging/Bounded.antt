@@ -27,7 +27,7 @@ abbrev AllKnown : ℕ → List Turn → List Packet → Type 0
 AllKnown c all [] = ⊤
 AllKnown c all (p ∷ ps) = Known c all p.stamp × AllKnown c all ps
 
-abbrev IsAtMost : ℕ → List Turn → Type 0
+abbrev pub IsAtMost : ℕ → List Turn → Type 0
 IsAtMost s [] = ⊤
 IsAtMost s (e ∷ before) = (e.event.stamp ≤ s) × IsAtMost s before
 
@@ -215,27 +215,54 @@ fits_own : (prog : Program) (n : ℕ) (c : ℕ) (all es : List Turn) → Fits_al
 fits_own prog n c all [] f = tt
 fits_own prog n c all (e ∷ es) f = elim (eqb e.event.node n) as (λ v. Fits_all prog c all (cond v (e ∷ own_turns n es) (own_turns n es))) [ true ↦ (f.0, fits_own prog n c all es f.1) | false ↦ fits_own prog n c all es f.1 ]
 
-own_events : (n : ℕ) (es : List Turn) → own n (events_in es) ≡ events_in (own_turns n es)
+pub own_events : (n : ℕ) (es : List Turn) → own n (events_in es) ≡ events_in (own_turns n es)
 own_events n [] = refl
 own_events n (e ∷ es) = elim (eqb e.event.node n) as (λ v. cond v (e.event ∷ own n (events_in es)) (own n (events_in es)) ≡ events_in (cond v (e ∷ own_turns n es) (own_turns n es)))
     [ true ↦ ap (λ xs. e.event ∷ xs) (own_events n es) | false ↦ own_events n es ]
 
-pub gathers_merges : (prog : Program) (base : Net) (c : ℕ) (clocks : ℕ → ℕ) (turns : List Turn) → Gathers prog base c clocks turns → Merges prog base (events_in turns)
-gathers_merges prog base c clocks turns g =
+-- no stamp is further above the clock than there are turns, and no packet is a stray by its stamp
+record AreInBounds (prog : Program) (c : ℕ) (turns : List Turn) : Type 0 where
+  stamps : IsAtMost (c + length turns) turns
+  fits : Fits_all prog c turns turns
+
+in_bounds : (prog : Program) (base : Net) (c : ℕ) (clocks : ℕ → ℕ) (turns : List Turn) → Gathers prog base c clocks turns → AreInBounds prog c turns
+in_bounds prog base c clocks turns g =
     let sent_known : (i j : ℕ) → AllKnown c turns (base.links i j ++ sent i j (events_in turns)) = λ i j. known_append prog c turns _ _ (known_within prog c turns _ (g.packets_within i j)) (known_sent prog c turns i j turns (λ s h. h)) in
     let took : EachTook prog c turns turns = took_each prog c turns turns (λ i j. known_left prog c turns (received i j (events_in turns)) (g.links i j).0 (subst (λ ps. AllKnown c turns ps) (sym (g.links i j).1) (sent_known i j))) in
     let k : ℕ = c + length turns in
     let b : IsAtMost k turns = bounded prog c turns base clocks g.clocks_within turns g.order g.local took g.rounds (λ s h. inl h) in
-    let fits : Fits_all prog c turns turns = fits_each k (omega arith) g.few b turns took g.local in
-    record {
-      order = g.order;
-      links = g.links;
-      local = λ n. subst (λ es. IsLocalRun prog n (base.nodes n) es) (sym (own_events n turns)) (run_of prog c turns n (clocks n) (base.nodes n) (own_turns n turns) (fits_own prog n c turns turns fits) (g.local n)).0;
-    }
+    record { stamps = b; fits = fits_each k (omega arith) g.few b turns took g.local }
   where
     fits_each : (k : ℕ) → c ≤ k → k < stamp_limit → IsAtMost k turns → (es : List Turn) → EachTook prog c turns es → ((n : ℕ) → IsHistory prog n (clocks n) (base.nodes n) (own_turns n es)) → Fits_all prog c turns es
     fits_each k w f b [] t l = tt
     fits_each k w f b (e ∷ before) t l = (not_beyond prog c turns k w b f e.event.act e.event.took (newest prog c turns base clocks g.clocks_within e before (l e.event.node)).shape t.0, fits_each k w f b before t.1 (λ n. history_before prog c turns base clocks g.clocks_within n e before (l n)))
+
+pub gathers_merges : (prog : Program) (base : Net) (c : ℕ) (clocks : ℕ → ℕ) (turns : List Turn) → Gathers prog base c clocks turns → Merges prog base (events_in turns)
+gathers_merges prog base c clocks turns g =
+    let b : AreInBounds prog c turns = in_bounds prog base c clocks turns g in
+    record {
+      order = g.order;
+      links = g.links;
+      local = λ n. subst (λ es. IsLocalRun prog n (base.nodes n) es) (sym (own_events n turns)) (run_of prog c turns n (clocks n) (base.nodes n) (own_turns n turns) (fits_own prog n c turns turns b.fits) (g.local n)).0;
+    }
+
+-- no stamp is further above the clock than there are turns
+pub gathers_bounded : (prog : Program) (base : Net) (c : ℕ) (clocks : ℕ → ℕ) (turns : List Turn) → Gathers prog base c clocks turns → IsAtMost (c + length turns) turns
+gathers_bounded prog base c clocks turns g = (in_bounds prog base c clocks turns g).stamps
+
+-- what a node's turns leave of it is what their events leave, after each of them
+pub gathers_state : (prog : Program) (base : Net) (c : ℕ) (clocks : ℕ → ℕ) (turns : List Turn) → Gathers prog base c clocks turns → (later es : List Turn) → turns ≡ later ++ es → (n : ℕ)
+    → turn_state prog n (base.nodes n) (own_turns n es) ≡ state prog n (base.nodes n) (events_in (own_turns n es))
+gathers_state prog base c clocks turns g later es same n =
+    (run_of prog c turns n (clocks n) (base.nodes n) (own_turns n es) (fits_own prog n c turns es (fits_front later (subst (λ ts. Fits_all prog c turns ts) same (in_bounds prog base c clocks turns g).fits))) (history_front later (subst (λ ts. IsHistory prog n (clocks n) (base.nodes n) (own_turns n ts)) same (g.local n)))).1
+  where
+    fits_front : (xs : List Turn) → Fits_all prog c turns (xs ++ es) → Fits_all prog c turns es
+    fits_front [] f = f
+    fits_front (x ∷ xs) f = fits_front xs f.1
+
+    history_front : (xs : List Turn) → IsHistory prog n (clocks n) (base.nodes n) (own_turns n (xs ++ es)) → IsHistory prog n (clocks n) (base.nodes n) (own_turns n es)
+    history_front [] h = h
+    history_front (x ∷ xs) h = history_front xs (history_before prog c turns base clocks g.clocks_within n x (xs ++ es) h)
 
 pub gathered : (prog : Program) (base : Net) (c : ℕ) (clocks : ℕ → ℕ) (turns : List Turn) → Gathers prog base c clocks turns → Runs prog base (events_in turns)
 gathered prog base c clocks turns g = merges_runs prog base (events_in turns) (gathers_merges prog base c clocks turns g)

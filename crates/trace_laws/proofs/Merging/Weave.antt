@@ -47,12 +47,12 @@ weave (x ∷ xs) h l =
     ] refl (w.2 n)) in
     (e ∷ w.0, cc (s.3, w.1), owns)
 
-received_own : (i j : ℕ) (events : List Event) → received i j events ≡ taken_from i (own j events)
+pub received_own : (i j : ℕ) (events : List Event) → received i j events ≡ taken_from i (own j events)
 received_own i j [] = refl
 received_own i j (e ∷ before) = elim (eqb e.node j) as (λ v. received i j before ++ cond v (taken_of i e.act e.took) [] ≡ taken_from i (cond v (e ∷ own j before) (own j before)))
     [ true ↦ ap (λ ps. ps ++ taken_of i e.act e.took) (received_own i j before) | false ↦ append-nil (received i j before) ∙ received_own i j before ]
 
-sent_own : (i j : ℕ) (events : List Event) → sent i j events ≡ sent_to j (own i events)
+pub sent_own : (i j : ℕ) (events : List Event) → sent i j events ≡ sent_to j (own i events)
 sent_own i j [] = refl
 sent_own i j (e ∷ before) = elim (eqb e.node i) as (λ v. sent i j before ++ cond v (packets_to j e.stamp e.sends) [] ≡ sent_to j (cond v (e ∷ own i before) (own i before)))
     [ true ↦ ap (λ ps. ps ++ packets_to j e.stamp e.sends) (sent_own i j before) | false ↦ append-nil (sent i j before) ∙ sent_own i j before ]
