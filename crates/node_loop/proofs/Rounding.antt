@@ -1,8 +1,8 @@
 -- What one event after another comes to in a round.
-use Rattle.std.proofs.Common.{◌≡◌, ◌≢◌, ℕ, suc, ◌+◌, ◌-◌, ◌<◌, ◌≤◌, ◌⊎◌, inl, inr, List, [], ◌∷◌, ◌++◌, length, max, Option, Some, None, Bool, true, false, is_some, refl, sym, ap, ◌∙◌, subst, arith, append_assoc, append-nil}
+use Rattle.std.proofs.Common.{◌≡◌, ℕ, suc, ◌+◌, ◌-◌, ◌<◌, ◌≤◌, ◌⊎◌, inl, inr, List, [], ◌∷◌, ◌++◌, length, max, Option, Some, None, Bool, true, false, is_some, refl, sym, ap, ◌∙◌, subst, arith, append_assoc, append-nil}
 use Rattle.std.specs.Prelude.{nat_lt}
 use Rattle.std.proofs.lemmas.List.{length-append}
-use Rattle.std.proofs.Math.Nat.{max-eq_right, le-max_left, le-max_right}
+use Rattle.std.proofs.Math.Nat.{max-eq_right, le-max_left}
 use Rattle.run_trace.specs.declared.entry.Act.{Act}
 use Rattle.run_trace.specs.declared.entry.Act.TheVariants.{Boot, Run, Take, Move}
 use Rattle.run_trace.specs.declared.packet.Packet.{Packet}
@@ -11,14 +11,12 @@ use Rattle.run_trace.specs.Histories.{Turn, IsTurn, IsStamped, clock, seen, turn
 use Rattle.run_trace.specs.Local.{Local}
 use Rattle.run_trace.specs.Machine.{turn_event}
 use Rattle.run_trace.specs.Program.{Program, nodes_of}
-use Rattle.wires.specs.declared.ends.Ends.{Ends}
 use Rattle.wires.specs.Ends.{known_from}
-use Rattle.wires.specs.Wires.{StaysWired}
 use Rattle.wires.proofs.Gets.{by_eq}
 use Rattle.wires.proofs.Rings.{stays_refl, stays_trans}
-use Rattle.node_loop.specs.Histories.{HasHistory, TakesTurn, Waits, events_of_turns}
+use Rattle.node_loop.specs.Histories.{HasHistory, Waits, events_of_turns}
 use Rattle.node_loop.specs.Passes.{Moment, AreRuns, AreTakes, ArePasses, HasTake, IsPass, IsRound, acts_in, first_pass, ready_after}
-use Rattle.node_loop.specs.Rounds.{AreInRound, DoesMore, DoesPass, DoesPasses, DoesTakes, FailsLater, HasDone, HasRounded, HasStopped, can_run, moments_in, moments_of_node}
+use Rattle.node_loop.specs.Rounds.{DoesMore, DoesPass, DoesPasses, DoesTakes, FailsLater, HasDone, HasRounded, HasStopped, can_run, moments_of_node}
 use Rattle.node_loop.specs.Turns.{Does, Idles, IsActInRange, IsInRange, IsLost, StaysKnown, Turns, can, turn_of}
 use Rattle.node_loop.specs.View.{NodeView}
 use Rattle.node_loop.specs.declared.node.Turned.TheVariants.{Did, Idle}

@@ -1,6 +1,5 @@
 -- What a node has done in a round, whatever packets came.
 use Rattle.std.specs.Prelude.{◌≡◌, ◌+◌, ◌<◌, ◌≤◌, ◌⊎◌, ⊤, ℕ, List, [], ◌∷◌, ◌++◌, length, Bool, true, false, is_some, None}
-use Rattle.run_trace.specs.declared.entry.Act.{Act}
 use Rattle.run_trace.specs.declared.entry.Act.TheVariants.{Run, Take}
 use Rattle.run_trace.specs.Console.{printed}
 use Rattle.run_trace.specs.Histories.{Turn, clock, turn_state}
@@ -11,7 +10,7 @@ use Rattle.wires.specs.Wires.{StaysWired}
 use Rattle.node_loop.specs.declared.node.RoundEnd.{RoundEnd}
 use Rattle.node_loop.specs.declared.node.RoundEnd.TheVariants.{Through, Lost}
 use Rattle.node_loop.specs.Histories.{HasHistory, events_of_turns}
-use Rattle.node_loop.specs.Passes.{Moment, AreRuns, AreTakes, HasTake, IsPass, IsRound, ready_after}
+use Rattle.node_loop.specs.Passes.{Moment, AreTakes, HasTake, IsPass, IsRound, ready_after}
 use Rattle.node_loop.specs.Turns.{IsActInRange, IsLost, can}
 use Rattle.node_loop.specs.View.{NodeView}
 
