@@ -12,8 +12,8 @@ use Rattle.run_trace.specs.Local.{Local}
 use Rattle.run_trace.specs.Machine.{turn_event}
 use Rattle.run_trace.specs.Program.{Program, nodes_of}
 use Rattle.wires.specs.Ends.{known_from}
-use Rattle.wires.proofs.Gets.{by_eq}
-use Rattle.wires.proofs.Rings.{stays_refl, stays_trans}
+use Rattle.basics.proofs.Lemmas.{by_eq}
+use Rattle.wires.proofs.Lemmas.{stays_refl, stays_trans}
 use Rattle.node_loop.specs.Histories.{HasHistory, Waits, events_of_turns}
 use Rattle.node_loop.specs.Passes.{Moment, AreRuns, AreTakes, ArePasses, HasTake, IsPass, IsRound, acts_in, first_pass, ready_after}
 use Rattle.node_loop.specs.Rounds.{DoesMore, DoesPass, DoesPasses, DoesTakes, FailsLater, HasDone, HasRounded, HasStopped, can_run, moments_of_node}

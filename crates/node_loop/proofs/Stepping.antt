@@ -17,8 +17,8 @@ use Rattle.run_trace.specs.Cluster.{taken_of}
 use Rattle.run_trace.specs.Histories.{IsShape, seen}
 use Rattle.wires.specs.declared.ends.Ends.{Ends}
 use Rattle.wires.specs.Ends.{received_from, known_from}
-use Rattle.wires.proofs.Gets.{by_eq}
-use Rattle.wires.proofs.Rings.{stays_trans}
+use Rattle.basics.proofs.Lemmas.{by_eq}
+use Rattle.wires.proofs.Lemmas.{stays_trans}
 use Rattle.node_state.specs.declared.done.Done.{Done}
 use Rattle.node_state.specs.Events.{Answers, event_of}
 use Rattle.node_loop.specs.View.{NodeView, unbooted}

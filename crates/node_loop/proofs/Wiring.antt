@@ -15,9 +15,8 @@ use Rattle.wires.specs.declared.link.Link.{Link}
 use Rattle.wires.specs.Ends.{node_of, width, link_of, of_link, count_of_link, sent_to, received_from, spare_to, AreFlushed, LinkChanged}
 use Rattle.wires.specs.Link.{link_sent, link_received, link_known, link_spare, HasTaken, HasSent, SameLink, HasFlushed}
 use Rattle.wires.specs.Wires.{StaysWired}
-use Rattle.wires.proofs.Above.{of_before, of_after, of_other}
-use Rattle.wires.proofs.Gets.{by_eq, by_less, some_at}
-use Rattle.wires.proofs.Rings.{stays_refl, stays_trans}
+use Rattle.wires.proofs.Lemmas.{of_before, of_after, of_other, stays_refl, stays_trans}
+use Rattle.basics.proofs.Lemmas.{by_eq, by_less, some_at}
 use Rattle.node_loop.specs.Turns.{CarriesNothing, StaysKnown}
 use Rattle.node_loop.specs.Links.{TakesFirst, Took, Reserved, HasRoom, Sent}
 use Rattle.run_trace.specs.Links.{packets_to}
