@@ -20,7 +20,7 @@ use crate::gate::Gate;
 use crate::links;
 use basics::{Items, NoMemory};
 use node_state::{Done, NodeState};
-use run_trace::{Act, Entry, Labels, Packet, Setup};
+use run_trace::{Act, Entry, Labels, Packet, Program, Setup};
 use rv_inst::Image;
 use slot_space::{NodeNo, Tid};
 use std::alloc::Global;
@@ -52,8 +52,7 @@ pub enum RoundEnd {
 #[derive(Drop)]
 pub struct Node {
     alloc: Global,
-    setup: Setup,
-    image: Image,
+    program: Program,
     me: NodeNo,
     state: NodeState,
     clock: u64,
@@ -66,16 +65,16 @@ pub struct Node {
 impl Model for Node {
     ghost use Rattle.std.specs.Prelude.{◌≡◌, ◌<◌, ◌≤◌, ◌+◌, ◌^◌, length};
     ghost use Rattle.wires.specs.Ends.{node_of, width};
-    ghost use Rattle.node_state.specs.Events.{program, StartsAligned};
+    ghost use Rattle.node_state.specs.Events.{StartsAligned};
     ghost use Rattle.node_loop.specs.View.{NodeView, view_of};
 
     ghost Value = { NodeView };
 
-    ghost view = { λ n. view_of (program n.setup n.image) n.me n.state n.clock n.round n.entries.items n.console.items n.ends };
+    ghost view = { λ n. view_of n.program n.me n.state n.clock n.round n.entries.items n.console.items n.ends };
 
     // It is one of the cluster's nodes, the ends are its own and lead to all nodes, and no stamp reaches the end of its type.
-    ghost invariant = { λ n. (n.clock ≤ 2 ^ 62 + length n.entries.items) × (n.me < n.setup.geometry.nodes) × (n.round < 2 ^ 64)
-        × (node_of n.ends ≡ n.me) × (n.setup.geometry.nodes ≤ width n.ends) × StartsAligned n.image };
+    ghost invariant = { λ n. (n.clock ≤ 2 ^ 62 + length n.entries.items) × (n.me < n.program.setup.geometry.nodes) × (n.round < 2 ^ 64)
+        × (node_of n.ends ≡ n.me) × (n.program.setup.geometry.nodes ≤ width n.ends) × StartsAligned n.program.image };
 }
 
 impl Node {
@@ -93,11 +92,28 @@ impl Node {
         ensures booted { IfOk result (λ node. Turns (unbooted (program setup.now image.now) me ends) Act.Boot node Turned.Did) }
         ensures begun { IfOk result (λ node. node.state.booted ≡ true) }
     {
-        let mut state = NodeState::fresh(alloc, setup, me);
-        let Some(done) = state.event(setup, image, me, Act::Boot, None)? else {
+        let program = Program::of(alloc, setup, image)?;
+        Node::begun(alloc, program, me, ends)
+    }
+
+    // A node that has begun with this program.
+    fn begun(
+        alloc: Global,
+        program: Program,
+        me: NodeNo,
+        ends: Ends<Packet>,
+    ) -> Result<Node, NoMemory>
+        requires me { me < program.setup.geometry.nodes }
+        requires image { StartsAligned program.image }
+        requires ends { (node_of ends ≡ me) × (program.setup.geometry.nodes ≤ width ends) }
+        ensures booted { IfOk result (λ node. Turns (unbooted program me ends) Act.Boot node Turned.Did) }
+        ensures begun { IfOk result (λ node. node.state.booted ≡ true) }
+    {
+        let mut state = NodeState::fresh(alloc, program.setup(), me);
+        let Some(done) = state.event(&program, me, Act::Boot, None)? else {
             unreachable!();
         };
-        let mut node = Node::without_entries(alloc, setup, image, me, state, ends)?;
+        let mut node = Node::without_entries(alloc, program, me, state, ends);
         node.record(1, &Act::Boot, done)?;
         Ok(node)
     }
@@ -105,21 +121,19 @@ impl Node {
     // A node in this state, before its first entry.
     fn without_entries(
         alloc: Global,
-        setup: &Setup,
-        image: &Image,
+        program: Program,
         me: NodeNo,
         state: NodeState,
         ends: Ends<Packet>,
-    ) -> Result<Node, NoMemory>
-        requires me { me < setup.now.geometry.nodes }
-        requires image { StartsAligned image.now }
-        requires ends { (node_of ends ≡ me) × (setup.now.geometry.nodes ≤ width ends) }
-        ensures { IfOk result (λ node. node ≡ record (unbooted (program setup.now image.now) me ends) { state = state }) }
+    ) -> Node
+        requires me { me < program.setup.geometry.nodes }
+        requires image { StartsAligned program.image }
+        requires ends { (node_of ends ≡ me) × (program.setup.geometry.nodes ≤ width ends) }
+        ensures { result ≡ record (unbooted program me ends) { state = state } }
     {
-        Ok(Node {
+        Node {
             alloc,
-            setup: *setup,
-            image: image.try_clone(alloc)?,
+            program,
             me,
             state,
             clock: 0,
@@ -127,7 +141,7 @@ impl Node {
             entries: Vec::new(alloc),
             console: Vec::new(alloc),
             ends,
-        })
+        }
     }
 
     /// One event: the act is done, and its entry stands last, or it isn't possible and nothing has changed.
@@ -154,8 +168,7 @@ impl Node {
         let done = event(
             self.alloc,
             &mut self.state,
-            &self.setup,
-            &self.image,
+            &self.program,
             self.me,
             &act,
             took,
@@ -317,10 +330,10 @@ impl Node {
         ensures { result ≡ can self.now act.now }
     {
         match act {
-            Act::Run(_, _) => self.state.ready() > 0,
-            Act::Take(from) => self.has_packet(*from),
-            Act::Move(t, _) => self.state.is_ready(t),
             Act::Boot => false,
+            Act::Take(from) => self.has_packet(*from),
+            Act::Run(_, _) => self.state.can(act),
+            Act::Move(_, _) => self.state.can(act),
         }
     }
 
@@ -491,14 +504,13 @@ fn comes_too_late(took: &Option<Packet>) -> bool
 fn event(
     alloc: Global,
     state: &mut NodeState,
-    setup: &Setup,
-    image: &Image,
+    program: &Program,
     me: NodeNo,
     act: &Act,
     took: Option<Packet>,
 ) -> Result<Option<Done>, NoMemory>
-    requires { StartsAligned image.now }
-    ensures { IfOk result (λ done. Answers (turn_event (program setup.now image.now) me state.old act.now took) state.old state.new done) }
+    requires { StartsAligned program.now.image }
+    ensures { IfOk result (λ done. Answers (turn_event program.now me state.old act.now took) state.old state.new done) }
 {
     if comes_too_late(&took) {
         return Ok(Some(Done {
@@ -507,5 +519,5 @@ fn event(
             prints: Items::new(Vec::new(alloc)),
         }));
     }
-    state.event(setup, image, me, *act, took)
+    state.event(program, me, *act, took)
 }

@@ -6,8 +6,9 @@ use Rattle.run_trace.specs.Program.{Program}
 use Rattle.run_trace.specs.Local.{Doing, nothing}
 use Rattle.run_trace.specs.Steps.{comes}
 use Rattle.run_trace.specs.Machine.{may_come, takes}
-use Rattle.node_state.specs.declared.newcomer.Newcomer.{Newcomer}
-use Rattle.node_state.specs.Moves.{newcomer_of, may_enter, enters}
+use Rattle.node_thread.specs.declared.newcomer.Newcomer.{Newcomer}
+use Rattle.node_thread.specs.Newcomers.{newcomer_of}
+use Rattle.node_state.specs.Moves.{may_enter, enters}
 
 pub came : (p : Program) (me from : ℕ) (x : Packed) (n : Newcomer) (d old : Doing) → d ≡ old → n ≡ newcomer_of x → old ≡ nothing old.node
     → may_enter p me d.node n ≡ true → enters n d ≡ takes p me from (Mover x) old.node

@@ -6,7 +6,7 @@ use Rattle.run_trace.specs.declared.label.Label.TheVariants.{Ran}
 use Rattle.run_trace.specs.Guests.{Thread, Run}
 use Rattle.run_trace.specs.Local.{Doing}
 use Rattle.run_trace.specs.Steps.{say, keep, take_off, ran}
-use Rattle.node_state.specs.Runs.{after_run}
+use Rattle.node_thread.specs.Runs.{after_run}
 
 swapped : (t : Tid) (x : Thread) (d : Doing) → take_off t (keep t x d) ≡ keep t x (take_off t d)
 unfolding take_off keep

@@ -1,12 +1,7 @@
-pub mod Runs
-pub mod Zeros
 pub mod Lowest
 pub mod Told
 pub mod InPlace
 pub mod Heaps
 pub mod Found
-pub mod Own
-pub mod Aligned
-pub mod Travel
 pub mod Coming
-pub mod RunsTaken
+pub mod Possible

@@ -1,8 +1,11 @@
 -- What an event of a node in code is.
-use Rattle.std.specs.Prelude.{◌≡◌, ℕ, ◌%◌, [], Option, Some, None, Bool, true, false}
+use Rattle.std.specs.Prelude.{◌≡◌, ℕ, ◌%◌, [], Option, Some, None, Bool, true, false, length, nat_lt}
 use Rattle.rv_inst.specs.declared.image.Image.{Image}
 use Rattle.slot_space.specs.Places.{starting_slots}
+use Rattle.run_trace.specs.declared.entry.Act.{Act}
+use Rattle.run_trace.specs.declared.entry.Act.TheVariants.{Boot, Run, Take, Move}
 use Rattle.run_trace.specs.declared.entry.Setup.{Setup}
+use Rattle.run_trace.specs.Places.{is_listed}
 use Rattle.run_trace.specs.Program.{Program}
 use Rattle.run_trace.specs.Local.{Local, Doing}
 use Rattle.node_state.specs.declared.done.Done.{Done}
@@ -24,6 +27,13 @@ fresh_in setup n = record {
   names = [];
   halted = false;
 }
+
+-- a thread can be picked, or the one that is to move is on the run list
+abbrev pub can_act : Local → Act → Bool
+can_act s Boot = true
+can_act s (Run vp quantum) = nat_lt 0 (length s.places.rows)
+can_act s (Take from) = true
+can_act s (Move t to) = is_listed t s.places.rows
 
 -- the event that leaves this node and has come to this
 abbrev pub event_of : Local → Done → Doing

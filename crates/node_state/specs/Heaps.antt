@@ -1,22 +1,18 @@
 -- The steps of isomalloc and isofree, looked up where the thread stands.
-use Rattle.std.specs.Prelude.{◌≡◌, ◌+◌, ◌≤◌, ℕ, List, [], ◌∷◌, Option, Some, None, true, false, ⊤}
-use Rattle.slot_space.specs.Sets.{has, run}
+use Rattle.std.specs.Prelude.{◌+◌, ◌≤◌, ℕ, List, [], ◌∷◌, Option, Some, None, ⊤}
 use Rattle.slot_space.specs.declared.names.Tid.{Tid}
 use Rattle.iso_blocks.specs.Heap.{emptied}
 use Rattle.run_trace.specs.declared.label.Label.TheVariants.{Gave}
 use Rattle.run_trace.specs.declared.node.Wait.TheVariants as wait
-use Rattle.run_trace.specs.Guests.{Guest, Thread, waits, guest_slots, heap_of, gives_slots, without_block}
+use Rattle.run_trace.specs.Guests.{Thread, waits, heap_of, gives_slots, without_block}
 use Rattle.run_trace.specs.Local.{Doing}
 use Rattle.run_trace.specs.Steps.{say, keep, slots_in, takes_run}
 use Rattle.run_trace.specs.Machine.{run_for}
+use Rattle.node_thread.specs.Views.{IsNew}
 
 abbrev pub claim_found : ℕ → Doing → Option Thread → Option ℕ
 claim_found size d None = None
 claim_found size d (Some x) = run_for size x.guest d.node.slots.own
-
--- none of the slots of a run is the guest's
-abbrev pub IsNew : (first count : ℕ) → Guest → Type 0
-IsNew first count g = (s : ℕ) → has s (run first count) ≡ true → has s (guest_slots g) ≡ false
 
 abbrev pub IsNewAt : (first count : ℕ) → Option Thread → Type 0
 IsNewAt first count None = ⊤

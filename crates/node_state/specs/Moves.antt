@@ -1,19 +1,14 @@
 -- A thread that comes, as it is once its packet is opened.
 use Rattle.std.specs.Prelude.{ℕ, Bool, ◌&&◌, is_none, nat_lt}
 use Rattle.std.specs.Map.{lookup}
-use Rattle.pack_thread.specs.Threads.{Thread as Packed}
 use Rattle.run_trace.specs.declared.label.Label.TheVariants.{Came}
-use Rattle.run_trace.specs.declared.node.Wait.TheVariants as wait
 use Rattle.run_trace.specs.Names.{is_tid}
 use Rattle.run_trace.specs.Program.{Program, nodes_of}
-use Rattle.run_trace.specs.Guests.{waits, unpacked, guest_slots}
+use Rattle.run_trace.specs.Guests.{guest_slots}
 use Rattle.run_trace.specs.Local.{Local, Doing}
 use Rattle.run_trace.specs.Steps.{say, thread_in, arrive}
-use Rattle.run_trace.specs.Machine.{is_unserving, lives_yet, are_away}
-use Rattle.node_state.specs.declared.newcomer.Newcomer.{Newcomer}
-
-abbrev pub newcomer_of : Packed → Newcomer
-newcomer_of x = record { tid = x.tid; unserving = is_unserving x; thread = waits wait.No (unpacked x) }
+use Rattle.run_trace.specs.Machine.{lives_yet, are_away}
+use Rattle.node_thread.specs.declared.newcomer.Newcomer.{Newcomer}
 
 -- this node expects it
 abbrev pub may_enter : Program → ℕ → Local → Newcomer → Bool

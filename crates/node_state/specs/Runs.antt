@@ -1,16 +1,11 @@
--- A thread that runs in place.
+-- A thread that runs in place, looked up where it stands.
 use Rattle.std.specs.Prelude.{ℕ, List, Option, Some, None}
 use Rattle.slot_space.specs.declared.names.Tid.{Tid}
 use Rattle.rv_step.specs.declared.hart.Stop.{Stop}
-use Rattle.run_trace.specs.Guests.{Thread, Run, run_of, with_state}
+use Rattle.run_trace.specs.Guests.{Thread}
 use Rattle.run_trace.specs.Local.{Doing}
 use Rattle.run_trace.specs.Steps.{ran}
-
-abbrev pub run_at : List ℕ → ℕ → Thread → Run
-run_at image quantum x = run_of image quantum x.guest.solo.state
-
-abbrev pub after_run : Run → Thread → Thread
-after_run r x = record x { guest = with_state r.state x.guest }
+use Rattle.node_thread.specs.Runs.{run_at}
 
 -- the thread's run, and its label
 abbrev pub ran_at : List ℕ → Tid → (vp quantum : ℕ) → Thread → Doing → Doing

@@ -5,15 +5,14 @@ ghost use Rattle.run_trace.specs.Names.{tid_of};
 ghost use Rattle.run_trace.specs.Steps.{at_thread, thread_at, asks};
 ghost use Rattle.run_trace.specs.Machine.{answer, creates, does, calls, stopped};
 ghost use Rattle.node_state.specs.Asking.{IsSmall, NamesBlockAt, CanBeDone, refused_by, named_by};
-ghost use Rattle.node_state.specs.Events.{program};
 
 use crate::call::Checked;
 use crate::checks::check;
 use crate::doing::Doing;
+use crate::here::Here;
 use basics::{Items, NoMemory};
 use marcel_core::End;
-use run_trace::{Call, Setup, Why};
-use rv_inst::Image;
+use run_trace::{Call, Why};
 use rv_step::Stop;
 use slot_space::{NodeNo, Reply, Tid};
 
@@ -37,8 +36,7 @@ impl Doing {
     /// The thread creates another one, where there is a slot for it.
     fn creates(
         &mut self,
-        setup: &Setup,
-        me: NodeNo,
+        here: &Here<'_>,
         t: &Tid,
         entry: u64,
         argument: u64,
@@ -46,13 +44,13 @@ impl Doing {
     ) -> Result<(), NoMemory>
         requires aligned { entry % 4 ≡ 0 }
         requires low { priority ≤ 7 }
-        ensures { IfOk result (λ _. self.new ≡ creates me t.now entry argument priority self.old) }
+        ensures { IfOk result (λ _. self.new ≡ creates here.now.me t.now entry argument priority self.old) }
     {
         match self.free_slot() {
             None => self.answer(t, Reply::Full.code()),
             Some(slot) => {
-                let child = self.next_name(me)?;
-                self.birth(setup, me, Why::Create(*t), entry, argument, priority, slot)?;
+                let child = self.next_name(here);
+                self.birth(here, Why::Create(*t), entry, argument, priority, slot)?;
                 self.answer(t, child.value())
             }
         }
@@ -62,16 +60,14 @@ impl Doing {
     #[tactic(auto, using(crate::proofs::Told::asked))]
     fn does(
         &mut self,
-        setup: &Setup,
-        image: &Image,
-        me: NodeNo,
+        here: &Here<'_>,
         t: &Tid,
         call: Call,
         bytes: Items<u8>,
     ) -> Result<(), NoMemory>
         requires small { IsSmall call }
         requires block { NamesBlockAt call (thread_at t.now self.old) }
-        ensures { IfOk result (λ _. self.new ≡ does (program setup.now image.now) me t.now call bytes self.old) }
+        ensures { IfOk result (λ _. self.new ≡ does here.now.program.now here.now.me t.now call bytes self.old) }
     {
         match call {
             Call::Exit(value) => {
@@ -79,8 +75,8 @@ impl Doing {
                 self.end_thread(t, End::Exit(value))
             }
             Call::Name => self.asks_and_hears(t, call, t.value()),
-            Call::Node => self.asks_and_hears(t, call, me.0 as u64),
-            Call::Nodes => self.asks_and_hears(t, call, setup.geometry.nodes() as u64),
+            Call::Node => self.asks_and_hears(t, call, here.me.0 as u64),
+            Call::Nodes => self.asks_and_hears(t, call, here.program.nodes() as u64),
             Call::Yield => self.asks_and_hears(t, call, 0),
             Call::Create {
                 entry,
@@ -88,7 +84,7 @@ impl Doing {
                 priority,
             } => {
                 self.asks(t, call)?;
-                self.creates(setup, me, t, entry, argument, priority as u8)
+                self.creates(here, t, entry, argument, priority as u8)
             }
             Call::Join(name) => self.asks_join(t, call, &tid_of(name)),
             Call::Isomalloc(len) => {
@@ -102,7 +98,7 @@ impl Doing {
             Call::MigrateSelf(to) => {
                 self.asks(t, call)?;
                 self.answer(t, 0)?;
-                self.migrates(setup, image, me, NodeNo(to as u8), t)
+                self.migrates(here, NodeNo(to as u8), t)
             }
             Call::Print { .. } => self.asks_show(t, call, bytes),
             Call::Halt => {
@@ -116,33 +112,24 @@ impl Doing {
     /// A call after its checks.
     fn calls(
         &mut self,
-        setup: &Setup,
-        image: &Image,
-        me: NodeNo,
+        here: &Here<'_>,
         t: &Tid,
         call: Call,
         checked: Checked,
     ) -> Result<(), NoMemory>
         requires { CanBeDone call (thread_at t.now self.old) checked }
-        ensures { IfOk result (λ _. self.new ≡ calls (program setup.now image.now) me t.now call (refused_by checked) (named_by checked) self.old) }
+        ensures { IfOk result (λ _. self.new ≡ calls here.now.program.now here.now.me t.now call (refused_by checked) (named_by checked) self.old) }
     {
         match checked {
             Checked::Refused(reply) => self.asks_and_hears(t, call, reply.code()),
-            Checked::Passed(bytes) => self.does(setup, image, me, t, call, bytes),
+            Checked::Passed(bytes) => self.does(here, t, call, bytes),
         }
     }
 
     /// What the end of the thread's run leads to.
     #[tactic(auto, using(crate::proofs::Told::stop_is))]
-    pub(crate) fn stops(
-        &mut self,
-        setup: &Setup,
-        image: &Image,
-        me: NodeNo,
-        t: &Tid,
-        stop: Stop,
-    ) -> Result<(), NoMemory>
-        ensures { IfOk result (λ _. self.new ≡ at_thread t.now (stopped (program setup.now image.now) me t.now stop) self.old) }
+    pub(crate) fn stops(&mut self, here: &Here<'_>, t: &Tid, stop: Stop) -> Result<(), NoMemory>
+        ensures { IfOk result (λ _. self.new ≡ at_thread t.now (stopped here.now.program.now here.now.me t.now stop) self.old) }
     {
         let alloc = self.alloc;
         let node = &self.node;
@@ -156,8 +143,8 @@ impl Doing {
             }
             Stop::Call => {
                 let call = thread.call();
-                let checked = check(alloc, setup, image, t, thread, call)?;
-                self.calls(setup, image, me, t, call, checked)
+                let checked = check(alloc, here.program, t, thread, call)?;
+                self.calls(here, t, call, checked)
             }
             Stop::Fault(kind) => {
                 let pc = thread.pc();

@@ -4,12 +4,11 @@ ghost use Rattle.std.specs.Prelude.{◌≡◌, ◌%◌, ◌==◌, ◌&&◌, [], 
 ghost use Rattle.rv_inst.specs.Image.{image_word};
 ghost use Rattle.node_state.specs.declared.call.Checked.TheVariants.{Passed};
 ghost use Rattle.node_state.specs.Asking.{IsChecked};
-ghost use Rattle.node_state.specs.Events.{program};
 
 use crate::call::Checked;
-use crate::thread::Thread;
 use basics::{Items, NoMemory};
-use run_trace::{Call, Setup};
+use node_thread::Thread;
+use run_trace::{Call, Program};
 use rv_inst::Image;
 use slot_space::{Reply, Tid};
 use std::alloc::Global;
@@ -31,13 +30,12 @@ fn passed(alloc: Global) -> Checked
 /// The checks of a call of thread t.
 pub(crate) fn check(
     alloc: Global,
-    setup: &Setup,
-    image: &Image,
+    program: &Program,
     t: &Tid,
     thread: &Thread,
     call: Call,
 ) -> Result<Checked, NoMemory>
-    ensures { IfOk result (λ checked. IsChecked (program setup.now image.now) t.now thread.now.guest.solo call checked) }
+    ensures { IfOk result (λ checked. IsChecked program.now t.now thread.now.guest.solo call checked) }
 {
     match call {
         Call::Create {
@@ -45,7 +43,7 @@ pub(crate) fn check(
             argument: _,
             priority,
         } => {
-            if is_entry(image, entry) && priority <= 7 {
+            if is_entry(program.image(), entry) && priority <= 7 {
                 Ok(passed(alloc))
             } else {
                 Ok(Checked::Refused(Reply::BadArgument))
@@ -55,7 +53,7 @@ pub(crate) fn check(
             if name == t.value() {
                 return Ok(Checked::Refused(Reply::BadArgument));
             }
-            if name / 0x1_0000_0000 >= setup.geometry.nodes() as u64 {
+            if name / 0x1_0000_0000 >= program.nodes() as u64 {
                 return Ok(Checked::Refused(Reply::NoSuch));
             }
             Ok(passed(alloc))
@@ -64,7 +62,7 @@ pub(crate) fn check(
             if len > 256 {
                 return Ok(Checked::Refused(Reply::TooLong));
             }
-            match thread.bytes(alloc, image, address, len as usize)? {
+            match thread.bytes(alloc, program.image(), address, len as usize)? {
                 None => Ok(Checked::Refused(Reply::BadArgument)),
                 Some(bytes) => Ok(Checked::Passed(bytes)),
             }
@@ -73,7 +71,7 @@ pub(crate) fn check(
             if len == 0 {
                 return Ok(Checked::Refused(Reply::BadArgument));
             }
-            if len > 65536 * setup.geometry.slots() as u64 {
+            if len > 65536 * program.setup().geometry.slots() as u64 {
                 return Ok(Checked::Refused(Reply::TooLong));
             }
             Ok(passed(alloc))
@@ -86,7 +84,7 @@ pub(crate) fn check(
             }
         }
         Call::MigrateSelf(to) => {
-            if to >= setup.geometry.nodes() as u64 {
+            if to >= program.nodes() as u64 {
                 return Ok(Checked::Refused(Reply::BadArgument));
             }
             Ok(passed(alloc))

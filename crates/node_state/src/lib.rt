@@ -3,20 +3,20 @@
 #![tactic(auto)]
 
 mod acts;
-mod blocks;
+mod asking;
+mod births;
 mod call;
 mod calls;
 mod checks;
 mod doing;
 mod done;
 mod heap;
-mod heap_slots;
-mod homes;
+mod here;
 mod moves;
-mod newcomer;
 mod node;
 mod packets;
-mod thread;
+mod running;
+mod state;
 
 pub use done::Done;
 pub use node::NodeState;

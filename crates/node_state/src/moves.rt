@@ -1,21 +1,22 @@
 //! Moves of threads between nodes.
 
-ghost use Rattle.std.specs.Prelude.{◌≡◌, ◌<◌, not, IfOk};
+ghost use Rattle.std.specs.Prelude.{◌≡◌, ◌<◌, not, true, IfOk};
 ghost use Rattle.std.specs.List.{list_all};
 ghost use Rattle.run_trace.specs.Guests.{guest_slots};
 ghost use Rattle.run_trace.specs.Local.{nothing};
 ghost use Rattle.run_trace.specs.Steps.{at_thread, thread_at, leaves};
 ghost use Rattle.run_trace.specs.Machine.{goes, migrates, moves_found, moves_listed, lives_yet, are_away};
+ghost use Rattle.run_trace.specs.Places.{is_listed};
 ghost use Rattle.slot_space.specs.Sets.{meets};
-ghost use Rattle.node_state.specs.Events.{program, Becomes};
+ghost use Rattle.node_state.specs.Events.{Becomes};
 ghost use Rattle.node_state.specs.Moves.{may_enter, enters};
 
-use crate::doing::{Doing, State};
-use crate::homes::is_open;
-use crate::newcomer::Newcomer;
+use crate::doing::Doing;
+use crate::here::Here;
+use crate::state::State;
 use basics::NoMemory;
-use run_trace::{Body, Label, Setup};
-use rv_inst::Image;
+use node_thread::Newcomer;
+use run_trace::{Body, Label, Program};
 use slot_space::{NodeNo, SlotSet, Tid};
 
 impl State {
@@ -60,10 +61,10 @@ impl Doing {
     }
 
     /// The thread goes to another node, as each does whose home is a node of the cluster.
-    fn goes(&mut self, setup: &Setup, image: &Image, t: &Tid, to: NodeNo) -> Result<(), NoMemory>
-        ensures { IfOk result (λ _. self.new ≡ at_thread t.now (goes (program setup.now image.now) t.now to) self.old) }
+    fn goes(&mut self, program: &Program, t: &Tid, to: NodeNo) -> Result<(), NoMemory>
+        ensures { IfOk result (λ _. self.new ≡ at_thread t.now (goes program.now t.now to) self.old) }
     {
-        if t.home.0 < setup.geometry.nodes() {
+        if t.home.0 < program.nodes() {
             self.leaves(t, to)
         } else {
             Ok(())
@@ -71,84 +72,60 @@ impl Doing {
     }
 
     /// A thread that asks for its own node stays.
-    pub(crate) fn migrates(
-        &mut self,
-        setup: &Setup,
-        image: &Image,
-        me: NodeNo,
-        to: NodeNo,
-        t: &Tid,
-    ) -> Result<(), NoMemory>
-        ensures { IfOk result (λ _. self.new ≡ migrates (program setup.now image.now) me to t.now self.old) }
+    pub(crate) fn migrates(&mut self, here: &Here<'_>, to: NodeNo, t: &Tid) -> Result<(), NoMemory>
+        ensures { IfOk result (λ _. self.new ≡ migrates here.now.program.now here.now.me to t.now self.old) }
     {
-        if to.0 == me.0 {
+        if to.0 == here.me.0 {
             return Ok(());
         }
-        self.goes(setup, image, t, to)
+        self.goes(here.program, t, to)
     }
 
     /// The thread is sent away, false where it isn't here.
-    fn moves_found(
-        &mut self,
-        setup: &Setup,
-        image: &Image,
-        t: &Tid,
-        to: NodeNo,
-    ) -> Result<bool, NoMemory>
+    fn moves_found(&mut self, program: &Program, t: &Tid, to: NodeNo) -> Result<bool, NoMemory>
         requires { self.old ≡ nothing self.old.node }
-        ensures { IfOk result (λ did. Becomes (moves_found (program setup.now image.now) t.now to (thread_at t.now self.old) self.old.node) self.old self.new did) }
+        ensures { IfOk result (λ did. Becomes (moves_found program.now t.now to (thread_at t.now self.old) self.old.node) self.old self.new did) }
     {
         let node = &self.node;
         let Some(_) = node.threads.get(t) else {
             return Ok(false);
         };
-        self.goes(setup, image, t, to)?;
+        self.goes(program, t, to)?;
         Ok(true)
     }
 
-    /// A thread that is on the run list is sent away; false where it isn't.
+    /// A thread that is on the run list is sent away.
     pub(crate) fn moves_listed(
         &mut self,
-        setup: &Setup,
-        image: &Image,
+        program: &Program,
         t: &Tid,
         to: NodeNo,
     ) -> Result<bool, NoMemory>
-        requires { self.old ≡ nothing self.old.node }
-        ensures { IfOk result (λ did. Becomes (moves_listed (program setup.now image.now) t.now to self.old.node) self.old self.new did) }
+        requires node { self.old ≡ nothing self.old.node }
+        requires listed { is_listed t.now self.old.node.places.rows ≡ true }
+        ensures { IfOk result (λ did. Becomes (moves_listed program.now t.now to self.old.node) self.old self.new did) }
     {
-        let node = &self.node;
-        if node.places.is_listed(t) {
-            self.moves_found(setup, image, t, to)
-        } else {
-            Ok(false)
-        }
+        self.moves_found(program, t, to)
     }
 
     /// A thread that was born here hasn't ended.
-    fn lives_yet(&self, me: NodeNo, t: &Tid) -> bool
-        ensures { result ≡ lives_yet me self.now.node t.now }
+    fn lives_yet(&self, here: &Here<'_>, t: &Tid) -> bool
+        ensures { result ≡ lives_yet here.now.me self.now.node t.now }
     {
-        if t.home.0 == me.0 {
-            is_open(self.birth_of(t.seq))
+        if t.home.0 == here.me.0 {
+            self.node.homes.lives(t.seq)
         } else {
             true
         }
     }
 
     /// This node expects the thread.
-    pub(crate) fn may_enter(
-        &self,
-        setup: &Setup,
-        image: &Image,
-        me: NodeNo,
-        newcomer: &Newcomer,
-    ) -> bool
-        ensures { result ≡ may_enter (program setup.now image.now) me self.now.node newcomer.now }
+    pub(crate) fn may_enter(&self, here: &Here<'_>, newcomer: &Newcomer) -> bool
+        ensures { result ≡ may_enter here.now.program.now here.now.me self.now.node newcomer.now }
     {
         let node = &self.node;
         let t = &newcomer.tid;
-        if t.home.0 >= setup.geometry.nodes() {
+        if t.home.0 >= here.program.nodes() {
             return false;
         }
         if !newcomer.unserving {
@@ -157,7 +134,7 @@ impl Doing {
         if node.threads.contains_key(t) {
             return false;
         }
-        if !self.lives_yet(me, t) {
+        if !self.lives_yet(here, t) {
             return false;
         }
         node.are_away(&newcomer.thread.slots())

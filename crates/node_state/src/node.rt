@@ -2,17 +2,16 @@
 
 ghost use Rattle.std.specs.Prelude.{◌≡◌, IfOk, length, slice_get};
 ghost use Rattle.run_trace.specs.Machine.{local_event};
-ghost use Rattle.run_trace.specs.Places.{is_listed};
 ghost use Rattle.run_trace.specs.Guests.{unwaiting};
 ghost use Rattle.run_list.specs.Names.{names_of};
 ghost use Rattle.node_state.specs.Views.{AreInOrder};
-ghost use Rattle.node_state.specs.Events.{program, StartsAligned, fresh_in, Answers};
+ghost use Rattle.node_state.specs.Events.{StartsAligned, fresh_in, can_act, Answers};
 
 use crate::doing::Doing;
 use crate::done::Done;
+use crate::here::Here;
 use basics::NoMemory;
-use run_trace::{Act, Packet, Setup};
-use rv_inst::Image;
+use run_trace::{Act, Packet, Program, Setup};
 use slot_space::{NodeNo, Tid};
 use std::alloc::Global;
 use std::marker::Model;
@@ -54,18 +53,25 @@ impl NodeState {
     /// also where a home can't count another birth, or the run list another arrival.
     pub fn event(
         &mut self,
-        setup: &Setup,
-        image: &Image,
+        program: &Program,
         me: NodeNo,
         act: Act,
         took: Option<Packet>,
     ) -> Result<Option<Done>, NoMemory>
-        requires image { StartsAligned image.now }
-        ensures { IfOk result (λ done. Answers (local_event (program setup.now image.now) me self.old act took) self.old self.new done) }
+        requires image { StartsAligned program.now.image }
+        ensures { IfOk result (λ done. Answers (local_event program.now me self.old act took) self.old self.new done) }
     {
-        let result = self.doing.event(setup, image, me, &act, took);
+        let here = Here { program, me };
+        let result = self.doing.event(&here, &act, took);
         let done = self.doing.take_done();
         if result? { Ok(Some(done)) } else { Ok(None) }
+    }
+
+    /// Whether a thread can be picked, or the one that is to move is on the run list. An event asks the same.
+    pub fn can(&self, act: &Act) -> bool
+        ensures { result ≡ can_act self.now act.now }
+    {
+        self.doing.node.can(act)
     }
 
     /// How many threads are on the run list.
@@ -73,13 +79,6 @@ impl NodeState {
         ensures { result ≡ length self.now.places.rows }
     {
         self.doing.node.places.count()
-    }
-
-    /// Whether the thread is on the run list.
-    pub fn is_ready(&self, t: &Tid) -> bool
-        ensures { result ≡ is_listed t.now self.now.places.rows }
-    {
-        self.doing.node.places.is_listed(t)
     }
 
     /// The name at this place among those of the threads on the run list, in the order of names.

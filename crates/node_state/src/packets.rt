@@ -1,24 +1,87 @@
 //! What a node does with a packet. One that it doesn't expect comes to nothing.
 
-ghost use Rattle.std.specs.Prelude.{◌≡◌, IfOk, slice_get};
+ghost use Rattle.std.specs.Prelude.{◌≡◌, IfOk, true, slice_get};
+ghost use Rattle.marcel_core.specs.Homes.{verdict, joiner, is_open};
 ghost use Rattle.run_trace.specs.declared.packet.Body.TheVariants as body_of;
 ghost use Rattle.run_trace.specs.declared.node.Wait.TheVariants as wait_of;
 ghost use Rattle.run_trace.specs.Local.{nothing};
-ghost use Rattle.run_trace.specs.Steps.{thread_at};
+ghost use Rattle.run_trace.specs.Steps.{thread_at, line_of, shows, acknowledges, hears, knows};
 ghost use Rattle.run_trace.specs.Machine.{is_waiting, judges_join, tells_joiner, takes};
-ghost use Rattle.node_state.specs.Events.{program};
 
 use crate::doing::Doing;
-use crate::homes::{end_reply, end_value, is_open, joiner, verdict};
-use crate::newcomer::Newcomer;
+use crate::here::Here;
 use basics::NoMemory;
-use marcel_core::{Birth, End, Verdict};
+use marcel_core::{End, Verdict};
+use node_thread::Newcomer;
 use pack_thread::Packed;
-use run_trace::{Body, Setup, Wait};
-use rv_inst::Image;
+use run_trace::{Body, Extra, Label, Wait};
 use slot_space::{NodeNo, Reply, Tid};
+use std::alloc::Global;
+
+/// The line of a thread on the console.
+fn line_of(alloc: Global, t: &Tid, bytes: &[u8]) -> Result<Vec<u8>, NoMemory>
+    ensures { IfOk result (λ line. line.items ≡ line_of t.now bytes.now) }
+{
+    let home = t.home.0;
+    let seq = t.seq;
+    let mut line = format!(in alloc; "{home}.{seq}| ")?.into_bytes();
+    line.extend_from_slice(bytes)?;
+    line.push(b'\n')?;
+    Ok(line)
+}
 
 impl Doing {
+    /// The thread's line is on the console.
+    #[tactic(auto, unfolding(run_trace::specs::Steps::shows))]
+    pub(crate) fn shows(&mut self, t: &Tid, bytes: &[u8]) -> Result<(), NoMemory>
+        ensures { IfOk result (λ _. self.new ≡ shows t.now bytes.now self.old) }
+    {
+        let line = line_of(self.alloc, t, bytes)?;
+        self.say(Label::Shown(*t))?;
+        self.print(&line)
+    }
+
+    /// The thread's node is told that its line is shown.
+    #[tactic(auto, unfolding(run_trace::specs::Steps::acknowledges))]
+    pub(crate) fn acknowledges(&mut self, t: &Tid, at: NodeNo) -> Result<(), NoMemory>
+        ensures { IfOk result (λ _. self.new ≡ acknowledges t.now at self.old) }
+    {
+        self.say(Label::Judged {
+            t: *t,
+            reply: 0,
+            extra: Extra::Nothing,
+        })?;
+        self.put(at, Body::ShowDone { t: *t })
+    }
+
+    /// The home takes a join up, and what it is answered.
+    #[tactic(auto, unfolding(run_trace::specs::Steps::hears, run_trace::specs::Steps::change_name, run_trace::specs::Steps::say))]
+    pub(crate) fn hears(&mut self, by: &Tid, seq: u32, at: NodeNo) -> Result<Verdict, NoMemory>
+        ensures after { IfOk result (λ _. self.new ≡ hears by.now seq at self.old) }
+        ensures verdict { IfOk result (λ v. v ≡ verdict (slice_get self.old.node.names seq)) }
+    {
+        self.say(Label::Heard(*by))?;
+        let node = &mut self.node;
+        Ok(node.homes.join_asked(seq, *by, at))
+    }
+
+    /// The home knows of an end, and who waits for it.
+    #[tactic(auto, unfolding(run_trace::specs::Steps::knows, run_trace::specs::Steps::change_name, run_trace::specs::Steps::say))]
+    pub(crate) fn knows(
+        &mut self,
+        here: &Here<'_>,
+        seq: u32,
+        end: End,
+    ) -> Result<Option<(Tid, NodeNo)>, NoMemory>
+        requires { is_open (slice_get self.old.node.names seq) ≡ true }
+        ensures after { IfOk result (λ _. self.new ≡ knows here.now.me seq end self.old) }
+        ensures joiner { IfOk result (λ j. j ≡ joiner (slice_get self.old.node.names seq)) }
+    {
+        self.say(Label::Known(Tid { home: here.me, seq }))?;
+        let node = &mut self.node;
+        Ok(node.homes.ended(seq, end))
+    }
+
     /// The thread is here, and waits that its line is shown.
     fn waits_for_show(&self, t: &Tid) -> bool
         ensures { result ≡ is_waiting (thread_at t.now self.now) wait_of.ForShow }
@@ -47,23 +110,12 @@ impl Doing {
         }
     }
 
-    /// The birth of this number.
-    pub(crate) fn birth_of(&self, seq: u32) -> Option<Birth>
-        ensures { result ≡ slice_get self.now.node.names seq }
-    {
-        let node = &self.node;
-        match node.names.get(seq as usize) {
-            None => None,
-            Some(birth) => Some(*birth),
-        }
-    }
-
     /// What the home says of a join.
     fn judges_join(&mut self, by: &Tid, at: NodeNo, verdict: Verdict) -> Result<(), NoMemory>
         ensures { IfOk result (λ _. self.new ≡ judges_join by.now at verdict self.old) }
     {
         match verdict {
-            Verdict::Now(end) => self.reply_by_link(by, at, end_reply(end), Some(end_value(end))),
+            Verdict::Now(end) => self.reply_by_link(by, at, end.reply(), Some(end.value())),
             Verdict::Later => Ok(()),
             Verdict::NoSuch => self.reply_by_link(by, at, Reply::NoSuch, None),
             Verdict::Taken => self.reply_by_link(by, at, Reply::Taken, None),
@@ -76,24 +128,22 @@ impl Doing {
     {
         match joiner {
             None => Ok(()),
-            Some((by, at)) => self.reply_by_link(&by, at, end_reply(end), Some(end_value(end))),
+            Some((by, at)) => self.reply_by_link(&by, at, end.reply(), Some(end.value())),
         }
     }
 
     /// A thread comes. The blocks of one that this node doesn't expect are spare again.
     fn takes_thread(
         &mut self,
-        setup: &Setup,
-        image: &Image,
-        me: NodeNo,
+        here: &Here<'_>,
         from: NodeNo,
         packed: &Packed,
     ) -> Result<(), NoMemory>
         requires { self.old ≡ nothing self.old.node }
-        ensures { IfOk result (λ _. self.new ≡ takes (program setup.now image.now) me from (body_of.Mover packed.now) self.old.node) }
+        ensures { IfOk result (λ _. self.new ≡ takes here.now.program.now here.now.me from (body_of.Mover packed.now) self.old.node) }
     {
         let newcomer = Newcomer::open(self.alloc, &mut self.pool, packed)?;
-        if self.may_enter(setup, image, me, &newcomer) {
+        if self.may_enter(here, &newcomer) {
             self.enters(newcomer)
         } else {
             newcomer.thread.end(&mut self.pool);
@@ -104,17 +154,15 @@ impl Doing {
     /// A line is shown.
     fn takes_line(
         &mut self,
-        setup: &Setup,
-        image: &Image,
-        me: NodeNo,
+        here: &Here<'_>,
         from: NodeNo,
         t: &Tid,
         bytes: &[u8],
     ) -> Result<(), NoMemory>
         requires { self.old ≡ nothing self.old.node }
-        ensures { IfOk result (λ _. self.new ≡ takes (program setup.now image.now) me from (body_of.Show t.now bytes.now) self.old.node) }
+        ensures { IfOk result (λ _. self.new ≡ takes here.now.program.now here.now.me from (body_of.Show t.now bytes.now) self.old.node) }
     {
-        if !(me.0 == 0 && t.home.0 < setup.geometry.nodes()) {
+        if !(here.me.0 == 0 && t.home.0 < here.program.nodes()) {
             return Ok(());
         }
         self.shows(t, bytes)?;
@@ -122,18 +170,11 @@ impl Doing {
     }
 
     /// The thread's line was shown.
-    fn takes_shown(
-        &mut self,
-        setup: &Setup,
-        image: &Image,
-        me: NodeNo,
-        from: NodeNo,
-        t: &Tid,
-    ) -> Result<(), NoMemory>
+    fn takes_shown(&mut self, here: &Here<'_>, from: NodeNo, t: &Tid) -> Result<(), NoMemory>
         requires { self.old ≡ nothing self.old.node }
-        ensures { IfOk result (λ _. self.new ≡ takes (program setup.now image.now) me from (body_of.ShowDone t.now) self.old.node) }
+        ensures { IfOk result (λ _. self.new ≡ takes here.now.program.now here.now.me from (body_of.ShowDone t.now) self.old.node) }
     {
-        if !(t.home.0 < setup.geometry.nodes() && self.waits_for_show(t)) {
+        if !(t.home.0 < here.program.nodes() && self.waits_for_show(t)) {
             return Ok(());
         }
         self.tell(t, 0, None)
@@ -142,39 +183,34 @@ impl Doing {
     /// A thread joins one that was born here.
     fn takes_join(
         &mut self,
-        setup: &Setup,
-        image: &Image,
-        me: NodeNo,
+        here: &Here<'_>,
         from: NodeNo,
         by: &Tid,
         seq: u32,
     ) -> Result<(), NoMemory>
         requires { self.old ≡ nothing self.old.node }
-        ensures { IfOk result (λ _. self.new ≡ takes (program setup.now image.now) me from (body_of.JoinAsk by.now seq) self.old.node) }
+        ensures { IfOk result (λ _. self.new ≡ takes here.now.program.now here.now.me from (body_of.JoinAsk by.now seq) self.old.node) }
     {
-        if !(by.home.0 < setup.geometry.nodes()) {
+        if !(by.home.0 < here.program.nodes()) {
             return Ok(());
         }
-        let birth = self.birth_of(seq);
-        self.hears(by, seq, from)?;
-        self.judges_join(by, from, verdict(birth))
+        let verdict = self.hears(by, seq, from)?;
+        self.judges_join(by, from, verdict)
     }
 
     /// The thread's answer has come.
     fn takes_answer(
         &mut self,
-        setup: &Setup,
-        image: &Image,
-        me: NodeNo,
+        here: &Here<'_>,
         from: NodeNo,
         t: &Tid,
         reply: Reply,
         second: Option<u64>,
     ) -> Result<(), NoMemory>
         requires { self.old ≡ nothing self.old.node }
-        ensures { IfOk result (λ _. self.new ≡ takes (program setup.now image.now) me from (body_of.Answer t.now reply second) self.old.node) }
+        ensures { IfOk result (λ _. self.new ≡ takes here.now.program.now here.now.me from (body_of.Answer t.now reply second) self.old.node) }
     {
-        if !(t.home.0 < setup.geometry.nodes() && self.waits_for_answer(t)) {
+        if !(t.home.0 < here.program.nodes() && self.waits_for_answer(t)) {
             return Ok(());
         }
         self.tell(t, reply.code(), second)
@@ -183,47 +219,40 @@ impl Doing {
     /// A thread that was born here has ended.
     fn takes_end(
         &mut self,
-        setup: &Setup,
-        image: &Image,
-        me: NodeNo,
+        here: &Here<'_>,
         from: NodeNo,
         seq: u32,
         end: End,
     ) -> Result<(), NoMemory>
         requires { self.old ≡ nothing self.old.node }
-        ensures { IfOk result (λ _. self.new ≡ takes (program setup.now image.now) me from (body_of.EndNote seq end) self.old.node) }
+        ensures { IfOk result (λ _. self.new ≡ takes here.now.program.now here.now.me from (body_of.EndNote seq end) self.old.node) }
     {
-        if !is_open(self.birth_of(seq)) {
+        if !self.node.homes.lives(seq) {
             return Ok(());
         }
-        let birth = self.birth_of(seq);
-        self.knows(me, seq, end)?;
-        self.tells_joiner(end, joiner(birth))
+        let joiner = self.knows(here, seq, end)?;
+        self.tells_joiner(end, joiner)
     }
 
     /// A packet is taken.
     pub(crate) fn takes(
         &mut self,
-        setup: &Setup,
-        image: &Image,
-        me: NodeNo,
+        here: &Here<'_>,
         from: NodeNo,
         body: Body,
     ) -> Result<(), NoMemory>
         requires { self.old ≡ nothing self.old.node }
-        ensures { IfOk result (λ _. self.new ≡ takes (program setup.now image.now) me from body self.old.node) }
+        ensures { IfOk result (λ _. self.new ≡ takes here.now.program.now here.now.me from body self.old.node) }
     {
         match body {
-            Body::Mover(packed) => self.takes_thread(setup, image, me, from, &packed),
-            Body::Show { t, bytes } => {
-                self.takes_line(setup, image, me, from, &t, bytes.as_slice())
-            }
-            Body::ShowDone { t } => self.takes_shown(setup, image, me, from, &t),
-            Body::JoinAsk { by, seq } => self.takes_join(setup, image, me, from, &by, seq),
+            Body::Mover(packed) => self.takes_thread(here, from, &packed),
+            Body::Show { t, bytes } => { self.takes_line(here, from, &t, bytes.as_slice()) }
+            Body::ShowDone { t } => self.takes_shown(here, from, &t),
+            Body::JoinAsk { by, seq } => self.takes_join(here, from, &by, seq),
             Body::Answer { t, reply, second } => {
-                self.takes_answer(setup, image, me, from, &t, reply, second)
+                self.takes_answer(here, from, &t, reply, second)
             }
-            Body::EndNote { seq, end } => self.takes_end(setup, image, me, from, seq, end),
+            Body::EndNote { seq, end } => self.takes_end(here, from, seq, end),
         }
     }
 }

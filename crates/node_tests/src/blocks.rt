@@ -5,7 +5,7 @@ ghost use Rattle.node_state.specs.Events.{StartsAligned};
 
 use basics::Items;
 use node_state::NodeState;
-use run_trace::{Act, Packet, Send, Setup};
+use run_trace::{Act, Packet, Program, Send, Setup};
 use rv_inst::Image;
 use slot_space::{Geometry, NodeNo, Tid};
 use std::alloc::Global;
@@ -65,24 +65,28 @@ fn image(alloc: Global, words: &[u32]) -> Result<Image, Fail>
     })
 }
 
-fn setup(nodes: u8, slots: u16) -> Result<Setup, Fail> {
+fn program(alloc: Global, nodes: u8, slots: u16, image: &Image) -> Result<Program, Fail>
+    requires { StartsAligned image.now }
+    ensures { IfOk result (λ p. StartsAligned p.image) }
+{
     let geometry = Geometry::new(nodes, slots).ok_or("within the limits")?;
-    Ok(Setup {
+    let setup = Setup {
         geometry,
         quantum: 1000,
-    })
+    };
+    Ok(Program::of(alloc, &setup, image)?)
 }
 
 /// A packet is taken where there is one, else a thread runs, until none can.
-fn go(alloc: Global, setup: &Setup, image: &Image, node: &mut NodeState) -> Result<(), Fail>
-    requires { StartsAligned image.now }
+fn go(alloc: Global, program: &Program, node: &mut NodeState) -> Result<(), Fail>
+    requires { StartsAligned program.now.image }
 {
     let me = NodeNo(0);
     let mut packets = VecDeque::new(alloc);
     let mut act = Act::Boot;
     let mut took = None;
     for _ in 0..20_000 {
-        let Some(done) = node.event(setup, image, me, act, took)? else {
+        let Some(done) = node.event(program, me, act, took)? else {
             break;
         };
         for send in done.sends.into_vec() {
@@ -102,9 +106,9 @@ fn go(alloc: Global, setup: &Setup, image: &Image, node: &mut NodeState) -> Resu
 fn spare_alone(alloc: Global, image: &Image) -> Result<u32, Fail>
     requires { StartsAligned image.now }
 {
-    let setup = setup(1, 16)?;
-    let mut node = NodeState::fresh(alloc, &setup, NodeNo(0));
-    go(alloc, &setup, image, &mut node)?;
+    let program = program(alloc, 1, 16, image)?;
+    let mut node = NodeState::fresh(alloc, program.setup(), NodeNo(0));
+    go(alloc, &program, &mut node)?;
     Ok(node.spare())
 }
 
@@ -118,21 +122,20 @@ struct Two {
 
 /// One event on a node. What takes a packet takes the one that was sent last.
 fn step(
-    setup: &Setup,
-    image: &Image,
+    program: &Program,
     me: u8,
     act: Act,
     node: &mut NodeState,
     sent: &mut Option<Packet>,
 ) -> Result<(), Fail>
-    requires { StartsAligned image.now }
+    requires { StartsAligned program.now.image }
 {
     let took = match act {
         Act::Take(_) => sent.take(),
         _ => None,
     };
     let done = node
-        .event(setup, image, NodeNo(me), act, took)?
+        .event(program, NodeNo(me), act, took)?
         .ok_or("the act is possible")?;
     if let Some(Send { to: _, body }) = done.sends.into_vec().pop() {
         *sent = Some(Packet { stamp: 1, body });
@@ -141,20 +144,14 @@ fn step(
 }
 
 /// These acts, each on the first node or on the second, whose number is given.
-fn walk(
-    setup: &Setup,
-    image: &Image,
-    second: u8,
-    acts: &[(bool, Act)],
-    two: &mut Two,
-) -> Result<(), Fail>
-    requires { StartsAligned image.now }
+fn walk(program: &Program, second: u8, acts: &[(bool, Act)], two: &mut Two) -> Result<(), Fail>
+    requires { StartsAligned program.now.image }
 {
     for (on_second, act) in acts {
         if *on_second {
-            step(setup, image, second, *act, &mut two.there, &mut two.sent)?;
+            step(program, second, *act, &mut two.there, &mut two.sent)?;
         } else {
-            step(setup, image, 0, *act, &mut two.here, &mut two.sent)?;
+            step(program, 0, *act, &mut two.here, &mut two.sent)?;
         }
     }
     Ok(())
@@ -169,13 +166,13 @@ fn spare_after(
 ) -> Result<(u32, u32), Fail>
     requires { StartsAligned image.now }
 {
-    let setup = setup(2, 8)?;
+    let program = program(alloc, 2, 8, image)?;
     let mut two = Two {
-        here: NodeState::fresh(alloc, &setup, NodeNo(0)),
-        there: NodeState::fresh(alloc, &setup, NodeNo(second)),
+        here: NodeState::fresh(alloc, program.setup(), NodeNo(0)),
+        there: NodeState::fresh(alloc, program.setup(), NodeNo(second)),
         sent: None,
     };
-    walk(&setup, image, second, acts, &mut two)?;
+    walk(&program, second, acts, &mut two)?;
     Ok((two.here.spare(), two.there.spare()))
 }
 

@@ -2,16 +2,16 @@
 
 ghost use Rattle.std.specs.Prelude.{◌≡◌, ℕ, ◌↔◌, [], IfOk, IsTrue, length, slice_index_or};
 ghost use Rattle.run_trace.specs.Cluster.{IsTaken, fresh_net, net_after};
+ghost use Rattle.run_trace.specs.Program.{nodes_of};
 ghost use Rattle.run_trace.specs.Trace.{Fits, event_of};
-ghost use Rattle.node_state.specs.Events.{program, fresh_in, StartsAligned};
+ghost use Rattle.node_state.specs.Events.{fresh_in, StartsAligned};
 ghost use Rattle.run_judge.specs.Nets.{net_in, NodeDoes};
 
 use crate::flights::Flights;
 use crate::labels::same_labels;
 use basics::NoMemory;
 use node_state::{Done, NodeState};
-use run_trace::{Act, Entry, Packet, Setup};
-use rv_inst::Image;
+use run_trace::{Act, Entry, Packet, Program, Setup};
 use slot_space::NodeNo;
 use std::alloc::Global;
 
@@ -40,17 +40,12 @@ impl Cluster {
     }
 
     /// Whether the machine does exactly this entry. Where it does, it has done so.
-    pub(crate) fn does(
-        &mut self,
-        setup: &Setup,
-        image: &Image,
-        entry: &Entry,
-    ) -> Result<bool, NoMemory>
-        requires nodes { length self.old.nodes.items ≡ setup.now.geometry.nodes }
-        requires image { StartsAligned image.now }
-        ensures fits { IfOk result (λ fits. let p = program setup.now image.now in
+    pub(crate) fn does(&mut self, program: &Program, entry: &Entry) -> Result<bool, NoMemory>
+        requires nodes { length self.old.nodes.items ≡ nodes_of program.now }
+        requires image { StartsAligned program.now.image }
+        ensures fits { IfOk result (λ fits. let p = program.now in
             IsTrue fits ↔ Fits p (net_in p self.old.nodes.items self.old.flights.all.items) entry.now) }
-        ensures after { IfOk result (λ fits. IsTrue fits → (let p = program setup.now image.now in
+        ensures after { IfOk result (λ fits. IsTrue fits → (let p = program.now in
             let net = net_in p self.old.nodes.items self.old.flights.all.items in
             net_in p self.new.nodes.items self.new.flights.all.items ≡ net_after p net (event_of p net entry.now))) }
         ensures count { IfOk result (λ fits. IsTrue fits → length self.new.nodes.items ≡ length self.old.nodes.items) }
@@ -59,8 +54,7 @@ impl Cluster {
         if !comes_in_time(entry.stamp, entry.act, &took) {
             return Ok(false);
         }
-        let Some(done) = do_event(&mut self.nodes, setup, image, entry.node, entry.act, took)?
-        else {
+        let Some(done) = do_event(&mut self.nodes, program, entry.node, entry.act, took)? else {
             return Ok(false);
         };
         let mut room = None;
@@ -87,18 +81,17 @@ fn comes_in_time(stamp: u64, act: Act, took: &Option<Packet>) -> bool
 // The event of one node.
 fn do_event(
     nodes: &mut Vec<NodeState>,
-    setup: &Setup,
-    image: &Image,
+    program: &Program,
     me: NodeNo,
     act: Act,
     took: Option<Packet>,
 ) -> Result<Option<Done>, NoMemory>
-    requires nodes { length nodes.old.items ≡ setup.now.geometry.nodes }
-    requires image { StartsAligned image.now }
-    ensures { IfOk result (λ done. NodeDoes (program setup.now image.now) me act took nodes.old.items nodes.new.items done) }
+    requires nodes { length nodes.old.items ≡ nodes_of program.now }
+    requires image { StartsAligned program.now.image }
+    ensures { IfOk result (λ done. NodeDoes program.now me act took nodes.old.items nodes.new.items done) }
 {
     match nodes.get_mut(me.0 as usize) {
         None => Ok(None),
-        Some(node) => node.event(setup, image, me, act, took),
+        Some(node) => node.event(program, me, act, took),
     }
 }

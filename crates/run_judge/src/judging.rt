@@ -1,8 +1,7 @@
 //! The judge.
 
 ghost use Rattle.std.specs.Prelude.{◌≡◌, ◌≤◌, ◌<◌, ◌+◌, ◌↔◌, ◌⊎◌, None, IfOk, IfSome, MatchOption, IsTrue, length, reverse, take};
-ghost use Rattle.rv_inst.specs.declared.image.Image.{Image};
-ghost use Rattle.run_trace.specs.declared.entry.Setup.{Setup};
+ghost use Rattle.run_trace.specs.Program.{nodes_of};
 ghost use Rattle.run_trace.specs.Legality.{Legal, boot_entry, first_labels};
 ghost use Rattle.node_state.specs.Events.{program, StartsAligned};
 ghost use Rattle.run_judge.specs.Judged.{IsFirstFault, IsSound, Follows, BeginsAt};
@@ -10,7 +9,7 @@ ghost use Rattle.run_judge.specs.Judged.{IsFirstFault, IsSound, Follows, BeginsA
 use crate::cluster::Cluster;
 use crate::labels::same_labels;
 use basics::NoMemory;
-use run_trace::{Act, Entry, Label, Setup, Why};
+use run_trace::{Act, Entry, Label, Program, Setup, Why};
 use rv_inst::Image;
 use slot_space::{NodeNo, SlotNo, Tid};
 use std::alloc::Global;
@@ -31,19 +30,29 @@ pub fn judge(
     ensures legal { IfOk result (λ fault. (fault ≡ None) ↔ Legal (program setup.now image.now) (reverse entries.now)) }
     ensures first { IfOk result (λ fault. IfSome fault (λ number. IsFirstFault (program setup.now image.now) entries.now number)) }
 {
+    let program = Program::of(alloc, setup, image)?;
+    fault_in(alloc, &program, entries)
+}
+
+// The same of a program.
+fn fault_in(alloc: Global, program: &Program, entries: &[Entry]) -> Result<Option<usize>, NoMemory>
+    requires { StartsAligned program.now.image }
+    ensures legal { IfOk result (λ fault. (fault ≡ None) ↔ Legal program.now (reverse entries.now)) }
+    ensures first { IfOk result (λ fault. IfSome fault (λ number. IsFirstFault program.now entries.now number)) }
+{
     whole();
-    match first_fault(alloc, setup, image, entries)? {
+    match first_fault(alloc, program, entries)? {
         Some(number) => Ok(Some(number)),
-        None => Ok(missing(setup, entries)),
+        None => Ok(missing(program, entries)),
     }
 }
 
 // The number of entries, where a node's beginning is missing.
-fn missing(setup: &Setup, entries: &[Entry]) -> Option<usize>
-    ensures { MatchOption result ((length entries.now ≡ 0) ⊎ (setup.now.geometry.nodes ≤ length entries.now))
-        (λ number. (number ≡ length entries.now) × (0 < length entries.now) × (length entries.now < setup.now.geometry.nodes)) }
+fn missing(program: &Program, entries: &[Entry]) -> Option<usize>
+    ensures { MatchOption result ((length entries.now ≡ 0) ⊎ (nodes_of program.now ≤ length entries.now))
+        (λ number. (number ≡ length entries.now) × (0 < length entries.now) × (length entries.now < nodes_of program.now)) }
 {
-    if entries.is_empty() || setup.geometry.nodes as usize <= entries.len() {
+    if entries.is_empty() || program.nodes() as usize <= entries.len() {
         return None;
     }
     Some(entries.len())
@@ -52,21 +61,20 @@ fn missing(setup: &Setup, entries: &[Entry]) -> Option<usize>
 // The number of the first entry at which something is wrong.
 fn first_fault(
     alloc: Global,
-    setup: &Setup,
-    image: &Image,
+    program: &Program,
     entries: &[Entry],
 ) -> Result<Option<usize>, NoMemory>
-    requires { StartsAligned image.now }
-    ensures { IfOk result (λ fault. let p = program setup.now image.now in MatchOption fault (IsSound p (reverse entries.now))
+    requires { StartsAligned program.now.image }
+    ensures { IfOk result (λ fault. let p = program.now in MatchOption fault (IsSound p (reverse entries.now))
         (λ number. (number < length entries.now) × IsSound p (reverse (take number entries.now)) × (IsSound p (reverse (take (number + 1) entries.now)) → ⊥))) }
 {
     judged();
-    let mut cluster = Cluster::fresh(alloc, setup)?;
+    let mut cluster = Cluster::fresh(alloc, program.setup())?;
     for (number, entry) in entries.iter().enumerate() {
-        if !stands(setup, image, entries, number, entry) {
+        if !stands(program, entries, number, entry) {
             return Ok(Some(number));
         }
-        if !cluster.does(setup, image, entry)? {
+        if !cluster.does(program, entry)? {
             return Ok(Some(number));
         }
     }
@@ -74,17 +82,17 @@ fn first_fault(
 }
 
 // Whether the entry of this number may stand there by its order, its round and, if it is to be one, as a beginning.
-fn stands(setup: &Setup, image: &Image, entries: &[Entry], number: usize, entry: &Entry) -> bool
+fn stands(program: &Program, entries: &[Entry], number: usize, entry: &Entry) -> bool
     requires { number ≤ length entries.now }
-    ensures { IsTrue result ↔ (Follows entry.now (reverse (take number entries.now)) × BeginsAt (program setup.now image.now) number entry.now) }
+    ensures { IsTrue result ↔ (Follows entry.now (reverse (take number entries.now)) × BeginsAt program.now number entry.now) }
 {
     if !follows(entries, number, entry) {
         return false;
     }
-    if number >= setup.geometry.nodes as usize {
+    if number >= program.nodes() as usize {
         return true;
     }
-    is_beginning(image, number, entry)
+    is_beginning(program, number, entry)
 }
 
 // Whether the entry comes after the first so many.
@@ -108,8 +116,8 @@ fn comes_after(before: &Entry, entry: &Entry) -> bool
 }
 
 // Whether the entry is the beginning of the node of this number.
-fn is_beginning(image: &Image, number: usize, entry: &Entry) -> bool
-    ensures { (setup : Setup) → IsTrue result ↔ (entry.now ≡ boot_entry (program setup image.now) number) }
+fn is_beginning(program: &Program, number: usize, entry: &Entry) -> bool
+    ensures { IsTrue result ↔ (entry.now ≡ boot_entry program.now number) }
 {
     if entry.stamp != 1 {
         return false;
@@ -123,14 +131,14 @@ fn is_beginning(image: &Image, number: usize, entry: &Entry) -> bool
     }
     let mut room = None;
     match entry.act {
-        Act::Boot => are_first_labels(image, number, entry.labels.as_slice(&mut room)),
+        Act::Boot => are_first_labels(program, number, entry.labels.as_slice(&mut room)),
         _ => false,
     }
 }
 
 // Whether these are the labels of the beginning of the node of this number.
-fn are_first_labels(image: &Image, number: usize, labels: &[Label]) -> bool
-    ensures { (setup : Setup) → IsTrue result ↔ (labels.now ≡ first_labels (program setup image.now) number) }
+fn are_first_labels(program: &Program, number: usize, labels: &[Label]) -> bool
+    ensures { IsTrue result ↔ (labels.now ≡ first_labels program.now number) }
 {
     if number > 0 {
         return labels.is_empty();
@@ -141,7 +149,7 @@ fn are_first_labels(image: &Image, number: usize, labels: &[Label]) -> bool
             seq: 0,
         },
         why: Why::Main,
-        entry: image.main,
+        entry: program.image().main,
         a0: 0,
         a1: 0,
         sp: STACK_END,

@@ -3,7 +3,6 @@ use Rattle.run_trace.specs.declared.entry.Entry.{Entry}
 use Rattle.run_trace.specs.Program.{Program}
 use Rattle.run_trace.specs.Cluster.{fresh_net, Net}
 use Rattle.run_trace.specs.Trace.{net_after_trace, Fits}
-use Rattle.node_state.specs.Events.{program}
 use Rattle.run_judge.specs.Judged.{Follows, BeginsAt}
 use Rattle.run_judge.specs.Nets.{net_in}
 use Rattle.run_judge.proofs.SoundLemmas.{Comes, more_at, newest_more, net_more}
@@ -11,7 +10,7 @@ use Rattle.run_judge.proofs.judging.first_fault.Goals as goal
 
 pub loop-number-preserved : goal.loop-number-preserved
 loop-number-preserved c =
-    let p : Program = program c.args.setup.now c.args.image.now in
+    let p : Program = c.args.program.now in
     let entries : List Entry = c.args.entries.now in
     let k : ℕ = c.loop-number.number in
     let x : Entry = c.index-entries-number.result in

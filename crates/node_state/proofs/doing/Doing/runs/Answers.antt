@@ -1,7 +1,7 @@
 use Rattle.std.proofs.Common.{rules, ◌≡◌, Some, ap}
 use Rattle.run_trace.specs.declared.label.Label.TheVariants.{Ran}
 use Rattle.run_trace.specs.Steps.{say, keep, thread_at}
-use Rattle.node_state.specs.Runs.{run_at}
+use Rattle.node_thread.specs.Runs.{run_at}
 use Rattle.node_state.proofs.InPlace.{ran_is}
 use Rattle.node_state.proofs.doing.Doing.runs.Goals as goal
 

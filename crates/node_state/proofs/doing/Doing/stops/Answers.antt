@@ -2,7 +2,6 @@ use Rattle.std.proofs.Common.{rules, ◌≡◌, Some, subst}
 use Rattle.std.specs.Prelude.{IfOk}
 use Rattle.run_trace.specs.Local.{Doing}
 use Rattle.run_trace.specs.Steps.{thread_at}
-use Rattle.node_state.specs.Events.{program}
 use Rattle.node_state.proofs.Told.{stop_is}
 use Rattle.node_state.proofs.doing.Doing.stops.Goals as goal
 
@@ -10,6 +9,6 @@ pub returns-in_ok-checked-in-Call : goal.returns-in_ok-checked-in-Call
 returns-in_ok-checked-in-Call c =
     let here : thread_at c.args.t.now c.args.self.now ≡ Some c.in-Some.thread.now = search rules in
     subst (λ (d : Doing). IfOk c.calls.result (λ _. c.calls.new.self ≡ d))
-    (stop_is (program c.args.setup.now c.args.image.now) c.args.me c.args.t.now c.args.stop c.in-Some.thread.now c.call-call.result
+    (stop_is c.args.here.now.program.now c.args.here.now.me c.args.t.now c.args.stop c.in-Some.thread.now c.call-call.result
     c.in_ok-checked-in-Call.checked c.args.self.now c.in-Call.is here c.call-call.ensures c.in_ok-checked-in-Call.ensures)
     c.calls.ensures

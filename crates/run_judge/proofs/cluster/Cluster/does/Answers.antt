@@ -4,14 +4,13 @@ use Rattle.run_trace.specs.Program.{Program}
 use Rattle.run_trace.specs.Cluster.{IsTaken}
 use Rattle.run_trace.specs.Local.{Local}
 use Rattle.node_state.specs.declared.done.Done.{Done}
-use Rattle.node_state.specs.Events.{program}
 use Rattle.run_judge.specs.declared.flights.Flight.{Flight}
 use Rattle.run_judge.specs.Nets.{NodeDoes}
 use Rattle.run_judge.proofs.ClusterLemmas.{fits, advances}
 use Rattle.run_judge.proofs.cluster.Cluster.does.Goals as goal
 
 abbrev p : goal.After-drop-done-3 → Program
-p c = program c.args.setup.now c.args.image.now
+p c = c.args.program.now
 
 abbrev nodes : goal.After-drop-done-3 → List Local
 nodes c = c.args.self.now.nodes.items

@@ -1,0 +1,78 @@
+//! Births of threads.
+
+ghost use Rattle.std.specs.Prelude.{◌≡◌, ◌<◌, ◌≤◌, ◌%◌, IfOk, IfSome};
+ghost use Rattle.run_trace.specs.Guests.{stack_end};
+ghost use Rattle.run_trace.specs.Steps.{next_name, birth};
+ghost use Rattle.run_trace.specs.Machine.{free_slot};
+
+use crate::doing::Doing;
+use crate::here::Here;
+use basics::NoMemory;
+use node_thread::Thread;
+use run_trace::{Label, Setup, Why};
+use slot_space::{SlotNo, Tid};
+
+/// Where the stack of a slot ends.
+fn stack_end(setup: &Setup, slot: SlotNo) -> u64
+    ensures { result ≡ stack_end slot }
+{
+    setup.geometry.base(slot) + 65536
+}
+
+impl Doing {
+    /// The name of the next thread that is born here.
+    pub(crate) fn next_name(&self, here: &Here<'_>) -> Tid
+        ensures { result ≡ next_name here.now.me self.now }
+    {
+        let node = &self.node;
+        Tid {
+            home: here.me,
+            seq: node.homes.births().len() as u32,
+        }
+    }
+
+    /// The least slot that no thread holds.
+    #[tactic(auto, using(crate::proofs::Lowest::lowest_below))]
+    pub(crate) fn free_slot(&self) -> Option<SlotNo>
+        ensures slot { result ≡ free_slot self.now.node.slots.own }
+        ensures small { IfSome result (λ slot. slot < 4096) }
+    {
+        let node = &self.node;
+        node.own.lowest_run(1)
+    }
+
+    /// A thread is born, with this slot as its stack.
+    #[tactic(auto, unfolding(run_trace::specs::Steps::birth))]
+    pub(crate) fn birth(
+        &mut self,
+        here: &Here<'_>,
+        why: Why,
+        entry: u64,
+        a0: u64,
+        priority: u8,
+        slot: SlotNo,
+    ) -> Result<(), NoMemory>
+        requires slot { slot < 4096 }
+        requires aligned { entry % 4 ≡ 0 }
+        requires low { priority ≤ 7 }
+        ensures { IfOk result (λ _. self.new ≡ birth here.now.me why entry a0 priority slot self.old) }
+    {
+        let t = self.next_name(here);
+        let sp = stack_end(here.program.setup(), slot);
+        self.say(Label::Born {
+            t,
+            why,
+            entry,
+            a0,
+            a1: 0,
+            sp,
+            slot,
+        })?;
+        self.slot_out(slot);
+        self.name_in()?;
+        let pool = &mut self.pool;
+        let thread = Thread::newborn(self.alloc, pool, entry, a0, sp, slot, priority)?;
+        self.thread_in(&t, thread)?;
+        self.arrive(&t, priority)
+    }
+}

@@ -1,0 +1,66 @@
+//! The state of a node.
+
+ghost use Rattle.std.specs.Prelude.{◌≡◌, IfOk};
+ghost use Rattle.run_trace.specs.Guests.{unwaiting};
+ghost use Rattle.node_state.specs.Events.{can_act};
+
+use basics::NoMemory;
+use marcel_core::Homes;
+use node_thread::Thread;
+use run_list::RunList;
+use run_trace::Act;
+use slot_space::{SlotSet, Tid};
+use std::alloc::Global;
+use std::collections::BTreeMap;
+use std::marker::Model;
+
+/// The state of a node.
+#[derive(Drop)]
+pub(crate) struct State {
+    pub(crate) booted: bool,
+    /// The slots that no thread holds.
+    pub(crate) own: SlotSet,
+    /// The threads that are here and live.
+    pub(crate) threads: BTreeMap<Tid, Thread>,
+    pub(crate) places: RunList,
+    /// The threads that were born here.
+    pub(crate) homes: Homes,
+    pub(crate) halted: bool,
+}
+
+impl Model for State {
+    ghost use Rattle.run_trace.specs.Local.{Local};
+    ghost use Rattle.node_state.specs.Views.{local_of};
+
+    ghost Value = { Local };
+
+    ghost view = { λ s. local_of s.booted s.own s.threads.entries s.places s.homes.births s.halted };
+}
+
+impl State {
+    /// A thread can be picked, or the one that is to move is on the run list. The other acts need neither.
+    pub(crate) fn can(&self, act: &Act) -> bool
+        ensures { result ≡ can_act self.now act.now }
+    {
+        match act {
+            Act::Run(_, _) => self.places.count() > 0,
+            Act::Move(t, _) => self.places.is_listed(t),
+            Act::Boot => true,
+            Act::Take(_) => true,
+        }
+    }
+
+    /// The names of the threads that wait for nothing, ascending.
+    pub(crate) fn ready_names(&self, alloc: Global) -> Result<Vec<Tid>, NoMemory>
+        ensures { IfOk result (λ names. names.items ≡ unwaiting self.now.threads) }
+    {
+        let mut names = Vec::new(alloc);
+        for (t, thread) in &self.threads {
+            if !thread.is_unwaiting() {
+                continue;
+            }
+            names.push(*t)?;
+        }
+        Ok(names)
+    }
+}
