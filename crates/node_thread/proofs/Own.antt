@@ -8,7 +8,7 @@ use Rattle.iso_blocks.specs.Heap.{Heap, with_slots, without, emptied, freed}
 use Rattle.rv_step.specs.declared.hart.Hart.{Hart}
 use Rattle.rv_step.specs.Memory.{slots_of}
 use Rattle.run_trace.specs.Guests.{with_zero_slots, without_slots}
-use Rattle.run_trace.proofs.HeldSlots.{slots_takes, slots_gives}
+use Rattle.run_trace.proofs.Lemmas.{slots_takes, slots_gives}
 use Rattle.node_thread.specs.Views.{IsOwn}
 
 -- a new thread has its stack alone

@@ -1,6 +1,6 @@
 use Rattle.std.proofs.Common.{◌≡◌, true, arith, sym, ◌∙◌}
 use Rattle.slot_space.specs.Sets.{has}
-use Rattle.run_trace.proofs.HeldSlots.{some_held}
+use Rattle.run_trace.proofs.Lemmas.{some_held}
 use Rattle.node_thread.proofs.RunsTaken.{all_gone, given_same, given_gone, given_held}
 use Rattle.node_thread.proofs.heap_slots.give_slots.Goals as goal
 
