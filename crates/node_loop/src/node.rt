@@ -223,7 +223,7 @@ impl Node {
         match self.passes(gate, events) {
             Ok(()) => RoundEnd::Through,
             Err(NoMemory) => {
-                self.state = NodeState::fresh(self.alloc, &self.setup, self.me);
+                self.state = NodeState::fresh(self.alloc, self.program.setup(), self.me);
                 RoundEnd::Lost
             }
         }
@@ -263,11 +263,18 @@ impl Node {
         if takes == room {
             return Ok(takes);
         }
-        let quantum = self.setup.quantum;
-        match self.event(gate, Act::Run(0, quantum))? {
+        let limit = self.quantum();
+        match self.event(gate, Act::Run(0, limit))? {
             Turned::Did => Ok(takes + 1),
             Turned::Idle => Ok(takes),
         }
+    }
+
+    // The most instructions of a run.
+    fn quantum(&self) -> u32
+        ensures { result ≡ self.now.program.setup.quantum }
+    {
+        self.program.setup().quantum
     }
 
     // Takes a packet of each sender of whom one shows, at most so many.
@@ -278,7 +285,7 @@ impl Node {
         ensures err { OnErr result (FailsLater self.old self.new) }
     {
         let mut taken = 0;
-        for sender in 0..self.setup.geometry.nodes() {
+        for sender in 0..self.program.nodes() {
             if taken == room {
                 return Ok(taken);
             }

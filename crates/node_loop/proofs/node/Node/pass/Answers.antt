@@ -13,12 +13,12 @@ returns-in_err-event-clause-err g c =
 
 pub returns-in-Did-clause-ok : goal.returns-in-Did-clause-ok
 returns-in-Did-clause-ok g c =
-    let q = c.self.inside.setup.quantum in
-    pass_ran c.args.room c.in_ok-takes.takes q c.args.self.now c.take_each.new.self c.event.new.self c.in_ok-takes.ensures.ok (search rules) (ap (λ (v : NodeView). v.program.setup.quantum) c.self.view_is) (search rules)
+    let q = c.quantum-limit.result in
+    pass_ran c.args.room c.in_ok-takes.takes q c.args.self.now c.take_each.new.self c.event.new.self c.in_ok-takes.ensures.ok (search rules) c.quantum-limit.ensures (search rules)
     (subst (λ t. Turns c.take_each.new.self (Run 0 q) c.event.new.self t) c.in-Did.is c.in_ok-event.ensures.turned) c.in_ok-event.ensures.still
 
 pub returns-in-Idle-clause-ok : goal.returns-in-Idle-clause-ok
 returns-in-Idle-clause-ok g c =
-    let q = c.self.inside.setup.quantum in
-    pass_idle c.args.room c.in_ok-takes.takes q c.args.self.now c.take_each.new.self c.event.new.self c.in_ok-takes.ensures.ok (search rules) (ap (λ (v : NodeView). v.program.setup.quantum) c.self.view_is)
+    let q = c.quantum-limit.result in
+    pass_idle c.args.room c.in_ok-takes.takes q c.args.self.now c.take_each.new.self c.event.new.self c.in_ok-takes.ensures.ok (search rules) c.quantum-limit.ensures
     (subst (λ t. Turns c.take_each.new.self (Run 0 q) c.event.new.self t) c.in-Idle.is c.in_ok-event.ensures.turned) c.in_ok-event.ensures.still
