@@ -1,11 +1,11 @@
 -- Lemmas of legal traces. Other crates cite these alone.
-use Rattle.std.proofs.Common.{[], List, Some, false, map, true, ℕ, ◌++◌, ◌<◌, ◌∷◌, ◌≡◌}
+use Rattle.std.proofs.Common.{List, Some, [], false, map, true, ℕ, ◌++◌, ◌+◌, ◌<◌, ◌∷◌, ◌≡◌}
 use Rattle.run_trace.specs.Cluster.{Event, Merges, Net, Runs, fresh_net, net_of, own, received, sent, state}
 use Rattle.run_trace.specs.Guests.{Thread, is_unwaiting}
-use Rattle.run_trace.specs.Histories.{IsInOrder, Turn}
+use Rattle.run_trace.specs.Histories.{IsInOrder, Turn, clock, sent_to, taken_from, turn_state}
 use Rattle.run_trace.specs.Holding.{IsOn}
 use Rattle.run_trace.specs.Keyed.{item_of}
-use Rattle.run_trace.specs.Legality.{AreRising, Begins, Legal, boot_entries}
+use Rattle.run_trace.specs.Legality.{AreRising, Begins, IsTold, Legal, boot_entries}
 use Rattle.run_trace.specs.Names.{is_tid}
 use Rattle.run_trace.specs.Outcome.{AllLinksEmpty, IsStuck, Lives}
 use Rattle.run_trace.specs.Places.{best_on, is_listed}
@@ -17,9 +17,14 @@ use Rattle.run_trace.specs.Trace.{Fits, IsRun, entry_of, events_of, net_after_tr
 use Rattle.run_trace.specs.declared.entry.Entry.{Entry}
 use Rattle.run_trace.specs.declared.node.Row.{Row}
 use Rattle.slot_space.specs.declared.names.Tid.{Tid}
-use Rattle.std.specs.Prelude.{is_some, ◌↔◌}
+use Rattle.std.specs.Prelude.{is_some, length, ◌↔◌}
 use Rattle.trace_laws.specs.Beginnings.{BeginsSo}
-use Rattle.trace_laws.specs.Gathers.{Gathers, events_in}
+use Rattle.trace_laws.specs.Gathers.{Gathers, events_in, own_turns}
+use Rattle.run_trace.specs.declared.entry.Act.TheVariants.{Run}
+use Rattle.trace_laws.specs.Obeys.{world_at}
+use Rattle.run_trace.specs.Telling.{world_of}
+use Rattle.trace_laws.proofs.Merging.Weave
+pub use Rattle.trace_laws.proofs.Merging.Bounded.{IsAtMost}
 use Rattle.trace_laws.proofs.Outcomes.Beginnings
 use Rattle.trace_laws.proofs.Merging.Bounded
 use Rattle.trace_laws.proofs.Merging.Determined
@@ -132,3 +137,32 @@ starts = Wholes.starts
 -- whatever a run does, the labels keep the rules and agree with the machine
 pub run_whole : (p : Program) (old : Spots) (base : Net) → Stands p old base → (lines : List Entry) → IsRun p base lines → Whole p old base lines
 run_whole = Wholes.run_whole
+
+-- a node's own events are those of its own turns
+pub own_events : (n : ℕ) (es : List Turn) → own n (events_in es) ≡ events_in (own_turns n es)
+own_events = Bounded.own_events
+
+-- turns that gather are a run of the cluster
+pub gathered : (prog : Program) (base : Net) (c : ℕ) (clocks : ℕ → ℕ) (turns : List Turn) → Gathers prog base c clocks turns → Runs prog base (events_in turns)
+gathered = Bounded.gathered
+
+-- no stamp is further above the clock than there are turns
+pub gathers_bounded : (prog : Program) (base : Net) (c : ℕ) (clocks : ℕ → ℕ) (turns : List Turn) → Gathers prog base c clocks turns → IsAtMost (c + length turns) turns
+gathers_bounded = Bounded.gathers_bounded
+
+-- what a node's turns leave of it is what their events leave, after each of them
+pub gathers_state : (prog : Program) (base : Net) (c : ℕ) (clocks : ℕ → ℕ) (turns : List Turn) → Gathers prog base c clocks turns → (later es : List Turn) → turns ≡ later ++ es → (n : ℕ)
+    → turn_state prog n (base.nodes n) (own_turns n es) ≡ state prog n (base.nodes n) (events_in (own_turns n es))
+gathers_state = Bounded.gathers_state
+
+-- what events receive on a link is what those of its receiver take
+pub received_own : (i j : ℕ) (events : List Event) → received i j events ≡ taken_from i (own j events)
+received_own = Weave.received_own
+
+-- what events send on a link is what those of its sender send
+pub sent_own : (i j : ℕ) (events : List Event) → sent i j events ≡ sent_to j (own i events)
+sent_own = Weave.sent_own
+
+-- nodes and links are what the labels tell
+pub told_after : (p : Program) (old : Spots) (base : Net) → Stands p old base → (lines : List Entry) → IsRun p base lines → IsTold p (world_of p (world_at old base) lines) (net_after_trace p base lines)
+told_after = Legals.told_after
