@@ -1,6 +1,6 @@
 -- A turn of one of the nodes, in the list of all.
 use Rattle.std.proofs.Common.{◌≡◌, ℕ, zero, suc, ◌<◌, List, [], ◌∷◌, ◌++◌, length, map, set, get_or, Some, Ok, Err, true, refl, sym, ap, ◌∙◌, subst, arith}
-use Rattle.std.specs.Prelude.{slice_get, Result, OnErr}
+use Rattle.std.specs.Prelude.{slice_get, Result, OnErr, OnOk}
 use Rattle.std.proofs.lemmas.Option.{slice_get_within, same_Some}
 use Rattle.run_trace.specs.declared.entry.Act.{Act}
 use Rattle.run_trace.specs.declared.entry.Act.TheVariants.{Boot, Run, Take, Move}
@@ -108,3 +108,7 @@ asks_entries clock v w act e h = subst (λ (z : NodeView). length z.entries < en
 pub if_err : {T E P : Type 0} (r : Result T E) → P → OnErr r P
 if_err (Ok x) p = tt
 if_err (Err e) p = p
+
+pub if_ok : {T E P : Type 0} (r : Result T E) → P → OnOk r P
+if_ok (Ok x) p = p
+if_ok (Err e) p = tt

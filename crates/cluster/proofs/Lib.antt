@@ -21,3 +21,12 @@ pub mod ReadyNames
 pub mod Picks
 pub mod ByWord
 mod Gathered
+mod Weaving
+mod SideRuns
+mod SideStands
+mod SideWires
+mod SidePasses
+mod SideDriven
+mod SideAdds
+mod SideLoses
+mod TheRound

@@ -26,7 +26,7 @@ use Rattle.cluster.specs.View.{ClusterView, wires_of}
 use Rattle.cluster.proofs.Lists.{wires-get, wires-length}
 use Rattle.run_trace.specs.Links.{first_of}
 
-same_rest : {A : Type 0} (xs ys zs : List A) → xs ++ ys ≡ xs ++ zs → ys ≡ zs
+pub same_rest : {A : Type 0} (xs ys zs : List A) → xs ++ ys ≡ xs ++ zs → ys ≡ zs
 same_rest [] ys zs e = e
 same_rest (x ∷ xs) ys zs e = let k : xs ++ ys ≡ xs ++ zs = cc in same_rest xs ys zs k
 

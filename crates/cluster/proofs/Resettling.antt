@@ -29,7 +29,7 @@ module _ (vs ws : List NodeView) (k : KeepNodes vs ws) where
       let v = some_at vs n (omega (arith, k.count, slice_get_within ws n w e)) in
       record { old = v.0; was = v.1; is = k.each n v.0 w v.1 e }
 
-  same_at : {A : Type 0} (f : Option NodeView → A) → ((v : NodeView) (es : Ends Packet) → f (Some (with_ends es v)) ≡ f (Some v)) → (m : ℕ) → f (slice_get ws m) ≡ f (slice_get vs m)
+  pub same_at : {A : Type 0} (f : Option NodeView → A) → ((v : NodeView) (es : Ends Packet) → f (Some (with_ends es v)) ≡ f (Some v)) → (m : ℕ) → f (slice_get ws m) ≡ f (slice_get vs m)
   same_at f h m = by_less m (length vs)
       (λ l.
       let w = some_at ws m (omega (arith, k.count, l)) in
@@ -37,7 +37,7 @@ module _ (vs ws : List NodeView) (k : KeepNodes vs ws) where
       ap f w.1 ∙ ap (λ z. f (Some z)) o.is ∙ h o.old w.0.ends ∙ ap f (sym o.was))
       (λ past. ap f (slice_get_past ws m (omega (arith, past, k.count))) ∙ sym (ap f (slice_get_past vs m past)))
 
-  same_clocks : greatest_clock ws ≡ greatest_clock vs
+  pub same_clocks : greatest_clock ws ≡ greatest_clock vs
   same_clocks = omega (
     arith,
     greatest_most (greatest_clock vs) ws (λ n w e. let o : Was n w = was_at n w e in omega (arith, ap (λ (z : NodeView). z.clock) o.is, clock_within vs n o.old o.was)),

@@ -52,6 +52,12 @@ module _ (c : ClusterView) (before kept : List Entry) (s : StandsFor c before ke
       (λ e. absurd (cc e), λ e. absurd (cc (e, could, able h.node h.was)))
   did_exact Idle h = absurd (never_idle c before kept s n inside h.node h.was (greatest_clock c.nodes) act h.new range (able h.node h.was) h.turns)
 
+-- a cluster that stands raises to the greatest clock itself
+pub raised_to : (c : ClusterView) (before kept : List Entry) → StandsFor c before kept → (us : List NodeView) (clock : ℕ) → us ≡ c.nodes → clock ≡ min (greatest_clock us) (2 ^ 62 - 1) → clock ≡ greatest_clock c.nodes
+raised_to c before kept st us clock e k =
+    k ∙ ap (λ ys. min (greatest_clock ys) (2 ^ 62 - 1)) e
+    ∙ min-eq_left {n = greatest_clock c.nodes} {m = 2 ^ 62 - 1} (let low : greatest_clock c.nodes < 2 ^ 62 - 1 = clocks_low c before kept st.agrees in omega (arith, low))
+
 -- what isn't done isn't possible
 pub idle_exact : (c : ClusterView) (before kept : List Entry) → StandsFor c before kept → (n : ℕ) → n < nodes_of c.program → (v : NodeView) → slice_get c.nodes n ≡ Some v
     → (act : Act) → IsActInRange c.program n act → can v act ≡ false → (Idle ≡ Idle) ↔ (is_possible (net_after c.program (kept ++ before)) n act ≡ false)
@@ -144,11 +150,8 @@ module _ (p : Program) (turns : ℕ) (vs : List NodeView) (rest : List (Ends Pac
   able : (b : Bool) → b ≡ can read act → b ≡ true → (v : NodeView) → slice_get vs n ≡ Some v → can v act ≡ true
   able b e could v h = ap (λ z. can z act) (sym (read_is v h)) ∙ sym e ∙ could
 
-  -- a cluster that stands raises to the greatest clock itself
   raises : (before kept : List Entry) → StandsFor parts before kept → (us : List NodeView) (clock : ℕ) → us ≡ vs → clock ≡ min (greatest_clock us) (2 ^ 62 - 1) → clock ≡ greatest_clock vs
-  raises before kept st us clock e k =
-      k ∙ ap (λ ys. min (greatest_clock ys) (2 ^ 62 - 1)) e
-      ∙ min-eq_left {n = greatest_clock vs} {m = 2 ^ 62 - 1} (let low : greatest_clock vs < 2 ^ 62 - 1 = clocks_low parts before kept st.agrees in omega (arith, low))
+  raises before kept st us clock e k = raised_to parts before kept st us clock e k
 
   as_acted : (us : List NodeView) (rs : List (Ends Packet)) (ws : List NodeView) (t : Turned) (clock : ℕ) → us ≡ vs → rs ≡ rest → clock ≡ greatest_clock vs
       → HasActed clock at act rs us ws t → HasActed (greatest_clock vs) n act rest vs ws t

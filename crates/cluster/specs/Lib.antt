@@ -5,3 +5,5 @@ pub mod Gathering
 pub mod Outcomes
 pub mod Between
 pub mod Choosing
+pub mod Rounds
+pub mod SideBySide

@@ -1,6 +1,6 @@
 //! The cluster.
 
-ghost use Rattle.std.specs.Prelude.{◌≡◌, ◌<◌, ◌≤◌, ◌↔◌, ◌%◌, ◌++◌, [], List, length, reverse, Bool, false, IfOk, IsOk, OnErr, slice_get};
+ghost use Rattle.std.specs.Prelude.{◌≡◌, ◌<◌, ◌≤◌, ◌↔◌, ◌%◌, ◌++◌, [], List, length, reverse, Bool, false, IfOk, IsOk, OnErr, OnOk, slice_get};
 ghost use Rattle.run_trace.specs.declared.entry.Entry.{Entry};
 ghost use Rattle.run_trace.specs.Console.{console_of};
 ghost use Rattle.run_trace.specs.Legality.{boot_entries};
@@ -12,6 +12,7 @@ ghost use Rattle.wires.specs.Wires.{AreFreshFor};
 ghost use Rattle.cluster.specs.Acts.{possible_acts, is_possible};
 ghost use Rattle.cluster.specs.Between.{KeepNodes};
 ghost use Rattle.cluster.specs.Outcomes.{IsAt};
+ghost use Rattle.cluster.specs.Rounds.{AddsRound, HasRoomForRound, LosesRound};
 ghost use Rattle.cluster.specs.Standing.{StandsFor, AgreesWith, IsStanding, HasRoom, HasTrace, Steps, Loses, net_after, turns_in};
 ghost use Rattle.cluster.specs.View.{console_in, greatest_clock, round_in, wires_of};
 
@@ -19,15 +20,18 @@ use crate::beginning::begun;
 use crate::choosing::{act_at, count_all};
 use crate::deciding::{State, any_halted, any_packet, any_ready, any_thread, decided};
 use crate::ending::taken_apart;
+use crate::laws::rounds_gather;
 use crate::listing::push_acts;
+use crate::side_by_side::{entries_together, round_all};
 use crate::stepping::{carry_out, next_clock, settle_all};
 use basics::{Items, NoMemory};
-use node_loop::{Node, Turned};
+use node_loop::{Gate, Node, Turned};
 use run_trace::{Act, Entry, Packet, Setup};
 use rv_inst::Image;
 use slot_space::NodeNo;
 use std::alloc::Global;
 use std::marker::Model;
+use std::thread::Threads;
 use trace_merge::merge;
 use wires::{Ends, Wires};
 
@@ -103,6 +107,26 @@ impl Cluster {
         let turned = carry_out(&mut self.nodes, &self.rest, clock, at, act)?;
         self.turns += 1;
         Ok(turned)
+    }
+
+    /// A round of all nodes side by side, in the next round: all clocks are raised to the greatest, each node makes at most 64
+    /// entries, and then all links are settled. After want of memory the cluster can only be finished.
+    pub fn round_threads<R: Threads + Sync, G: Gate>(
+        &mut self,
+        rt: &R,
+        gate: &G,
+    ) -> Result<(), NoMemory>
+        requires stands { IsStanding self.old }
+        requires room { HasRoomForRound self.old }
+        ensures round { (before kept : List Entry) → StandsFor self.old before kept → OnOk result (AddsRound self.old before kept self.new) }
+        ensures err { (before kept : List Entry) → StandsFor self.old before kept → OnErr result (LosesRound self.old self.new kept) }
+    {
+        rounds_gather();
+        let clock = next_clock(&self.nodes);
+        let before = entries_together(&self.nodes);
+        round_all(rt, &mut self.nodes, &self.rest, clock, gate)?;
+        self.turns += entries_together(&self.nodes) - before;
+        Ok(())
     }
 
     /// Settles all links: what is under way is known to those to whom it goes. It takes no memory and always succeeds.

@@ -10,6 +10,7 @@ mod deciding;
 mod ending;
 mod laws;
 mod listing;
+mod side_by_side;
 mod stepping;
 
 pub use cluster::Cluster;

@@ -51,7 +51,7 @@ pub(crate) fn carry_out(
 }
 
 // Each node's clock is at least this, and its next round begins.
-fn raise_all(nodes: &mut [Node], clock: u64)
+pub(crate) fn raise_all(nodes: &mut [Node], clock: u64)
     requires { clock < 2 ^ 62 }
     ensures { nodes.new ≡ map (raised clock) nodes.old }
 {
