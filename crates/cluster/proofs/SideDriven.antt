@@ -6,8 +6,8 @@ use Rattle.run_trace.specs.declared.packet.Packet.{Packet}
 use Rattle.run_trace.specs.Program.{Program}
 use Rattle.wires.specs.declared.ends.Ends.{Ends}
 use Rattle.wires.specs.Wires.{AreWired}
-use Rattle.wires.proofs.Gets.{some_at}
-use Rattle.wires.proofs.Rings.{stays_trans}
+use Rattle.basics.proofs.Lemmas.{some_at}
+use Rattle.wires.proofs.Lemmas.{stays_trans}
 use Rattle.node_loop.specs.Rounds.{Rounds}
 use Rattle.node_loop.specs.View.{NodeView, raised}
 use Rattle.node_loop.specs.declared.node.RoundEnd.{RoundEnd}

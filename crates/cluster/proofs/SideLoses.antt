@@ -11,7 +11,7 @@ use Rattle.run_trace.specs.Local.{Local}
 use Rattle.run_trace.specs.Program.{Program, nodes_of}
 use Rattle.run_trace.specs.Trace.{entry_of}
 use Rattle.trace_laws.specs.Gathers.{events_in, own_turns}
-use Rattle.wires.proofs.Gets.{by_less, some_at}
+use Rattle.basics.proofs.Lemmas.{by_less, some_at}
 use Rattle.node_loop.specs.Histories.{entries_of_turns}
 use Rattle.node_loop.specs.Rounds.{AreInRound, HasDone, Rounds}
 use Rattle.node_loop.specs.View.{NodeView, raised}

@@ -23,15 +23,8 @@ use Rattle.run_trace.specs.Trace.{IsRun}
 use Rattle.run_trace.specs.World.{World}
 use Rattle.trace_laws.specs.Obeys.{world_at}
 use Rattle.trace_laws.specs.Gathers.{Gathers, events_in, own_turns}
-use Rattle.trace_laws.proofs.Bounded.{gathered, gathers_state, own_events}
-use Rattle.trace_laws.proofs.Determined.{determined}
-use Rattle.trace_laws.proofs.Legals.{told_after}
-use Rattle.trace_laws.proofs.Merge.{node_is}
-use Rattle.trace_laws.proofs.NothingOutside.{run_inside}
-use Rattle.trace_laws.proofs.RunLists.{some_pick}
-use Rattle.trace_laws.proofs.Stillness.{picked_there}
-use Rattle.trace_laws.proofs.Wholes.{starts, run_whole}
-use Rattle.wires.proofs.Gets.{by_less}
+use Rattle.trace_laws.proofs.Lemmas.{gathered, gathers_state, own_events, determined, node_is, run_inside, some_pick, picked_there, starts, run_whole, told_after}
+use Rattle.basics.proofs.Lemmas.{by_less}
 use Rattle.node_loop.specs.Passes.{HasTake, IsRound, Moment, acts_in, first_pass, ready_after}
 use Rattle.node_loop.specs.Rounds.{AreInRound, can_run, moments_in}
 use Rattle.node_loop.specs.Turns.{IsActInRange, can}

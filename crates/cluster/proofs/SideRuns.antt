@@ -3,7 +3,7 @@ use Rattle.std.proofs.Common.{◌≡◌, ◌≢◌, ℕ, zero, suc, ◌+◌, ◌
 use Rattle.std.specs.Prelude.{⊤, ◌&&◌, slice_get}
 use Rattle.std.proofs.lemmas.Bool.{eq-eqb, ne_eqb}
 use Rattle.std.proofs.lemmas.List.{length-append, length-reverse}
-use Rattle.std.proofs.lemmas.Option.{slice_get_past, slice_get_within}
+use Rattle.std.proofs.lemmas.Option.{slice_get_past, slice_get_within, same_Some}
 use Rattle.std.proofs.Math.Nat.{le-max_left, le-max_right, max-le, max-eq_right}
 use Rattle.run_trace.specs.declared.entry.Act.{Act}
 use Rattle.run_trace.specs.declared.entry.Act.TheVariants.{Boot, Run, Take, Move}
@@ -16,15 +16,14 @@ use Rattle.run_trace.specs.Local.{Local}
 use Rattle.run_trace.specs.Machine.{stamp_limit}
 use Rattle.run_trace.specs.Program.{Program, nodes_of}
 use Rattle.trace_laws.specs.Gathers.{events_in, own_turns}
-use Rattle.trace_laws.proofs.Bounded.{own_events}
-use Rattle.trace_laws.proofs.Weave.{received_own, sent_own}
+use Rattle.trace_laws.proofs.Lemmas.{own_events, received_own, sent_own}
 use Rattle.wires.specs.declared.ends.Ends.{Ends}
 use Rattle.wires.specs.Ends as ends
 use Rattle.wires.specs.Ends.{of_link, received_from, width}
 use Rattle.wires.specs.Link.{link_known, link_received, link_sent, link_waiting, IsSettled}
 use Rattle.wires.specs.Wires.{row_link, received_on, sent_on}
-use Rattle.wires.proofs.Above.{received_on-node, sent_on-node}
-use Rattle.wires.proofs.Gets.{by_less, some_at, same_some}
+use Rattle.wires.proofs.Lemmas.{received_on-node, sent_on-node}
+use Rattle.basics.proofs.Lemmas.{by_less, some_at}
 use Rattle.node_loop.specs.Histories.{entries_of_turns}
 use Rattle.node_loop.specs.Passes.{IsRound}
 use Rattle.node_loop.specs.Rounds.{AreInRound, HasDone, HasRounded, Rounds, can_run, moments_in}
@@ -362,10 +361,10 @@ module _ (c : ClusterView) (before kept : List Entry) (s : StandsFor c before ke
       (λ past. ap (λ o. of_link link_sent (row_link o j)) (past_es i past))
 
   pub same_at_place : (n : ℕ) (w : NodeView) (o : NodeRound n (each n)) → slice_get h.ran n ≡ Some w → o.w ≡ w
-  same_at_place n w o e = same_some o.w w (sym o.ran ∙ e)
+  same_at_place n w o e = same_Some o.w w (sym o.ran ∙ e)
 
   was_is : (n : ℕ) (l : n < many) (o : NodeRound n (each n)) → ((at_node n).here l).v ≡ o.v
-  was_is n l o = same_some ((at_node n).here l).v o.v (sym ((at_node n).here l).was ∙ o.was)
+  was_is n l o = same_Some ((at_node n).here l).v o.v (sym ((at_node n).here l).was ∙ o.was)
 
   pub clock_at : (n : ℕ) (o : NodeRound n (each n)) → n < many → (raised top o.v).clock ≡ top
   clock_at n o l = max-eq_right {n = o.v.clock} {m = top} (clock_within c.nodes n o.v o.was)

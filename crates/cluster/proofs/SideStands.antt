@@ -21,13 +21,10 @@ use Rattle.run_trace.specs.Spots.{at_first}
 use Rattle.run_trace.specs.Telling.{world_of, first_world}
 use Rattle.run_trace.specs.Trace.{IsRun, entry_of, event_of, events_of, net_after_trace}
 use Rattle.trace_laws.specs.Gathers.{Gathers, events_in, own_turns}
-use Rattle.trace_laws.proofs.Bounded.{IsAtMost, gathered, own_events, gathers_bounded, gathers_state}
-use Rattle.trace_laws.proofs.Determined.{determined}
-use Rattle.trace_laws.proofs.NothingOutside.{run_inside}
-use Rattle.trace_laws.proofs.Wholes.{starts, run_whole}
+use Rattle.trace_laws.proofs.Lemmas.{IsAtMost, gathered, own_events, gathers_bounded, gathers_state, determined, run_inside, starts, run_whole}
 use Rattle.wires.specs.declared.ends.Ends.{Ends}
 use Rattle.wires.specs.Wires.{AreWired, received_on, sent_on}
-use Rattle.wires.proofs.Gets.{by_less, some_at}
+use Rattle.basics.proofs.Lemmas.{by_less, some_at}
 use Rattle.node_loop.specs.Histories.{entries_of_turns}
 use Rattle.node_loop.specs.View.{NodeView, next_round}
 use Rattle.cluster.specs.Between.{wires_in}

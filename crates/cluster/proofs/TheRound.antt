@@ -7,7 +7,7 @@ use Rattle.run_trace.specs.Histories.{Turn}
 use Rattle.run_trace.specs.Program.{Program}
 use Rattle.wires.specs.declared.ends.Ends.{Ends}
 use Rattle.wires.specs.Wires.{AreWired}
-use Rattle.wires.proofs.Gets.{some_at}
+use Rattle.basics.proofs.Lemmas.{some_at}
 use Rattle.node_loop.specs.Turns.{entry_limit}
 use Rattle.node_loop.specs.View.{NodeView, raised}
 use Rattle.cluster.specs.Between.{AllOf, wires_in}

@@ -6,7 +6,7 @@ use Rattle.std.proofs.lemmas.Bool.Decides.{nat_tests}
 use Rattle.run_trace.specs.Cluster.{IsAbove, IsDescending}
 use Rattle.run_trace.specs.Histories.{Turn}
 use Rattle.trace_laws.specs.Gathers.{events_in, own_turns}
-use Rattle.wires.proofs.Gets.{by_eq}
+use Rattle.basics.proofs.Lemmas.{by_eq}
 use Rattle.cluster.specs.Gathering.{AreOfRound}
 use Rattle.cluster.specs.Standing.{turn_in}
 
