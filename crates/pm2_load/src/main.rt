@@ -2,6 +2,7 @@
 #![tactic(auto)]
 
 use basics::NoMemory;
+use node_loop::Open;
 use outside::{RealShelf, RealSink, write_piece};
 use pm2_top::{Status, pm2_main};
 use std::env;
@@ -37,6 +38,9 @@ fn main(rt: HostRuntime) -> ExitCode {
             return ExitCode::from(Status::NoMemory.number());
         }
     };
-    let report = pm2_main(rt.alloc(), &words, &mut shelf, &mut out, &mut err, wires);
+    let alloc = rt.alloc();
+    let report = pm2_main(
+        &rt, alloc, &words, &mut shelf, &mut out, &mut err, wires, &Open,
+    );
     ExitCode::from(report.status.number())
 }

@@ -9,7 +9,7 @@ use Rattle.rv_asm.specs.declared.error.AsmError.TheVariants as errors
 use Rattle.rv_asm.specs.Images.{image_of}
 use Rattle.run_texts.specs.Schedules.{schedule_of}
 use Rattle.settings.specs.declared.command.Command.{Command}
-use Rattle.settings.specs.declared.command.Command.TheVariants.{Asm, Sim, Replay, Stress}
+use Rattle.settings.specs.declared.command.Command.TheVariants.{Asm, Run, Sim, Replay, Stress}
 use Rattle.pm2_top.specs.Asked.{source_limit, schedule_limit, source_in, MayBe, MayBeSuch, MayBeRead, MayBeGiven, image_in, acts_in, acts_of, IsImageOf}
 
 -- ## What may be there
@@ -39,6 +39,7 @@ read_source told (Some bytes) h = be_such told bytes (λ b. image_of b ≡ image
 pub source_such : (files : Content) (command : Command) (source schedule : Option (List ℕ)) → MayBeGiven files command source schedule
     → MayBeSuch (source_in files command) (λ b. image_of b ≡ image_in source)
 source_such files (Asm name) source schedule h = read_source (file_at files name) source h
+source_such files (Run name) source schedule h = read_source (file_at files name) source h
 source_such files (Sim name) source schedule h = read_source (file_at files name) source h
 source_such files (Replay name acts) source schedule h = read_source (file_at files name) source h.0
 source_such files (Stress jobs) source schedule h = ap image_in (sym h)
@@ -50,6 +51,7 @@ no_source files command source schedule error h is =
 
 maybe_source : (files : Content) (command : Command) (bytes : List ℕ) (schedule : Option (List ℕ)) → MayBeGiven files command (Some bytes) schedule → MayBe (source_in files command) bytes
 maybe_source files (Asm name) bytes schedule h = h.0
+maybe_source files (Run name) bytes schedule h = h.0
 maybe_source files (Sim name) bytes schedule h = h.0
 maybe_source files (Replay name acts) bytes schedule h = h.0.0
 maybe_source files (Stress jobs) bytes schedule h = sym h

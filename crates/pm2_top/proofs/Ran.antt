@@ -1,5 +1,5 @@
 -- What the end of a command says of its status.
-use Rattle.std.proofs.Common.{◌≡◌, ℕ, List, [], length, take, Option, Some, None, Result, Ok, Err, true, false, inl, inr, refl, sym, ap, ◌∙◌, subst}
+use Rattle.std.proofs.Common.{◌≡◌, ℕ, List, [], ◌∷◌, length, take, Option, Some, None, Result, Ok, Err, true, false, inl, inr, refl, sym, ap, ◌∙◌, subst}
 use Rattle.std.specs.Prelude.{◌⊎◌, Bool, IfSome, OnErr, ⊤}
 use Rattle.std.proofs.lemmas.List.{append-nil}
 use Rattle.std.proofs.Math.Seq.{take-append_seam}
@@ -10,21 +10,23 @@ use Rattle.rv_asm.specs.declared.error.AsmError.{AsmError}
 use Rattle.rv_asm.specs.Images.{image_of}
 use Rattle.asm_list.specs.Listing.{listing}
 use Rattle.run_trace.specs.declared.packet.Packet.{Packet}
+use Rattle.run_trace.specs.declared.entry.Entry.{Entry}
 use Rattle.run_trace.specs.Legality.{boot_entries}
 use Rattle.run_trace.specs.Program.{Program, nodes_of}
 use Rattle.run_texts.specs.declared.schedule.Scheduled.{Scheduled}
 use Rattle.wires.specs.declared.ends.Ends.{Ends}
 use Rattle.settings.specs.Settings.{Chosen}
 use Rattle.settings.specs.declared.command.Command.{Command}
-use Rattle.settings.specs.declared.command.Command.TheVariants.{Asm, Sim, Replay, Stress}
+use Rattle.settings.specs.declared.command.Command.TheVariants.{Asm, Run, Sim, Replay, Stress}
 use Rattle.simulation.specs.Ends.{EndsAt}
+use Rattle.simulation.specs.Rounds.{EndsWith}
 use Rattle.simulation.specs.declared.simulation.End.{End}
 use Rattle.simulation.specs.declared.simulation.End.TheVariants as end
 use Rattle.simulation.specs.declared.simulation.Simulated.{Simulated}
 use Rattle.pm2_top.specs.Asked.{LacksAny, MayBeSuch, MayBeGiven, acts_in, acts_of, image_in, schedule_in, source_in}
 use Rattle.pm2_top.specs.Delivery.{is_told, Tells, Nothing, All, Refused}
 use Rattle.pm2_top.specs.Number.{end_status}
-use Rattle.pm2_top.specs.Outcome.{IsUnlessMemory, IsUsual, IsRunsEnd, Lists, HasSource, HasSchedule, EndsPlainly, HasRunAs, DrawnBy, HasReplayed, DoneWith, HasSourceEnded, HasRun, NotRead, Read, HasObeyed, HasEnded, NoSettings, NotSettled, Settled, plainly}
+use Rattle.pm2_top.specs.Outcome.{IsUnlessMemory, IsUsual, IsRunsEnd, Lists, HasSource, HasSchedule, EndsPlainly, HasRunAs, DrawnBy, InRounds, HasReplayed, DoneWith, HasSourceEnded, HasRun, NotRead, Read, HasObeyed, HasEnded, NoSettings, NotSettled, Settled, plainly}
 use Rattle.pm2_top.specs.declared.status.Status.{Status}
 use Rattle.pm2_top.specs.declared.status.Status.TheVariants.{Done, Usage, BadSource, Stalled, OutOfTurns, ReadFault, WriteFault, NoMemory, NotPossible, BadScheduleText}
 use Rattle.pm2_top.specs.declared.report.Report.{Report}
@@ -107,6 +109,7 @@ module _ (files : Content) (command : Command) (nodes : ℕ) where
 done_cause : (files : Content) (command : Command) (asked : Chosen) (source schedule : Option (List ℕ)) (image : Image) (given : List (Ends Packet)) (w now : Option (List ℕ)) (ended : Report)
     → MayBeGiven files command source schedule → DoneWith command asked (acts_in asked.nodes schedule) image given w now ended → Cause files command asked.nodes ended.status
 done_cause files (Asm name) asked source schedule image given w now ended may d = listing_cause files (Asm name) asked.nodes (listing image) w now ended.status d.0
+done_cause files (Run name) asked source schedule image given w now ended may d = ran_cause files (Run name) asked.nodes _ asked image given w now ended d
 done_cause files (Sim name) asked source schedule image given w now ended may d = ran_cause files (Sim name) asked.nodes _ asked image given w now ended d
 done_cause files (Stress jobs) asked source schedule image given w now ended may d = ran_cause files (Stress jobs) asked.nodes _ asked image given w now ended d
 done_cause files (Replay name acts) asked source schedule image given w now ended may d = by (acts_in asked.nodes schedule) refl d
@@ -141,6 +144,14 @@ drawn_never_idle : (moves : Bool) (turns seed : ℕ) (p : Program) (s : Simulate
 drawn_never_idle moves turns seed p s (inl r) line is = subst (λ e. EndsAt p turns (boot_entries p (nodes_of p)) r.later e) is r.ends
 drawn_never_idle moves turns seed p s (inr none) line is = let bad : end.NoMemory ≡ end.NotPossible line = sym none.1 ∙ is in cc
 
+rounds_never_idle : (turns : ℕ) (p : Program) (s : Simulated) → InRounds turns p s → NeverIdle s.end
+rounds_never_idle turns p s (inl r) line is = by r.rounds (subst (λ e. EndsWith p turns (boot_entries p (nodes_of p)) r.rounds e) is r.ends)
+  where
+    by : (rounds : List (List Entry)) → EndsWith p turns (boot_entries p (nodes_of p)) rounds (end.NotPossible line) → ⊥
+    by [] h = h
+    by (round ∷ before) h = h
+rounds_never_idle turns p s (inr none) line is = let bad : end.NoMemory ≡ end.NotPossible line = sym none.1 ∙ is in cc
+
 end_usual : (e : End) → NeverIdle e → IsRunsEnd (end_status e) ⊎ IsFault (end_status e)
 end_usual end.Done f = inl (inl refl)
 end_usual end.Stalled f = inl (inr (inl refl))
@@ -149,10 +160,10 @@ end_usual (end.NotPossible line) f = absurd (f line refl)
 end_usual end.WriteFault f = inr (inr (inr refl))
 end_usual end.NoMemory f = inr (inl refl)
 
-drawn_usual : (moves : Bool) (turns seed : ℕ) (asked : Chosen) (image : Image) (given : List (Ends Packet)) (w now : Option (List ℕ)) (ended : Report)
-    → HasRunAs (DrawnBy moves turns seed) asked image given w now ended → IsRunsEnd ended.status ⊎ IsFault ended.status
-drawn_usual moves turns seed asked image given w now ended d =
-    subst (λ s. IsRunsEnd s ⊎ IsFault s) (sym (ran_status _ asked image given w now ended d)) (end_usual d.run.end (drawn_never_idle moves turns seed _ d.run d.ran))
+run_usual : (R : Program → Simulated → Type 0) → ((p : Program) (s : Simulated) → R p s → NeverIdle s.end) → (asked : Chosen) (image : Image) (given : List (Ends Packet)) (w now : Option (List ℕ)) (ended : Report)
+    → HasRunAs R asked image given w now ended → IsRunsEnd ended.status ⊎ IsFault ended.status
+run_usual R never asked image given w now ended d =
+    subst (λ s. IsRunsEnd s ⊎ IsFault s) (sym (ran_status R asked image given w now ended d)) (end_usual d.run.end (never _ d.run d.ran))
 
 listing_usual : (name text : List ℕ) (w now : Option (List ℕ)) (s : Status) → Lists text w now s → IsUsual (Asm name) s ⊎ IsFault s
 listing_usual name text w now Done d = inl refl
@@ -182,8 +193,10 @@ or_else U s t u (inr e) = inr (inl e)
 done_usual : (command : Command) (asked : Chosen) (acts : Result (List Scheduled) ℕ) (image : Image) (given : List (Ends Packet)) (w now : Option (List ℕ)) (ended : Report)
     → DoneWith command asked acts image given w now ended → IsUsual command ended.status ⊎ IsFault ended.status
 done_usual (Asm name) asked acts image given w now ended d = listing_usual name (listing image) w now ended.status d.0
-done_usual (Sim name) asked acts image given w now ended d = drawn_usual asked.moves asked.turns asked.seed asked image given w now ended d
-done_usual (Stress jobs) asked acts image given w now ended d = drawn_usual false asked.turns 0 asked image given w now ended d
+done_usual (Run name) asked acts image given w now ended d = run_usual (InRounds asked.turns) (rounds_never_idle asked.turns) asked image given w now ended d
+done_usual (Sim name) asked acts image given w now ended d =
+    run_usual (DrawnBy asked.moves asked.turns asked.seed) (drawn_never_idle asked.moves asked.turns asked.seed) asked image given w now ended d
+done_usual (Stress jobs) asked acts image given w now ended d = run_usual (InRounds asked.turns) (rounds_never_idle asked.turns) asked image given w now ended d
 done_usual (Replay name file) asked (Ok acts) image given w now ended (inl none) = or_else (IsUsual (Replay name file)) NoMemory ended.status (inr (inl refl)) (plain NoMemory given w now ended none)
 done_usual (Replay name file) asked (Ok acts) image given w now ended (inr d) =
     subst (λ s. IsUsual (Replay name file) s ⊎ IsFault s) (sym (ran_status _ asked image given w now ended d)) (replay_usual name file d.run.end)
@@ -232,6 +245,7 @@ bad_done : (files : Content) (command : Command) (asked : Chosen) (text schedule
     → MayBeGiven files command text schedule → DoneWith command asked (acts_in asked.nodes schedule) image given w now ended → schedule_in files command ≡ Some (Some bytes) → acts_of asked.nodes bytes ≡ Err line
     → IsUnlessMemory ended.status (BadScheduleText line)
 bad_done files (Asm name) asked text schedule image given w now ended bytes line may d told is = let bad : Some None ≡ Some (Some bytes) = told in cc
+bad_done files (Run name) asked text schedule image given w now ended bytes line may d told is = let bad : Some None ≡ Some (Some bytes) = told in cc
 bad_done files (Sim name) asked text schedule image given w now ended bytes line may d told is = let bad : Some None ≡ Some (Some bytes) = told in cc
 bad_done files (Stress jobs) asked text schedule image given w now ended bytes line may d told is = let bad : Some None ≡ Some (Some bytes) = told in cc
 bad_done files (Replay name acts) asked text schedule image given w now ended bytes line may d told is =
@@ -393,6 +407,7 @@ module _ (files : Content) (settings : Option Chosen) (given : List (Ends Packet
 
 not_lacking : (files : Content) (command : Command) (bytes : List ℕ) → source_in files command ≡ Some (Some bytes) → HasSchedule files command → LacksAny files command → ⊥
 not_lacking files (Asm name) bytes told acts lacks = let bad : Some (Some bytes) ≡ Some None = sym told ∙ lacks in cc
+not_lacking files (Run name) bytes told acts lacks = let bad : Some (Some bytes) ≡ Some None = sym told ∙ lacks in cc
 not_lacking files (Sim name) bytes told acts lacks = let bad : Some (Some bytes) ≡ Some None = sym told ∙ lacks in cc
 not_lacking files (Replay name file) bytes told acts (inl lacks) = let bad : Some (Some bytes) ≡ Some None = sym told ∙ lacks in cc
 not_lacking files (Replay name file) bytes told acts (inr lacks) = let bad : Some (Some acts.0) ≡ Some None = sym acts.1 ∙ lacks in cc

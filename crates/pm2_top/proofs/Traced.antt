@@ -16,7 +16,7 @@ use Rattle.wires.specs.Wires.{AreFreshFor}
 use Rattle.node_state.specs.Events.{program}
 use Rattle.settings.specs.Settings.{Chosen}
 use Rattle.settings.specs.declared.command.Command.{Command}
-use Rattle.settings.specs.declared.command.Command.TheVariants.{Asm, Sim, Replay, Stress}
+use Rattle.settings.specs.declared.command.Command.TheVariants.{Asm, Run, Sim, Replay, Stress}
 use Rattle.simulation.specs.Ends.{Carries}
 use Rattle.simulation.specs.declared.simulation.End.{End}
 use Rattle.simulation.specs.declared.simulation.End.TheVariants as end
@@ -24,7 +24,7 @@ use Rattle.simulation.specs.declared.simulation.Simulated.{Simulated}
 use Rattle.pm2_top.specs.Asked.{IsImageOf, image_in, acts_in}
 use Rattle.pm2_top.specs.Delivery.{is_told, Tells, Nothing, All, Refused, with_status}
 use Rattle.pm2_top.specs.Number.{end_status, refusal_status}
-use Rattle.pm2_top.specs.Outcome.{EndsPlainly, HasRunAs, DrawnBy, ScheduledBy, DoneWith, HasSourceEnded, HasRun, NotRead, Read, HasObeyed, HasEnded, NoSettings, NotSettled, Settled, IsTraceOf, NothingRan, LegalRun, plainly, node_limit, IsUntouched, HasCarried, LeavesLinks, ByStatus, IsCarriedOut}
+use Rattle.pm2_top.specs.Outcome.{EndsPlainly, HasRunAs, DrawnBy, InRounds, ScheduledBy, DoneWith, HasSourceEnded, HasRun, NotRead, Read, HasObeyed, HasEnded, NoSettings, NotSettled, Settled, IsTraceOf, NothingRan, LegalRun, plainly, node_limit, IsUntouched, HasCarried, LeavesLinks, ByStatus, IsCarriedOut}
 use Rattle.pm2_top.specs.declared.report.Report.{Report}
 use Rattle.pm2_top.specs.declared.status.Status.{Status}
 use Rattle.pm2_top.specs.declared.status.Status.TheVariants.{Done, Usage, BadSource, Stalled, OutOfTurns, ReadFault, WriteFault, NoMemory, NotPossible, BadScheduleText}
@@ -87,6 +87,10 @@ IsLegal p s = Legal p (reverse s.trace) ⊎ ((s.trace ≡ []) × (s.end ≡ end.
 drawn_legal : (moves : Bool) (turns seed : ℕ) (p : Program) (s : Simulated) → DrawnBy moves turns seed p s → IsLegal p s
 drawn_legal moves turns seed p s (inl r) = inl r.legal
 drawn_legal moves turns seed p s (inr none) = inr none
+
+rounds_legal : (turns : ℕ) (p : Program) (s : Simulated) → InRounds turns p s → IsLegal p s
+rounds_legal turns p s (inl r) = inl r.legal
+rounds_legal turns p s (inr none) = inr none
 
 scheduled_legal : (acts : List Scheduled) (p : Program) (s : Simulated) → ScheduledBy acts p s → IsLegal p s
 scheduled_legal acts p s (inl r) = inl r.legal
@@ -155,12 +159,13 @@ module _ (files : Content) (given : List (Ends Packet)) (fresh : AreFreshFor nod
     where
       same : IsUntouched ended.trace ended.wires
       same = record { nothing = d.1; fresh = subst (λ (es : List (Ends Packet)). AreFreshFor node_limit es) (sym d.2) fresh }
+  of_image (Run name) asked is acts image from w now ended d =
+      ran (InRounds asked.turns) (rounds_legal asked.turns) asked image from w now ended d (λ h. subst (λ c. LeavesLinks c files asked d.run.trace d.run.wires) (sym is) h)
   of_image (Sim name) asked is acts image from w now ended d =
       ran (DrawnBy asked.moves asked.turns asked.seed) (drawn_legal asked.moves asked.turns asked.seed) asked image from w now ended d
       (λ h. subst (λ c. LeavesLinks c files asked d.run.trace d.run.wires) (sym is) h)
   of_image (Stress jobs) asked is acts image from w now ended d =
-      ran (DrawnBy false asked.turns 0) (drawn_legal false asked.turns 0) asked image from w now ended d
-      (λ h. subst (λ c. LeavesLinks c files asked d.run.trace d.run.wires) (sym is) h)
+      ran (InRounds asked.turns) (rounds_legal asked.turns) asked image from w now ended d (λ h. subst (λ c. LeavesLinks c files asked d.run.trace d.run.wires) (sym is) h)
   of_image (Replay name file) asked is (Ok acts) image from w now ended (inl none) = plain asked NoMemory w now ended tt none
   of_image (Replay name file) asked is (Ok acts) image from w now ended (inr d) =
       ran (ScheduledBy acts) (scheduled_legal acts) asked image from w now ended d (λ h. subst (λ c. LeavesLinks c files asked d.run.trace d.run.wires) (sym is) h)

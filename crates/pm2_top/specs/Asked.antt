@@ -11,7 +11,7 @@ use Rattle.run_texts.specs.Schedules.{schedule_of}
 use Rattle.run_texts.specs.Stress.{stress_source}
 use Rattle.settings.specs.Settings.{Chosen}
 use Rattle.settings.specs.declared.command.Command.{Command}
-use Rattle.settings.specs.declared.command.Command.TheVariants.{Asm, Sim, Replay, Stress}
+use Rattle.settings.specs.declared.command.Command.TheVariants.{Asm, Run, Sim, Replay, Stress}
 
 -- the longest source, in bytes
 abbrev pub source_limit : ℕ
@@ -26,6 +26,7 @@ schedule_limit = 33554432
 -- the source of a command: a file, or the text of so many jobs
 abbrev pub source_in : Content → Command → Option (Option (List ℕ))
 source_in files (Asm name) = file_at files name
+source_in files (Run name) = file_at files name
 source_in files (Sim name) = file_at files name
 source_in files (Replay name acts) = file_at files name
 source_in files (Stress jobs) = Some (Some (stress_source jobs))
@@ -34,12 +35,14 @@ source_in files (Stress jobs) = Some (Some (stress_source jobs))
 abbrev pub schedule_in : Content → Command → Option (Option (List ℕ))
 schedule_in files (Replay name acts) = file_at files acts
 schedule_in files (Asm name) = Some None
+schedule_in files (Run name) = Some None
 schedule_in files (Sim name) = Some None
 schedule_in files (Stress jobs) = Some None
 
 -- the shelf tells its files, and a file that the command reads isn't there
 abbrev pub LacksAny : Content → Command → Type 0
 LacksAny files (Asm name) = Lacks files name
+LacksAny files (Run name) = Lacks files name
 LacksAny files (Sim name) = Lacks files name
 LacksAny files (Replay name acts) = Lacks files name ⊎ Lacks files acts
 LacksAny files (Stress jobs) = ⊥
@@ -62,6 +65,7 @@ MayBeRead limit told (Some bytes) = MayBe told bytes × (length bytes ≤ limit)
 -- this source and this schedule may have been read for a command
 abbrev pub MayBeGiven : Content → Command → (source schedule : Option (List ℕ)) → Type 0
 MayBeGiven files (Asm name) source schedule = MayBeRead source_limit (file_at files name) source
+MayBeGiven files (Run name) source schedule = MayBeRead source_limit (file_at files name) source
 MayBeGiven files (Sim name) source schedule = MayBeRead source_limit (file_at files name) source
 MayBeGiven files (Replay name acts) source schedule = MayBeRead source_limit (file_at files name) source × MayBeRead schedule_limit (file_at files acts) schedule
 MayBeGiven files (Stress jobs) source schedule = source ≡ Some (stress_source jobs)

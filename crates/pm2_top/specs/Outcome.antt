@@ -14,11 +14,12 @@ use Rattle.run_trace.specs.Program.{Program}
 use Rattle.run_texts.specs.declared.schedule.Scheduled.{Scheduled}
 use Rattle.settings.specs.Settings.{Chosen}
 use Rattle.settings.specs.declared.command.Command.{Command}
-use Rattle.settings.specs.declared.command.Command.TheVariants.{Asm, Sim, Replay, Stress}
+use Rattle.settings.specs.declared.command.Command.TheVariants.{Asm, Run, Sim, Replay, Stress}
 use Rattle.wires.specs.declared.ends.Ends.{Ends}
 use Rattle.wires.specs.Wires.{AreFreshFor}
 use Rattle.cluster.specs.Standing.{HaveCarried}
 use Rattle.simulation.specs.Ends.{Simulates, Shows, CarriesAt}
+use Rattle.simulation.specs.Rounds.{GoesInRounds}
 use Rattle.simulation.specs.Schedules.{Follows}
 use Rattle.simulation.specs.declared.simulation.Simulated.{Simulated}
 use Rattle.pm2_top.specs.Asked.{IsClusterOf, IsImageOf, MayBeGiven, MayBeSuch, source_in, schedule_in, image_in, acts_in, acts_of}
@@ -82,6 +83,10 @@ pub record HasRunAs (Ran : Program → Simulated → Type 0) (asked : Chosen) (i
 abbrev pub DrawnBy : (moves : Bool) → (turns seed : ℕ) → Program → Simulated → Type 0
 DrawnBy moves turns seed p s = Simulates moves p turns seed s
 
+-- in rounds of all nodes side by side
+abbrev pub InRounds : (turns : ℕ) → Program → Simulated → Type 0
+InRounds turns p s = GoesInRounds p turns s
+
 -- in the order of a schedule
 abbrev pub ScheduledBy : List Scheduled → Program → Simulated → Type 0
 ScheduledBy acts p s = Follows p acts s
@@ -94,9 +99,10 @@ HasReplayed asked (Err line) image given written now ended = EndsPlainly (BadSch
 -- what is done with an image has come to its end: the listing is written, or the program has run
 abbrev pub DoneWith : Command → Chosen → Result (List Scheduled) ℕ → Image → List (Ends Packet) → Option (List ℕ) → Option (List ℕ) → Report → Type 0
 DoneWith (Asm name) asked acts image given written now ended = Lists (listing image) written now ended.status × (ended.trace ≡ []) × (ended.wires ≡ given)
+DoneWith (Run name) asked acts image given written now ended = HasRunAs (InRounds asked.turns) asked image given written now ended
 DoneWith (Sim name) asked acts image given written now ended = HasRunAs (DrawnBy asked.moves asked.turns asked.seed) asked image given written now ended
 DoneWith (Replay name schedule) asked acts image given written now ended = HasReplayed asked acts image given written now ended
-DoneWith (Stress jobs) asked acts image given written now ended = HasRunAs (DrawnBy false asked.turns 0) asked image given written now ended
+DoneWith (Stress jobs) asked acts image given written now ended = HasRunAs (InRounds asked.turns) asked image given written now ended
 
 -- what is done with a source has come to its end: with its image, or with the reason why it has none
 abbrev pub HasSourceEnded : Chosen → Result Image AsmError → Result (List Scheduled) ℕ → List (Ends Packet) → Option (List ℕ) → Option (List ℕ) → Report → Type 0
@@ -156,6 +162,7 @@ pub record HasCarried (files : Content) (asked : Chosen) (trace : List Entry) (w
 -- what a command that has settings leaves of the links
 abbrev pub LeavesLinks : Command → Content → Chosen → List Entry → List (Ends Packet) → Type 0
 LeavesLinks (Asm name) files asked trace wires = IsUntouched trace wires
+LeavesLinks (Run name) files asked trace wires = HasCarried files asked trace wires
 LeavesLinks (Sim name) files asked trace wires = HasCarried files asked trace wires
 LeavesLinks (Replay name acts) files asked trace wires = HasCarried files asked trace wires
 LeavesLinks (Stress jobs) files asked trace wires = HasCarried files asked trace wires
@@ -187,6 +194,7 @@ IsRunsEnd status = (status ≡ Done) ⊎ ((status ≡ Stalled) ⊎ (status ≡ O
 -- a listing is written; a run has come to its end, or a schedule has an act that isn't possible or a bad line
 abbrev pub IsUsual : Command → Status → Type 0
 IsUsual (Asm name) status = status ≡ Done
+IsUsual (Run name) status = IsRunsEnd status
 IsUsual (Sim name) status = IsRunsEnd status
 IsUsual (Replay name acts) status = IsRunsEnd status ⊎ ((line : ℕ) × ((status ≡ NotPossible line) ⊎ (status ≡ BadScheduleText line)))
 IsUsual (Stress jobs) status = IsRunsEnd status
@@ -194,6 +202,7 @@ IsUsual (Stress jobs) status = IsRunsEnd status
 -- it is told that there is a schedule, where the command reads one
 abbrev pub HasSchedule : Content → Command → Type 0
 HasSchedule files (Asm name) = ⊤
+HasSchedule files (Run name) = ⊤
 HasSchedule files (Sim name) = ⊤
 HasSchedule files (Replay name acts) = (bytes : List ℕ) × (schedule_in files (Replay name acts) ≡ Some (Some bytes))
 HasSchedule files (Stress jobs) = ⊤

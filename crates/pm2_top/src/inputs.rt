@@ -69,6 +69,10 @@ pub(crate) fn read_inputs<S: Shelf>(
             source: read_text(alloc, file, SOURCE_LIMIT, shelf)?,
             schedule: None,
         }),
+        Command::Run(file) => Ok(Inputs {
+            source: read_text(alloc, file, SOURCE_LIMIT, shelf)?,
+            schedule: None,
+        }),
         Command::Sim(file) => Ok(Inputs {
             source: read_text(alloc, file, SOURCE_LIMIT, shelf)?,
             schedule: None,

@@ -16,7 +16,7 @@ ghost use Rattle.settings.specs.Seen.{chosen, IsWithinLimits};
 ghost use Rattle.simulation.specs.Schedules.{AreInRange};
 ghost use Rattle.pm2_top.specs.Asked.{LacksAny, acts_in, acts_of, image_in, schedule_in, source_in, schedule_limit};
 ghost use Rattle.pm2_top.specs.Delivery.{is_told, HasFiles, LeavesFiles, Leaves, KeepsCount};
-ghost use Rattle.pm2_top.specs.Outcome.{IsUnlessMemory, IsUsual, MayBeNoSource, MayBeNoSchedule, HasSource, Lists, HasRunAs, DrawnBy, HasReplayed, HasSourceEnded, HasRun, HasObeyed, HasEnded, IsTraceOf, IsCarriedOut, node_limit};
+ghost use Rattle.pm2_top.specs.Outcome.{IsUnlessMemory, IsUsual, MayBeNoSource, MayBeNoSchedule, HasSource, Lists, HasRunAs, DrawnBy, InRounds, HasReplayed, HasSourceEnded, HasRun, HasObeyed, HasEnded, IsTraceOf, IsCarriedOut, node_limit};
 ghost use Rattle.pm2_top.specs.Texts.{Reports};
 ghost use Rattle.pm2_top.specs.declared.report.Report.{Report as Ended};
 
@@ -26,14 +26,16 @@ use crate::report::Report;
 use crate::status::Status;
 use crate::texts::tell;
 use basics::Items;
+use node_loop::Gate;
 use outside::{Shelf, Sink, write_piece};
 use run_texts::{Scheduled, read_schedule, schedules_fit};
 use run_trace::{Packet, Setup};
 use rv_asm::{AsmError, assemble, list};
 use rv_inst::Image;
 use settings::{Command, Settings, WordsError, settings};
-use simulation::{replay, simulate};
+use simulation::{replay, run_in_rounds, simulate};
 use std::alloc::Global;
+use std::thread::Threads;
 use trace_text::TextError;
 use wires::Wires;
 
@@ -56,20 +58,18 @@ fn list_image<K: Sink>(alloc: Global, image: &Image, out: &mut K) -> Status
     }
 }
 
-/// Runs an image in the order that a seed draws.
-fn run_image<K: Sink>(
+/// Runs an image in the order that the seed draws.
+fn simulate_image<K: Sink>(
     alloc: Global,
     asked: &Settings,
     image: Image,
-    seed: u64,
-    moves: bool,
     wires: Wires<Packet>,
     out: &mut K,
 ) -> Report
     requires limits { IsWithinLimits asked.now }
     requires image { StartsAligned image }
     requires fresh { AreFreshFor node_limit wires }
-    ensures simulated { HasRunAs (DrawnBy moves asked.now.turns seed) (chosen asked.now) image wires (K.written out.old) (K.written out.new) result }
+    ensures simulated { HasRunAs (DrawnBy asked.now.moves asked.now.turns asked.now.seed) (chosen asked.now) image wires (K.written out.old) (K.written out.new) result }
     ensures failed { result.status ≡ Status.WriteFault → Rose (K.faults out.old) (K.faults out.new) }
     ensures later { K.faults out.old ≤ K.faults out.new }
 {
@@ -78,10 +78,39 @@ fn run_image<K: Sink>(
         &asked.setup,
         image,
         asked.turns,
-        seed,
-        moves,
+        asked.seed,
+        asked.moves,
         wires,
         out,
+    ))
+}
+
+/// Runs an image, all nodes side by side.
+fn run_image<R: Threads + Sync, K: Sink, G: Gate>(
+    rt: &R,
+    alloc: Global,
+    asked: &Settings,
+    image: Image,
+    wires: Wires<Packet>,
+    out: &mut K,
+    gate: &G,
+) -> Report
+    requires limits { IsWithinLimits asked.now }
+    requires image { StartsAligned image }
+    requires fresh { AreFreshFor node_limit wires }
+    ensures ran { HasRunAs (InRounds asked.now.turns) (chosen asked.now) image wires (K.written out.old) (K.written out.new) result }
+    ensures failed { result.status ≡ Status.WriteFault → Rose (K.faults out.old) (K.faults out.new) }
+    ensures later { K.faults out.old ≤ K.faults out.new }
+{
+    Report::of_run(run_in_rounds(
+        rt,
+        alloc,
+        &asked.setup,
+        image,
+        asked.turns,
+        wires,
+        out,
+        gate,
     ))
 }
 
@@ -146,12 +175,14 @@ fn image_in(alloc: Global, source: &Option<Items<u8>>) -> Result<Image, AsmError
 }
 
 /// Assembles a source, and lists its image or runs it.
-fn do_inputs<K: Sink>(
+fn do_inputs<R: Threads + Sync, K: Sink, G: Gate>(
+    rt: &R,
     alloc: Global,
     asked: &Settings,
     inputs: &Inputs,
     wires: Wires<Packet>,
     out: &mut K,
+    gate: &G,
 ) -> Report
     requires limits { IsWithinLimits asked.now }
     requires within { IfSome inputs.now.schedule (λ bytes. length bytes ≤ schedule_limit) }
@@ -171,19 +202,22 @@ fn do_inputs<K: Sink>(
             let status = list_image(alloc, &image, out);
             Report::plain(alloc, status, wires)
         }
-        Command::Sim(_) => run_image(alloc, asked, image, asked.seed, asked.moves, wires, out),
+        Command::Run(_) => run_image(rt, alloc, asked, image, wires, out, gate),
+        Command::Sim(_) => simulate_image(alloc, asked, image, wires, out),
         Command::Replay(_, _) => replay_image(alloc, asked, &inputs.schedule, image, wires, out),
-        Command::Stress(_) => run_image(alloc, asked, image, 0, false, wires, out),
+        Command::Stress(_) => run_image(rt, alloc, asked, image, wires, out, gate),
     }
 }
 
 /// Reads the files and does with them what is asked for.
-fn run_asked<S: Shelf, K: Sink>(
+fn run_asked<R: Threads + Sync, S: Shelf, K: Sink, G: Gate>(
+    rt: &R,
     alloc: Global,
     asked: &Settings,
     shelf: &mut S,
     wires: Wires<Packet>,
     out: &mut K,
+    gate: &G,
 ) -> Report
     requires limits { IsWithinLimits asked.now }
     requires fresh { AreFreshFor node_limit wires }
@@ -196,18 +230,20 @@ fn run_asked<S: Shelf, K: Sink>(
     ensures writes { S.write_faults shelf.new ≡ S.write_faults shelf.old }
 {
     match read_inputs(alloc, &asked.command, shelf) {
-        Ok(inputs) => do_inputs(alloc, asked, &inputs, wires, out),
+        Ok(inputs) => do_inputs(rt, alloc, asked, &inputs, wires, out, gate),
         Err(status) => Report::plain(alloc, status, wires),
     }
 }
 
 /// Does what is asked for, and tells what is asked for.
-fn do_asked<S: Shelf, K: Sink>(
+fn do_asked<R: Threads + Sync, S: Shelf, K: Sink, G: Gate>(
+    rt: &R,
     alloc: Global,
     asked: &Settings,
     shelf: &mut S,
     wires: Wires<Packet>,
     out: &mut K,
+    gate: &G,
 ) -> Report
     requires limits { IsWithinLimits asked.now }
     requires fresh { AreFreshFor node_limit wires }
@@ -219,17 +255,19 @@ fn do_asked<S: Shelf, K: Sink>(
     ensures put { is_told result.status ≡ true → HasFiles (chosen asked.now) result.trace (S.content shelf.old) (S.content shelf.new) }
     ensures left { LeavesFiles (chosen asked.now) result.trace (Rose (S.write_faults shelf.old) (S.write_faults shelf.new)) (S.content shelf.old) (S.content shelf.new) }
 {
-    let ran = run_asked(alloc, asked, shelf, wires, out);
+    let ran = run_asked(rt, alloc, asked, shelf, wires, out, gate);
     tell_all(alloc, asked, ran, shelf, out)
 }
 
 /// Does what the words ask for.
-fn obey<S: Shelf, K: Sink>(
+fn obey<R: Threads + Sync, S: Shelf, K: Sink, G: Gate>(
+    rt: &R,
     alloc: Global,
     words: &[String],
     shelf: &mut S,
     wires: Wires<Packet>,
     out: &mut K,
+    gate: &G,
 ) -> Report
     requires fresh { AreFreshFor node_limit wires }
     ensures ended { HasEnded (S.content shelf.old) (settings_of (map string_bytes words.now)) wires (K.written out.old) (K.written out.new) result }
@@ -245,23 +283,25 @@ fn obey<S: Shelf, K: Sink>(
     ensures unasked { KeepsCount (settings_of (map string_bytes words.now)) (S.write_faults shelf.old) (S.write_faults shelf.new) }
 {
     match settings(alloc, words) {
-        Ok(asked) => do_asked(alloc, &asked, shelf, wires, out),
+        Ok(asked) => do_asked(rt, alloc, &asked, shelf, wires, out, gate),
         Err(WordsError::Usage) => Report::plain(alloc, Status::Usage, wires),
         Err(WordsError::NoMemory) => Report::plain(alloc, Status::NoMemory, wires),
     }
 }
 
 /// The whole program: it reads the files that the words name, and lists the image of the source or runs it, in an order that is
-/// drawn or by a schedule, and shows the lines. Behind them stands the summary, and the trace and its acts go to files, each where
+/// drawn, by a schedule, or with all nodes side by side, and shows the lines. Behind them stands the summary, and the trace and its acts go to files, each where
 /// it is asked for. What is wrong, and each fault of a thread, is told on the error output. The packets go over the links that are
 /// given.
-pub fn pm2_main<S: Shelf, K: Sink, E: Sink>(
+pub fn pm2_main<R: Threads + Sync, S: Shelf, K: Sink, E: Sink, G: Gate>(
+    rt: &R,
     alloc: Global,
     words: &[String],
     shelf: &mut S,
     out: &mut K,
     err: &mut E,
     wires: Wires<Packet>,
+    gate: &G,
 ) -> Report
     requires wires { AreFreshFor node_limit wires }
 
@@ -317,6 +357,6 @@ pub fn pm2_main<S: Shelf, K: Sink, E: Sink>(
     // Where no file is asked for, none is written.
     ensures unasked { KeepsCount (settings_of (map string_bytes words.now)) (S.write_faults shelf.old) (S.write_faults shelf.new) }
 {
-    let ended = obey(alloc, words, shelf, wires, out);
+    let ended = obey(rt, alloc, words, shelf, wires, out, gate);
     tell(alloc, ended, err)
 }

@@ -48,6 +48,7 @@ quantum_single command given two = then_nothing (number_at given nodes) _ (λ n.
 no_turns : (command : Command) (given : Text → List Text) → 2 ≤ length (given turns.name) → number_at given (turns_of command) ≡ None
 no_turns (command.Stress jobs) given h = rw (two_values (given turns.name) h) refl
 no_turns (command.Asm file) given h = rw (two_values (given turns.name) h) refl
+no_turns (command.Run file) given h = rw (two_values (given turns.name) h) refl
 no_turns (command.Sim file) given h = rw (two_values (given turns.name) h) refl
 no_turns (command.Replay file acts) given h = rw (two_values (given turns.name) h) refl
 
@@ -91,14 +92,15 @@ good_names verb names command e = by_test (list_all is_name names) refl
     by_test false h = let bad = rw h at e in cc
 
 pub verb_is_plain : (word : Text) (verb : Verb) → verb_of word ≡ Some verb → form_of word ≡ plain
-verb_is_plain word verb e = by_word (bytes_eq word (codes "asm")) (bytes_eq word (codes "sim")) (bytes_eq word (codes "replay")) (bytes_eq word (codes "stress")) refl refl refl refl
+verb_is_plain word verb e = by_word (bytes_eq word (codes "asm")) (bytes_eq word (codes "run")) (bytes_eq word (codes "sim")) (bytes_eq word (codes "replay")) (bytes_eq word (codes "stress")) refl refl refl refl refl
   where
-    by_word : (a s r t : Bool) → bytes_eq word (codes "asm") ≡ a → bytes_eq word (codes "sim") ≡ s → bytes_eq word (codes "replay") ≡ r → bytes_eq word (codes "stress") ≡ t → form_of word ≡ plain
-    by_word true s r t ea es er et = rw (same_text word (codes "asm") ea) refl
-    by_word false true r t ea es er et = rw (same_text word (codes "sim") es) refl
-    by_word false false true t ea es er et = rw (same_text word (codes "replay") er) refl
-    by_word false false false true ea es er et = rw (same_text word (codes "stress") et) refl
-    by_word false false false false ea es er et = let bad = rw (ea, es, er, et) at e in cc
+    by_word : (a n s r t : Bool) → bytes_eq word (codes "asm") ≡ a → bytes_eq word (codes "run") ≡ n → bytes_eq word (codes "sim") ≡ s → bytes_eq word (codes "replay") ≡ r → bytes_eq word (codes "stress") ≡ t → form_of word ≡ plain
+    by_word true n s r t ea en es er et = rw (same_text word (codes "asm") ea) refl
+    by_word false true s r t ea en es er et = rw (same_text word (codes "run") en) refl
+    by_word false false true r t ea en es er et = rw (same_text word (codes "sim") es) refl
+    by_word false false false true t ea en es er et = rw (same_text word (codes "replay") er) refl
+    by_word false false false false true ea en es er et = rw (same_text word (codes "stress") et) refl
+    by_word false false false false false ea en es er et = let bad = rw (ea, en, es, er, et) at e in cc
 
 verb_is_no_use : (name word : Text) (verb : Verb) → verb_of word ≡ Some verb → is_use name word ≡ false
 verb_is_no_use name word verb e = rw (verb_is_plain word verb e) refl

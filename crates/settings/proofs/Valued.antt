@@ -121,12 +121,14 @@ without_value name no_option (word ∷ words) h = by_verb name no_option word wo
 
 moves_is_no_option : IsNoOption moves
 moves_is_no_option verb.Asm = refl
+moves_is_no_option verb.Run = refl
 moves_is_no_option verb.Sim = refl
 moves_is_no_option verb.Replay = refl
 moves_is_no_option verb.Stress = refl
 
 summary_is_no_option : IsNoOption summary
 summary_is_no_option verb.Asm = refl
+summary_is_no_option verb.Run = refl
 summary_is_no_option verb.Sim = refl
 summary_is_no_option verb.Replay = refl
 summary_is_no_option verb.Stress = refl

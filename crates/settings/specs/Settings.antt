@@ -16,13 +16,15 @@ use Rattle.settings.specs.declared.command.Command.TheVariants as command
 abbrev pub verb_of : Text → Option Verb
 verb_of word =
     if bytes_eq word (codes "asm") then Some verb.Asm
+    else (if bytes_eq word (codes "run") then Some verb.Run
     else (if bytes_eq word (codes "sim") then Some verb.Sim
     else (if bytes_eq word (codes "replay") then Some verb.Replay
-    else (if bytes_eq word (codes "stress") then Some verb.Stress else None)))
+    else (if bytes_eq word (codes "stress") then Some verb.Stress else None))))
 
 -- what a command takes beside its positional words
 abbrev pub grammar_of : Verb → GrammarOf
 grammar_of verb.Asm = record { options = []; flags = [] }
+grammar_of verb.Run = record { options = nodes.name ∷ slots.name ∷ quantum.name ∷ turns.name ∷ name_options; flags = summary ∷ [] }
 grammar_of verb.Sim = record { options = map (λ o. o.name) number_options ++ name_options; flags = flags }
 grammar_of verb.Replay = record { options = nodes.name ∷ slots.name ∷ trace ∷ []; flags = summary ∷ [] }
 grammar_of verb.Stress = record { options = nodes.name ∷ slots.name ∷ quantum.name ∷ turns.name ∷ name_options; flags = [] }
@@ -30,6 +32,7 @@ grammar_of verb.Stress = record { options = nodes.name ∷ slots.name ∷ quantu
 -- a command and its positional words
 abbrev pub command_with : Verb → List Text → Option Command
 command_with verb.Asm (name ∷ []) = Some (command.Asm name)
+command_with verb.Run (name ∷ []) = Some (command.Run name)
 command_with verb.Sim (name ∷ []) = Some (command.Sim name)
 command_with verb.Replay (name ∷ schedule ∷ []) = Some (command.Replay name schedule)
 command_with verb.Stress (number ∷ []) = option_map command.Stress (jobs_of number)

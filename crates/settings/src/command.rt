@@ -17,6 +17,8 @@ use words::WordsError;
 pub enum Command {
     /// To assemble this file, and list its image.
     Asm(Name),
+    /// To assemble this file, and run its nodes side by side.
+    Run(Name),
     /// To assemble this file, and run it under a simulated order of events.
     Sim(Name),
     /// To assemble the first file, and do the acts of the second one in their order.
@@ -52,6 +54,7 @@ pub(crate) fn command_of(alloc: Global, verb: Verb, names: &[&str]) -> Result<Co
     }
     match (verb, names) {
         (Verb::Asm, [file]) => Ok(Command::Asm(Name::of(alloc, file)?)),
+        (Verb::Run, [file]) => Ok(Command::Run(Name::of(alloc, file)?)),
         (Verb::Sim, [file]) => Ok(Command::Sim(Name::of(alloc, file)?)),
         (Verb::Replay, [file, schedule]) => {
             let file = Name::of(alloc, file)?;

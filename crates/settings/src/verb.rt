@@ -10,10 +10,13 @@ use words::Grammar;
 #[derive(Clone, Copy, PartialEq, Eq)]
 pub(crate) enum Verb {
     Asm,
+    Run,
     Sim,
     Replay,
     Stress,
 }
+
+static RUN_OPTIONS: [&str; 6] = ["nodes", "slots", "quantum", "turns", "trace", "schedule"];
 
 static SIM_OPTIONS: [&str; 7] = [
     "nodes", "slots", "quantum", "turns", "seed", "trace", "schedule",
@@ -23,9 +26,7 @@ static SIM_FLAGS: [&str; 2] = ["moves", "summary"];
 
 static REPLAY_OPTIONS: [&str; 3] = ["nodes", "slots", "trace"];
 
-static REPLAY_FLAGS: [&str; 1] = ["summary"];
-
-static STRESS_OPTIONS: [&str; 6] = ["nodes", "slots", "quantum", "turns", "trace", "schedule"];
+static SUMMARY_ALONE: [&str; 1] = ["summary"];
 
 impl Verb {
     /// The command of a word.
@@ -34,6 +35,8 @@ impl Verb {
     {
         if word == "asm" {
             Some(Verb::Asm)
+        } else if word == "run" {
+            Some(Verb::Run)
         } else if word == "sim" {
             Some(Verb::Sim)
         } else if word == "replay" {
@@ -54,16 +57,20 @@ impl Verb {
                 options: &[],
                 flags: &[],
             },
+            Verb::Run => Grammar {
+                options: &RUN_OPTIONS,
+                flags: &SUMMARY_ALONE,
+            },
             Verb::Sim => Grammar {
                 options: &SIM_OPTIONS,
                 flags: &SIM_FLAGS,
             },
             Verb::Replay => Grammar {
                 options: &REPLAY_OPTIONS,
-                flags: &REPLAY_FLAGS,
+                flags: &SUMMARY_ALONE,
             },
             Verb::Stress => Grammar {
-                options: &STRESS_OPTIONS,
+                options: &RUN_OPTIONS,
                 flags: &[],
             },
         }

@@ -54,23 +54,27 @@ runs_possible moves p net n count pick none =
     acts ∙ ap (λ (xs : List (ℕ × Act)). xs ++ flat_map (λ m. acts_of moves p net m) (run 1 n)) first in
     cc (all, none)
 
-pub begins_possible : (moves : Bool) (p : Program) → Legal p (boot_entries p (nodes_of p)) → possible_after moves p (boot_entries p (nodes_of p)) ≡ [] → ⊥
-begins_possible moves p legal none = by (nodes_of p) refl
+-- the main thread is on node 0's run list
+pub main_listed : (p : Program) → Legal p (boot_entries p (nodes_of p)) → has_pick (net_after p (boot_entries p (nodes_of p))) 0 ≡ true
+main_listed p legal = by (nodes_of p) refl
   where
-    net : Net
-    net = net_after p (boot_entries p (nodes_of p))
-
     here : Here 0 (spots_of p (at_first p) (boot_entries p (nodes_of p))) ((net_after p (boot_entries p (nodes_of p))).nodes 0) []
     here = (run_whole p (at_first p) (fresh_net p) (starts p) (boot_entries p (nodes_of p)) legal.runs).stands.nodes 0
 
-    by : (k : ℕ) → nodes_of p ≡ k → ⊥
-    by zero e = omega (arith, e, p.setup.geometry.some_node)
+    by : (k : ℕ) → nodes_of p ≡ k → has_pick (net_after p (boot_entries p (nodes_of p))) 0 ≡ true
+    by zero e = absurd (omega (arith, e, p.setup.geometry.some_node))
     by (suc n) e = rows ((net_after p (boot_entries p (nodes_of p))).nodes 0).places.rows refl
       where
         ready : ((spots_of p (at_first p) (boot_entries p (nodes_of p))).threads (tid 0 0)).life ≡ On 0 Ready
         ready = ap (λ m. ((spots_of p (at_first p) (boot_entries p m)).threads (tid 0 0)).life) e ∙ main_ready p n
 
-        rows : (rs : List Row) → ((net_after p (boot_entries p (nodes_of p))).nodes 0).places.rows ≡ rs → ⊥
-        rows [] r = listed_somewhere (spots_of p (at_first p) (boot_entries p (nodes_of p))) ((net_after p (boot_entries p (nodes_of p))).nodes 0) here ready r
-        rows (x ∷ xs) r = runs_possible moves p (net_after p (boot_entries p (nodes_of p))) n e
-            (lt-ltb 0 (length ((net_after p (boot_entries p (nodes_of p))).nodes 0).places.rows) (subst (λ (ys : List Row). 0 < length ys) (sym r) (omega arith))) none
+        rows : (rs : List Row) → ((net_after p (boot_entries p (nodes_of p))).nodes 0).places.rows ≡ rs → has_pick (net_after p (boot_entries p (nodes_of p))) 0 ≡ true
+        rows [] r = absurd (listed_somewhere (spots_of p (at_first p) (boot_entries p (nodes_of p))) ((net_after p (boot_entries p (nodes_of p))).nodes 0) here ready r)
+        rows (x ∷ xs) r = lt-ltb 0 (length ((net_after p (boot_entries p (nodes_of p))).nodes 0).places.rows) (subst (λ (ys : List Row). 0 < length ys) (sym r) (omega arith))
+
+pub begins_possible : (moves : Bool) (p : Program) → Legal p (boot_entries p (nodes_of p)) → possible_after moves p (boot_entries p (nodes_of p)) ≡ [] → ⊥
+begins_possible moves p legal none = by (nodes_of p) refl
+  where
+    by : (k : ℕ) → nodes_of p ≡ k → ⊥
+    by zero e = omega (arith, e, p.setup.geometry.some_node)
+    by (suc n) e = runs_possible moves p (net_after p (boot_entries p (nodes_of p))) n e (main_listed p legal) none

@@ -2,3 +2,4 @@ mod Beginning
 mod Choosing
 mod Running
 mod Replaying
+mod Rounding

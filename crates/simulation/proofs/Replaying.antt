@@ -1,9 +1,8 @@
 -- A run by a schedule, from act to act, and how it ends.
 use Rattle.std.proofs.Common.{◌≡◌, ℕ, zero, suc, ◌+◌, ◌-◌, ◌^◌, ◌<◌, ◌≤◌, List, [], ◌∷◌, ◌++◌, length, drop, get_or, reverse, Option, Some, None, false, refl, sym, ap, ◌∙◌, subst, arith, inl}
 use Rattle.std.specs.Prelude.{slice_get}
-use Rattle.std.proofs.lemmas.List.{length-append, append-nil, reverse-reverse}
+use Rattle.std.proofs.lemmas.List.{append-nil, reverse-reverse}
 use Rattle.std.proofs.lemmas.Option.{slice_get-get_or}
-use Rattle.std.proofs.Math.Seq.{drop-append_seam}
 use Rattle.outside.specs.Outside.{Appends, AppendsPrefix}
 use Rattle.outside.specs.declared.outside.WriteRefusal.{WriteRefusal}
 use Rattle.outside.specs.declared.outside.WriteRefusal.TheVariants as refusals
@@ -30,8 +29,7 @@ use Rattle.run_texts.specs.declared.schedule.Scheduled.{Scheduled}
 use Rattle.simulation.specs.declared.simulation.End.{End}
 use Rattle.simulation.specs.declared.simulation.End.TheVariants as ends
 use Rattle.simulation.specs.declared.simulation.Simulated.{Simulated}
-use Rattle.simulation.proofs.Beginning.{nothing_shown}
-use Rattle.simulation.proofs.Running.{appended, prefixed, whole_prefix, legal_whole, console_whole}
+use Rattle.simulation.proofs.Running.{longer, shown_all, shown_part, none_shown, whole_prefix, legal_whole, console_whole}
 
 -- the act at this place of a schedule is in range
 pub in_range : (p : Program) (schedule : List Scheduled) (i : ℕ) (s : Scheduled) → AreInRange p schedule → slice_get schedule i ≡ Some s
@@ -58,16 +56,9 @@ begins_by schedule old written s clock round = record {
   round = round;
   count = refl;
   acts = tt;
-  shown = subst (λ xs. Appends written xs written) (sym empty) (nothing written);
+  shown = none_shown old written s;
   wide = refl;
 }
-  where
-    empty : console_in old ≡ []
-    empty = sym (console_whole old (boot_entries old.program (nodes_of old.program)) s) ∙ nothing_shown old.program (nodes_of old.program)
-
-    nothing : (o : Option (List ℕ)) → Appends o [] o
-    nothing None = refl
-    nothing (Some xs) = ap (λ (z : List ℕ). Some z) (sym (append-nil xs))
 
 module _ (schedule : List Scheduled) (old : ClusterView) (written : Option (List ℕ)) (done : ℕ) (c : ClusterView) (now : Option (List ℕ)) (u : IsReplaying schedule old written done c now) where
   abbrev p : Program
@@ -145,18 +136,13 @@ module _ (schedule : List Scheduled) (old : ClusterView) (written : Option (List
     )
 
     pub room_by : length (console_in c) ≤ length (console_in c2)
-    room_by = let longer : length (console_in c2) ≡ length (console_in c) + length d.shown = ap length d.console ∙ length-append (console_in c) d.shown in omega (arith, longer)
-
-    new_lines : drop (length (console_in c)) (console_in c2) ≡ d.shown
-    new_lines = ap (drop (length (console_in c))) d.console ∙ drop-append_seam (console_in c) d.shown
+    room_by = longer (console_in c) d.shown (console_in c2) d.console
 
     shown_now : (now2 : Option (List ℕ)) → Appends now (drop (length (console_in c)) (console_in c2)) now2 → Appends written (console_in c2) now2
-    shown_now now2 h = subst (λ xs. Appends written xs now2) (sym d.console)
-        (appended written (console_in c) d.shown now now2 u.shown (subst (λ xs. Appends now xs now2) new_lines h))
+    shown_now now2 h = shown_all (console_in c) d.shown (console_in c2) d.console written now now2 u.shown h
 
     part_shown : (now2 : Option (List ℕ)) → AppendsPrefix now (drop (length (console_in c)) (console_in c2)) now2 → AppendsPrefix written (console_in c2) now2
-    part_shown now2 h = subst (λ xs. AppendsPrefix written xs now2) (sym d.console)
-        (prefixed written (console_in c) d.shown now now2 u.shown (subst (λ xs. AppendsPrefix now xs now2) new_lines h))
+    part_shown now2 h = shown_part (console_in c) d.shown (console_in c2) d.console written now now2 u.shown h
 
     console_is : console_of p (at_first p) (x ∷ u.later ++ first) ≡ console_in c2
     console_is = subst (λ q. console_of q (at_first q) (x ∷ u.later ++ first) ≡ console_in c2) program_is (console_whole c2 (x ∷ u.later ++ first) d.stands)

@@ -48,6 +48,20 @@ pub prefixed : (written : Option (List ℕ)) (xs ys : List ℕ) (mid now : Optio
 prefixed written xs ys mid now h k =
     (length xs + k.0, subst (λ zs. Appends written zs now) (sym (take-append-add xs ys k.0)) (appended written xs (take k.0 ys) mid now h k.1))
 
+-- lines that come, of which the first ones are on the output
+module _ (lines more all : List ℕ) (is : all ≡ lines ++ more) where
+  pub longer : length lines ≤ length all
+  longer = let sum : length all ≡ length lines + length more = ap length is ∙ length-append lines more in omega (arith, sum)
+
+  new_lines : drop (length lines) all ≡ more
+  new_lines = ap (drop (length lines)) is ∙ drop-append_seam lines more
+
+  pub shown_all : (written now now2 : Option (List ℕ)) → Appends written lines now → Appends now (drop (length lines) all) now2 → Appends written all now2
+  shown_all written now now2 u h = subst (λ xs. Appends written xs now2) (sym is) (appended written lines more now now2 u (subst (λ xs. Appends now xs now2) new_lines h))
+
+  pub shown_part : (written now now2 : Option (List ℕ)) → Appends written lines now → AppendsPrefix now (drop (length lines) all) now2 → AppendsPrefix written all now2
+  shown_part written now now2 u h = subst (λ xs. AppendsPrefix written xs now2) (sym is) (prefixed written lines more now now2 u (subst (λ xs. AppendsPrefix now xs now2) new_lines h))
+
 -- ## No part of the trace came before
 
 pub legal_whole : (c : ClusterView) (kept : List Entry) → StandsFor c [] kept → Legal c.program kept
@@ -61,6 +75,17 @@ pub at_whole : (p : Program) (kept : List Entry) (state : State) → IsAt p (kep
 at_whole p kept state h = subst (λ ls. IsAt p ls state) (append-nil kept) h
 
 -- ## The beginning
+
+-- no line is there yet
+pub none_shown : (old : ClusterView) (written : Option (List ℕ)) → StandsFor old [] (boot_entries old.program (nodes_of old.program)) → Appends written (console_in old) written
+none_shown old written s = subst (λ xs. Appends written xs written) (sym empty) (nothing written)
+  where
+    empty : console_in old ≡ []
+    empty = sym (console_whole old (boot_entries old.program (nodes_of old.program)) s) ∙ nothing_shown old.program (nodes_of old.program)
+
+    nothing : (o : Option (List ℕ)) → Appends o [] o
+    nothing None = refl
+    nothing (Some xs) = ap (λ (z : List ℕ). Some z) (sym (append-nil xs))
 
 -- the trace of a run under way
 abbrev pub trace_of : {moves : Bool} {seed : ℕ} {old : ClusterView} {written : Option (List ℕ)} {done : ℕ} {c : ClusterView} {words : Lcg} {now : Option (List ℕ)} → IsUnderway moves seed old written done c words now → List Entry
@@ -80,16 +105,9 @@ begins moves seed old words written s clock round w = record {
   went_on = tt;
   possible = begins_possible moves old.program (legal_whole old (boot_entries old.program (nodes_of old.program)) s);
   generator = w;
-  shown = subst (λ xs. Appends written xs written) (sym empty) (nothing written);
+  shown = none_shown old written s;
   wide = refl;
 }
-  where
-    empty : console_in old ≡ []
-    empty = sym (console_whole old (boot_entries old.program (nodes_of old.program)) s) ∙ nothing_shown old.program (nodes_of old.program)
-
-    nothing : (o : Option (List ℕ)) → Appends o [] o
-    nothing None = refl
-    nothing (Some xs) = ap (λ (z : List ℕ). Some z) (sym (append-nil xs))
 
 module _ (moves : Bool) (seed : ℕ) (old : ClusterView) (written : Option (List ℕ)) (done : ℕ) (c : ClusterView) (words : Lcg) (now : Option (List ℕ)) (u : IsUnderway moves seed old written done c words now) where
   abbrev p : Program
@@ -132,18 +150,13 @@ module _ (moves : Bool) (seed : ℕ) (old : ClusterView) (written : Option (List
     drawn_now = (u.drawn, is_drawn)
 
     pub room : length (console_in c) ≤ length (console_in c2)
-    room = let longer : length (console_in c2) ≡ length (console_in c) + length d.adds.shown = ap length d.adds.console ∙ length-append (console_in c) d.adds.shown in omega (arith, longer)
-
-    new_lines : drop (length (console_in c)) (console_in c2) ≡ d.adds.shown
-    new_lines = ap (drop (length (console_in c))) d.adds.console ∙ drop-append_seam (console_in c) d.adds.shown
+    room = longer (console_in c) d.adds.shown (console_in c2) d.adds.console
 
     shown_now : (now2 : Option (List ℕ)) → Appends now (drop (length (console_in c)) (console_in c2)) now2 → Appends written (console_in c2) now2
-    shown_now now2 h = subst (λ xs. Appends written xs now2) (sym d.adds.console)
-        (appended written (console_in c) d.adds.shown now now2 u.shown (subst (λ xs. Appends now xs now2) new_lines h))
+    shown_now now2 h = shown_all (console_in c) d.adds.shown (console_in c2) d.adds.console written now now2 u.shown h
 
     part_shown : (now2 : Option (List ℕ)) → AppendsPrefix now (drop (length (console_in c)) (console_in c2)) now2 → AppendsPrefix written (console_in c2) now2
-    part_shown now2 h = subst (λ xs. AppendsPrefix written xs now2) (sym d.adds.console)
-        (prefixed written (console_in c) d.adds.shown now now2 u.shown (subst (λ xs. AppendsPrefix now xs now2) new_lines h))
+    part_shown now2 h = shown_part (console_in c) d.adds.shown (console_in c2) d.adds.console written now now2 u.shown h
 
     console_is : console_of p (at_first p) (x ∷ u.later ++ first) ≡ console_in c2
     console_is = subst (λ q. console_of q (at_first q) (x ∷ u.later ++ first) ≡ console_in c2) program_is (console_whole c2 (x ∷ u.later ++ first) d.adds.stands)

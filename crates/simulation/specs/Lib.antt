@@ -3,3 +3,4 @@ pub mod Ends
 pub mod Underway
 pub mod Schedules
 pub mod Replayed
+pub mod Rounds
