@@ -36,7 +36,7 @@ last_joined clock (x ∷ xs) ys = ap (max x.stamp) (last_joined clock xs ys)
 
 no_turns : (p : Program) (n : ℕ) → turns_in (boot_entries p n) ≡ 0
 no_turns p zero = refl
-no_turns p (suc n) = no_turns p n
+no_turns p (suc n) = omega (arith, no_turns p n)
 
 boot_count : (p : Program) (n : ℕ) → length (boot_entries p n) ≡ n
 boot_count p zero = refl

@@ -1,6 +1,6 @@
 //! Runs of all nodes side by side.
 
-ghost use Rattle.std.specs.Prelude.{◌≡◌, ◌<◌, ◌≤◌, IfOk, length};
+ghost use Rattle.std.specs.Prelude.{◌≡◌, ◌<◌, ◌≤◌, [], IfOk, length};
 ghost use Rattle.outside.specs.Outside.{Rose};
 ghost use Rattle.run_trace.specs.Legality.{boot_entries};
 ghost use Rattle.run_trace.specs.Program.{nodes_of, quantum_limit};
