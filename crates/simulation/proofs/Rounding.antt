@@ -19,7 +19,7 @@ use Rattle.cluster.specs.Rounds.{AddsRound, AreOfOneRound, HasRoomForRound, acts
 use Rattle.cluster.specs.Standing.{StandsFor, HaveCarried, entries_at, net_after, turns_in}
 use Rattle.cluster.specs.View.{ClusterView, console_in, greatest_clock, round_in, wires_of}
 use Rattle.cluster.specs.declared.deciding.State.TheVariants as states
-use Rattle.cluster.proofs.Clocks.{next_is}
+use Rattle.cluster.proofs.Lemmas.{next_is}
 use Rattle.simulation.specs.Ends.{ShowsAt, Shows, CarriesAt}
 use Rattle.simulation.specs.Rounds.{entries_in, AreRounds, HasTurns, WentOnFor, EndsWith, RunsInRounds, GoesInRounds, IsGoingOn, HasGone}
 use Rattle.simulation.specs.declared.simulation.End.{End}
