@@ -1,6 +1,6 @@
 -- A run of all nodes side by side, from round to round, and how it ends.
-use Rattle.std.proofs.Common.{◌≡◌, ℕ, zero, suc, ◌+◌, ◌-◌, ◌^◌, ◌<◌, ◌≤◌, max, Bool, true, false, cond, List, [], ◌∷◌, ◌++◌, length, drop, reverse, Option, Some, None, refl, sym, ap, ◌∙◌, subst, arith, inl, inr}
-use Rattle.std.specs.Prelude.{◌⊎◌, ◌==◌, slice_get}
+use Rattle.std.proofs.Common.{◌≡◌, ℕ, zero, suc, ◌+◌, ◌-◌, ◌<◌, ◌≤◌, max, Bool, true, false, cond, List, [], ◌∷◌, ◌++◌, length, drop, reverse, Option, refl, sym, ap, ◌∙◌, subst, arith, inl, inr}
+use Rattle.std.specs.Prelude.{◌⊎◌, ◌==◌}
 use Rattle.std.proofs.lemmas.List.{length-append, length-reverse, append_assoc, append-nil, reverse-reverse}
 use Rattle.outside.specs.Outside.{Appends, AppendsPrefix}
 use Rattle.run_trace.specs.declared.entry.Entry.{Entry}
@@ -21,7 +21,7 @@ use Rattle.cluster.specs.View.{ClusterView, console_in, greatest_clock, round_in
 use Rattle.cluster.specs.declared.deciding.State.TheVariants as states
 use Rattle.cluster.proofs.Lemmas.{next_is}
 use Rattle.simulation.specs.Ends.{ShowsAt, Shows, CarriesAt}
-use Rattle.simulation.specs.Rounds.{entries_in, AreRounds, HasTurns, WentOnFor, EndsWith, RunsInRounds, GoesInRounds, IsGoingOn, HasGone}
+use Rattle.simulation.specs.Rounds.{entries_in, EndsWith, RunsInRounds, GoesInRounds, IsGoingOn, HasGone}
 use Rattle.simulation.specs.declared.simulation.End.{End}
 use Rattle.simulation.specs.declared.simulation.End.TheVariants as ends
 use Rattle.simulation.specs.declared.simulation.Simulated.{Simulated}

@@ -1,4 +1,4 @@
-use Rattle.std.proofs.Common.{ℕ, List, [], ◌∷◌, drop, length, subst, arith}
+use Rattle.std.proofs.Common.{ℕ, List, [], drop, length, subst, arith}
 use Rattle.outside.specs.Outside.{Appends, AppendsPrefix}
 use Rattle.cluster.specs.View.{console_in}
 use Rattle.cluster.specs.declared.deciding.State.TheVariants as states
