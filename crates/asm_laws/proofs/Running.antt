@@ -7,7 +7,7 @@ use Rattle.rv_inst.specs.declared.inst.ImmOp.TheVariants.{Addi, Addiw}
 use Rattle.rv_inst.specs.declared.inst.ShiftOp.TheVariants.{Slli}
 use Rattle.rv_step.specs.Alu.{plus, extended}
 use Rattle.rv_step.specs.Memory.{Memory}
-use Rattle.rv_step.specs.Step.{State, Next, Call, Fault, effect, reg_of, with_reg}
+use Rattle.rv_step.specs.Step.{HartState, Next, Call, Fault, effect, reg_of, with_reg}
 use Rattle.rv_asm.specs.Expansions.{fits_signed, low, high, shifted, load_short, load_within, load_number, distance, load_address}
 use Rattle.asm_laws.specs.Loads.{and_then, after, Puts}
 use Rattle.asm_laws.proofs.Sums.{low_alone, low_onto, low_onto_high, low_onto_place, shifted_fits, shifted_once, shifted_twice, shifted_thrice}
@@ -34,7 +34,7 @@ second regs rd a b f some h e =
 
 -- ---- one after another
 
-after_then : (image : List ℕ) (xs ys : List Inst) (s : State) → after image s (xs ++ ys) ≡ and_then (after image s xs) (λ t. after image t ys)
+after_then : (image : List ℕ) (xs ys : List Inst) (s : HartState) → after image s (xs ++ ys) ≡ and_then (after image s xs) (λ t. after image t ys)
 after_then image [] ys s = refl
 after_then image (x ∷ xs) ys s =
     elim (effect image s x) as (λ o. and_then o (λ t. after image t (xs ++ ys)) ≡ and_then (and_then o (λ t. after image t xs)) (λ t. after image t ys)) [
@@ -45,14 +45,14 @@ after_then image (x ∷ xs) ys s =
 
 -- ---- loads
 
-short_puts : (image : List ℕ) (s : State) (rd n : ℕ) → 0 < rd → rd < length s.regs → n < 2 ^ 64 → fits_signed 31 n ≡ true → Puts image (load_short rd n) rd n s
+short_puts : (image : List ℕ) (s : HartState) (rd n : ℕ) → 0 < rd → rd < length s.regs → n < 2 ^ 64 → fits_signed 31 n ≡ true → Puts image (load_short rd n) rd n s
 short_puts image s rd n some h fit e =
     elim (fits_signed 11 n) as (λ b. fits_signed 11 n ≡ b → Puts image (cond b (Imm Addi rd 0 (low n) ∷ []) (Lui rd (high n) ∷ Imm Addiw rd rd (low n) ∷ [])) rd n s) [
       | true ↦ λ f. (plus s.pc 4, in_state _ _ _ _ (ap (λ v. with_reg s.regs rd v) (low_alone n fit f)))
       | false ↦ λ f. (plus (plus s.pc 4) 4, in_state _ _ _ _ (second s.regs rd (extended (high n * 2 ^ 12)) n (λ x. extended ((x + cast_unsigned w64 (low n)) % 2 ^ 32)) some h (low_onto_high n fit e)))
     ] refl
 
-tail_puts : (image : List ℕ) (s : State) (rd n pc : ℕ) → 0 < rd → rd < length s.regs → n < 2 ^ 64
+tail_puts : (image : List ℕ) (s : HartState) (rd n pc : ℕ) → 0 < rd → rd < length s.regs → n < 2 ^ 64
     → after image (record { regs = with_reg s.regs rd (shifted n); pc = pc; memory = s.memory }) (Shift Slli rd rd 12 ∷ Imm Addi rd rd (low n) ∷ [])
     ≡ Next (record { regs = with_reg s.regs rd n; pc = plus (plus pc 4) 4; memory = s.memory })
 tail_puts image s rd n pc some h fit =
@@ -63,7 +63,7 @@ tail_puts image s rd n pc some h fit =
     (ap (λ r. with_reg r rd (plus (reg_of r rd) (cast_unsigned w64 (low n)))) first
     ∙ second s.regs rd b n (λ x. plus x (cast_unsigned w64 (low n))) some h (low_onto n fit))
 
-longer_puts : (image : List ℕ) (s : State) (k rd n : ℕ) → 0 < rd → rd < length s.regs → n < 2 ^ 64
+longer_puts : (image : List ℕ) (s : HartState) (k rd n : ℕ) → 0 < rd → rd < length s.regs → n < 2 ^ 64
     → Puts image (load_within k rd (shifted n)) rd (shifted n) s → Puts image (load_within (suc k) rd n) rd n s
 longer_puts image s k rd n some h fit first =
     let tail : List Inst = Shift Slli rd rd 12 ∷ Imm Addi rd rd (low n) ∷ [] in
@@ -72,7 +72,7 @@ longer_puts image s k rd n some h fit first =
       | false ↦ λ e. (plus (plus first.0 4) 4, after_then image (load_within k rd (shifted n)) tail s ∙ ap (λ o. and_then o (λ t. after image t tail)) first.1 ∙ tail_puts image s rd n first.0 some h fit)
     ] refl
 
-pub number_puts : (image : List ℕ) (s : State) (rd n : ℕ) → 0 < rd → rd < length s.regs → n < 2 ^ 64 → Puts image (load_number rd n) rd n s
+pub number_puts : (image : List ℕ) (s : HartState) (rd n : ℕ) → 0 < rd → rd < length s.regs → n < 2 ^ 64 → Puts image (load_number rd n) rd n s
 unfolding load_number
 number_puts image s rd n some h fit =
     let one = shifted n in
@@ -87,7 +87,7 @@ number_puts image s rd n some h fit =
 
 -- ---- an address
 
-pub address_puts : (image : List ℕ) (s : State) (rd target : ℕ) → 0 < rd → rd < length s.regs → s.pc < 2 ^ 30 → target < 2 ^ 30
+pub address_puts : (image : List ℕ) (s : HartState) (rd target : ℕ) → 0 < rd → rd < length s.regs → s.pc < 2 ^ 30 → target < 2 ^ 30
     → Puts image (load_address rd s.pc target) rd target s
 address_puts image s rd target some h near fit =
     let d = distance s.pc target in (

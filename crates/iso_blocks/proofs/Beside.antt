@@ -4,7 +4,7 @@ use Rattle.std.specs.Prelude.{nat_lt, nat_le}
 use Rattle.std.proofs.lemmas.Bool.Decides.{nat_tests}
 use Rattle.std.proofs.lemmas.Bool.{false≢true, le-leb, lt-ltb, eq-eqb, ne_eqb, cases_lt, or_cases, or_right}
 use Rattle.slot_space.specs.Limits.{slot_size, slot_limit}
-use Rattle.slot_space.specs.Places.{slot_base, HoldsAddress}
+use Rattle.slot_space.specs.Addresses.{slot_base, HoldsAddress}
 use Rattle.iso_blocks.specs.Bytes.{is_met}
 use Rattle.iso_blocks.specs.Heap.{StandFrom, without}
 use Rattle.iso_blocks.specs.Neighbours.{end_before, start_of, Owns}

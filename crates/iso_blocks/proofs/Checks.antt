@@ -3,7 +3,7 @@ use Rattle.std.proofs.Common.{refl, sym, ◌∙◌, ap, ◌≡◌, ℕ, ◌+◌,
 use Rattle.std.specs.Prelude.{IsTrue, is_some, MatchOption}
 use Rattle.std.proofs.lemmas.Bool.{false≢true, true≢false, lt-leb, cases_lt, or_cases}
 use Rattle.slot_space.specs.Sets.{has}
-use Rattle.slot_space.specs.Places.{slot_base, HoldsAddress}
+use Rattle.slot_space.specs.Addresses.{slot_base, HoldsAddress}
 use Rattle.iso_blocks.specs.Bytes.{lies_in, in_slots, in_blocks}
 use Rattle.iso_blocks.specs.Heap.{IsBlock, StandFrom, with_block, Fits}
 use Rattle.iso_blocks.specs.Neighbours.{end_before}

@@ -3,7 +3,7 @@ use Rattle.std.proofs.Common.{refl, sym, ◌∙◌, ap, ◌≡◌, ℕ, ◌+◌,
 use Rattle.std.proofs.lemmas.Bool.{false≢true, true≢false, or_right}
 use Rattle.slot_space.specs.Limits.{slot_size}
 use Rattle.slot_space.specs.Sets.{has, insert, minus}
-use Rattle.slot_space.specs.Places.{slot_base, HoldsAddress}
+use Rattle.slot_space.specs.Addresses.{slot_base, HoldsAddress}
 use Rattle.iso_blocks.specs.Bytes.{lies_in, in_slots, in_blocks, is_met}
 use Rattle.iso_blocks.specs.Heap.{Heap, StandFrom, is_free, with_block, without}
 use Rattle.iso_blocks.proofs.Fit.{lies_in-true}

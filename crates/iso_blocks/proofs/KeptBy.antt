@@ -3,7 +3,7 @@ use Rattle.std.proofs.Common.{refl, sym, ◌∙◌, ap, ◌≡◌, ℕ, ◌+◌,
 use Rattle.std.proofs.lemmas.Bool.{true≢false, le-leb, lt-ltb, and_parts, not-true}
 use Rattle.slot_space.specs.Limits.{slots_end, slot_size, slot_limit}
 use Rattle.slot_space.specs.Sets.{has, insert, union, minus, run, IsSlotSet}
-use Rattle.slot_space.specs.Places.{slot_base, HoldsAddress}
+use Rattle.slot_space.specs.Addresses.{slot_base, HoldsAddress}
 use Rattle.slot_space.proofs.Lemmas.{has-union, ascending-insert, ascending-minus, below-insert, below-minus, length-insert, length-minus}
 use Rattle.iso_blocks.specs.declared.layout.Layout.{Layout}
 use Rattle.iso_blocks.specs.Bytes.{lies_in, in_slots, in_blocks, is_met}
@@ -66,8 +66,8 @@ pub record Settles (l m : Layout) (a size first count last : ℕ) : Type 0 where
   pub ends : HoldsAddress last (a + size - 1)
   pub counts : first + count ≡ last + 1
 
-pub kept-settle : (l m : Layout) (a size first count last : ℕ) → IsKept l → Fits (heap_of l) size a → 16 ≤ size → size % 16 ≡ 0 → Settles l m a size first count last → IsKept m
-kept-settle l m a size first count last k f some whole g =
+pub kept-occupy : (l m : Layout) (a size first count last : ℕ) → IsKept l → Fits (heap_of l) size a → 16 ≤ size → size % 16 ≡ 0 → Settles l m a size first count last → IsKept m
+kept-occupy l m a size first count last k f some whole g =
     let free = fits_free l size a k f in
     record {
       sound = rw (g.live, g.heap) (StandFrom-with_block 0 l.heap (a, size) l.live.items k.sound (fits_block l size a f some whole) (omega arith)

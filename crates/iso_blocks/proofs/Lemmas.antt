@@ -2,7 +2,7 @@
 use Rattle.std.proofs.Common.{List, None, Some, false, true, ℕ, ◌+◌, ◌<◌, ◌||◌, ◌≡◌, ◌≤◌}
 use Rattle.iso_blocks.specs.Bytes.{in_blocks, in_slots, is_met, lies_in}
 use Rattle.iso_blocks.specs.Heap.{Fits, Heap, place, with_block}
-use Rattle.slot_space.specs.Places.{HoldsAddress, slot_base}
+use Rattle.slot_space.specs.Addresses.{HoldsAddress, slot_base}
 use Rattle.slot_space.specs.Sets.{IsSlotSet, has}
 use Rattle.iso_blocks.proofs.Fit
 use Rattle.iso_blocks.proofs.KeptBy

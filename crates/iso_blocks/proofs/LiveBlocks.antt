@@ -5,7 +5,7 @@ use Rattle.std.specs.List.Sorted.{IsNonDecreasingBy}
 use Rattle.std.proofs.lemmas.Bool.{false≢true, true≢false, le-leb, lt-leb, lt-ltb, eq-eqb, ne_eqb, cases_lt, cases_eq, cases_Bool, or_cases, or_right}
 use Rattle.std.specs.Prelude.{nat_lt}
 use Rattle.slot_space.specs.Limits.{slot_size}
-use Rattle.slot_space.specs.Places.{slot_base}
+use Rattle.slot_space.specs.Addresses.{slot_base}
 use Rattle.iso_blocks.specs.Bytes.{lies_in, in_slots, in_blocks, is_met}
 use Rattle.iso_blocks.specs.Heap.{IsBlock, StandFrom, with_block, without, starts_at}
 use Rattle.iso_blocks.proofs.Fit.{lies_in-true}

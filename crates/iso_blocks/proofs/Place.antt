@@ -2,7 +2,7 @@
 use Rattle.std.proofs.Common.{refl, sym, ap, ◌∙◌, ◌≡◌, ℕ, ◌+◌, ◌-◌, ◌*◌, ◌/◌, ◌%◌, ◌<◌, ◌≤◌, Bool, true, false, not, Option, Some, None, arith, ⊎_elim, option_map, Result, Ok, Err, IfOk}
 use Rattle.std.proofs.lemmas.Bool.{true≢false, cases_Bool, cases_lt, and_parts}
 use Rattle.slot_space.specs.Limits.{slots_end}
-use Rattle.slot_space.specs.Places.{slot_base}
+use Rattle.slot_space.specs.Addresses.{slot_base}
 use Rattle.slot_space.specs.Sets.{has_run, lowest_run, IsSlotSet}
 use Rattle.slot_space.proofs.Lemmas.{has_run-each, has_run-all, lowest_run-some, lowest_run-none, lowest_run-found, lowest_run-missing}
 use Rattle.iso_blocks.specs.Heap.{Heap, is_free, Fits, IsLowestFit, has_room, place}

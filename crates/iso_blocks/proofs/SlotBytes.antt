@@ -5,7 +5,7 @@ use Rattle.std.proofs.lemmas.Bool.Decides.{nat_tests}
 use Rattle.std.proofs.lemmas.Bool.{false≢true, le-leb, lt-ltb, eq-eqb, ne_eqb, cases_lt, cases_eq, cases_Bool, or_cases, or_right, both_ways, eqb-true, eqb-false}
 use Rattle.slot_space.specs.Limits.{slot_size}
 use Rattle.slot_space.specs.Sets.{has, insert, minus, run}
-use Rattle.slot_space.specs.Places.{slot_base, HoldsAddress}
+use Rattle.slot_space.specs.Addresses.{slot_base, HoldsAddress}
 use Rattle.slot_space.proofs.Lemmas.{has-insert}
 use Rattle.slot_space.specs.WordsBack.{has-run}
 use Rattle.iso_blocks.specs.Bytes.{lies_in, in_slots, in_blocks, is_met}

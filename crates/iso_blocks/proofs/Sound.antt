@@ -4,7 +4,7 @@ use Rattle.std.specs.List.{AllPairs}
 use Rattle.std.proofs.lemmas.Bool.{true≢false, cases_Bool, and_parts, not-true}
 use Rattle.slot_space.specs.Limits.{slot_limit}
 use Rattle.slot_space.specs.Sets.{union, minus, run, IsSlotSet}
-use Rattle.slot_space.specs.Places.{HoldsAddress}
+use Rattle.slot_space.specs.Addresses.{HoldsAddress}
 use Rattle.slot_space.specs.WordsBack.{has-filter}
 use Rattle.slot_space.proofs.Lemmas.{has-union, has-minus, ascending-union, ascending-run, ascending-minus, below-union, below-run, below-minus}
 use Rattle.iso_blocks.specs.Bytes.{in_slots, in_blocks, is_met}

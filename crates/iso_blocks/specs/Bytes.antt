@@ -1,7 +1,7 @@
 -- Which bytes of the guest's memory lie in slots and in blocks. A block is its address and its size.
 use Rattle.std.specs.Prelude.{ℕ, ◌+◌, Bool, false, ◌&&◌, ◌||◌, List, [], ◌∷◌, nat_le, nat_lt}
 use Rattle.slot_space.specs.Limits.{slot_size}
-use Rattle.slot_space.specs.Places.{slot_base}
+use Rattle.slot_space.specs.Addresses.{slot_base}
 
 -- byte x is one of the bytes from `from` to before `end`
 abbrev pub lies_in : ℕ → ℕ → ℕ → Bool

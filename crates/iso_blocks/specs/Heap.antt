@@ -2,7 +2,7 @@
 use Rattle.std.specs.Prelude.{◌≡◌, ℕ, ◌+◌, ◌*◌, ◌/◌, ◌%◌, ◌<◌, ◌≤◌, Bool, true, false, not, ◌&&◌, List, [], ◌∷◌, Option, Some, None, nat_le, ◌==◌, filter, slice_index_or, if◌then◌else◌}
 use Rattle.std.specs.Option.{option_map}
 use Rattle.slot_space.specs.Limits.{slots_end}
-use Rattle.slot_space.specs.Places.{slot_base}
+use Rattle.slot_space.specs.Addresses.{slot_base}
 use Rattle.slot_space.specs.Sets.{minus, union, run, has_run, lowest_run, IsSlotSet}
 use Rattle.iso_blocks.specs.Bytes.{in_slots, in_blocks, is_met}
 

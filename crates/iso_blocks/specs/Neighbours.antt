@@ -1,6 +1,6 @@
 -- What stands beside a block in the row of live blocks.
 use Rattle.std.specs.Prelude.{◌≡◌, ℕ, ◌+◌, ◌-◌, ◌<◌, ◌≤◌, ◌^◌, zero, suc, List, [], ◌∷◌}
-use Rattle.slot_space.specs.Places.{slot_base}
+use Rattle.slot_space.specs.Addresses.{slot_base}
 
 -- where the block before place k ends, or the start of the row
 abbrev pub end_before : ℕ → List (ℕ × ℕ) → ℕ → ℕ

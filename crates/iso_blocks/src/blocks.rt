@@ -121,7 +121,7 @@ impl Blocks {
         if !check::are_sound(&layout.heap, live) {
             return Ok(None);
         }
-        layout.settle_all(live)?;
+        layout.occupy_all(live)?;
         Ok(Some(Blocks { layout }))
     }
 }

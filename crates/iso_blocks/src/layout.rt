@@ -50,7 +50,7 @@ impl Layout {
     }
 
     /// Makes the free bytes from `address` on a live block.
-    pub fn settle(&mut self, address: u64, size: u64) -> Result<(), NoMemory>
+    pub fn occupy(&mut self, address: u64, size: u64) -> Result<(), NoMemory>
         requires kept { IsKept self.old }
         requires some { 16 ≤ size }
         requires whole { size % 16 ≡ 0 }
@@ -94,7 +94,7 @@ impl Layout {
         match self.lowest(size) {
             None => Ok(None),
             Some(address) => {
-                self.settle(address, size)?;
+                self.occupy(address, size)?;
                 Ok(Some(address))
             }
         }
@@ -242,7 +242,7 @@ impl Layout {
     }
 
     /// Makes blocks that can stand in the heap slots live, where none is live yet.
-    pub fn settle_all(&mut self, live: &[(u64, u64)]) -> Result<(), NoMemory>
+    pub fn occupy_all(&mut self, live: &[(u64, u64)]) -> Result<(), NoMemory>
         requires kept { IsKept self.old }
         requires empty { self.old.live.items ≡ [] }
         requires sound { IsSound (record { live = live.now; slots = self.old.heap }) }
@@ -251,7 +251,7 @@ impl Layout {
     {
         for block in live {
             let (address, size) = *block;
-            self.settle(address, size)?;
+            self.occupy(address, size)?;
         }
         Ok(())
     }

@@ -2,7 +2,7 @@
 
 ghost use Rattle.std.specs.Prelude.{◌≡◌, ℕ, ◌+◌, ◌-◌, ◌<◌, ◌≤◌, ◌^◌};
 ghost use Rattle.slot_space.specs.Limits.{slots_start, slots_end, slot_limit};
-ghost use Rattle.slot_space.specs.Places.{slot_base, HoldsAddress};
+ghost use Rattle.slot_space.specs.Addresses.{slot_base, HoldsAddress};
 ghost use Rattle.iso_blocks.specs.Heap.{rounded as rounded_size};
 ghost use Rattle.iso_blocks.specs.Neighbours.{Owns};
 

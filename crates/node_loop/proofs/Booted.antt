@@ -29,7 +29,7 @@ use Rattle.run_trace.specs.Program.{Program, nodes_of, code_of, main_priority, t
 use Rattle.run_trace.specs.Guests.{Guest, Thread, Run, run_of, heap_of, with_placed, without_block, slots_for}
 use Rattle.run_trace.specs.Calls.{call_of, refusal, bytes_of, place_code}
 use Rattle.run_trace.specs.Places.{best_on, is_listed}
-use Rattle.pack_thread.specs.Threads.{Thread as Packed}
+use Rattle.pack_thread.specs.Threads.{PackedThread as Packed}
 use Rattle.run_trace.specs.Local.{Local, Doing, nothing, with_booted}
 use Rattle.run_trace.specs.Steps.{say, put, print, arrive, take_off, thread_at, at_thread, at_found, keep, thread_in, thread_out, slots_out, slots_in, name_in, change_name, halt, next_name, birth, ran, asks, asks_show, asks_join, halts, judge, tell_found, tell, settle, reply_by_link, takes_run, returns, gives, ends, leaves, comes, shows, acknowledges, hears, knows}
 use Rattle.run_trace.specs.Machine.{answer, end_thread, free_slot, creates_in, creates, settles, places, run_for, allocates_with, allocates, returns_any, frees_block, frees, goes, migrates, moves_found, does, calls, boots_in, boots, stopped, run_thread, run_found, run_picked, judges_join, tells_joiner, accepts, is_stray, takes, is_range, acts, local_event, turn_event, is_beyond}

@@ -1,6 +1,6 @@
 -- A thread that comes by its parts is the one of the packet.
 use Rattle.std.proofs.Common.{◌≡◌, ℕ, Bool, true, not, cond, sym, ap, ◌∙◌}
-use Rattle.pack_thread.specs.Threads.{Thread as Packed}
+use Rattle.pack_thread.specs.Threads.{PackedThread as Packed}
 use Rattle.run_trace.specs.declared.packet.Body.TheVariants.{Mover}
 use Rattle.run_trace.specs.Program.{Program}
 use Rattle.run_trace.specs.Local.{Doing, nothing}

@@ -1,7 +1,7 @@
 -- What an event of a node in code is.
 use Rattle.std.specs.Prelude.{◌≡◌, ℕ, ◌%◌, [], Option, Some, None, Bool, true, false, length, nat_lt}
 use Rattle.rv_inst.specs.declared.image.Image.{Image}
-use Rattle.slot_space.specs.Places.{starting_slots}
+use Rattle.slot_space.specs.Addresses.{starting_slots}
 use Rattle.run_trace.specs.declared.entry.Act.{Act}
 use Rattle.run_trace.specs.declared.entry.Act.TheVariants.{Boot, Run, Take, Move}
 use Rattle.run_trace.specs.declared.entry.Setup.{Setup}

@@ -11,7 +11,7 @@ use Rattle.rv_step.specs.Memory.{slots_of}
 use Rattle.rv_step.specs.Step.{state_of}
 use Rattle.lrpc.specs.declared.duty.Duty.TheVariants as duties
 use Rattle.pack_thread.specs.Rules.{KeepsRules}
-use Rattle.pack_thread.specs.Threads.{Thread as Packed, IsThread, IsTyped}
+use Rattle.pack_thread.specs.Threads.{PackedThread as Packed, IsThread, IsTyped}
 use Rattle.pack_thread.proofs.Lemmas.{packable, rules_of_typed}
 use Rattle.run_trace.specs.declared.node.Wait.{Wait}
 use Rattle.run_trace.specs.Guests.{packed, guest_slots, unpacked}

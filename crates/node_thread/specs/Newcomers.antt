@@ -1,5 +1,5 @@
 -- A thread that comes, as it is once its packet is opened.
-use Rattle.pack_thread.specs.Threads.{Thread as Packed}
+use Rattle.pack_thread.specs.Threads.{PackedThread as Packed}
 use Rattle.run_trace.specs.declared.node.Wait.TheVariants as wait
 use Rattle.run_trace.specs.Guests.{waits, unpacked}
 use Rattle.run_trace.specs.Machine.{is_unserving}

@@ -2,7 +2,7 @@
 use Rattle.std.proofs.Common.{◌≡◌, ℕ, zero, suc, ◌+◌, ◌-◌, ◌*◌, List, [], ◌∷◌, ◌++◌, length, take, drop, Option, Some, None, refl, ap, ◌∙◌, arith}
 use Rattle.std.specs.Option.{SomeIff}
 use Rattle.std.proofs.lemmas.List.{length-append, length-drop, take_all}
-use Rattle.rv_step.specs.Step.{State}
+use Rattle.rv_step.specs.Step.{HartState}
 use Rattle.byteorder.specs.Endian.{little_number}
 use Rattle.iso_blocks.specs.Heap.{Heap}
 use Rattle.pack_thread.specs.declared.opening.Opened.{Opened}
@@ -19,7 +19,7 @@ pub made : (r : Option Heap) (P : Type 0) (v h : Heap) → SomeIff r P v → r �
 made None P v h s e = absurd cc
 made (Some x) P v h s e = cc (s.1)
 
-pub built : (bytes : List ℕ) (o : Opened) (heap : Heap) (state : State) → IsOpen bytes o → state.regs ≡ o.regs → state.pc ≡ o.place.pc → heap ≡ record { live = live_of bytes o; slots = o.slots }
+pub built : (bytes : List ℕ) (o : Opened) (heap : Heap) (state : HartState) → IsOpen bytes o → state.regs ≡ o.regs → state.pc ≡ o.place.pc → heap ≡ record { live = live_of bytes o; slots = o.slots }
     → numbers_of (record { tid = o.who.tid; priority = o.who.priority; calls = o.who.calls; duty = o.duty; state = state; stack = o.place.stack; heap = heap }) ≡ opened_numbers bytes o
 built bytes o heap state rules regs pc e = rw (e, regs, pc, rules.counted, length-blocks_at bytes (live_at o) o.live) refl
 

@@ -11,7 +11,7 @@ use Rattle.lrpc.specs.declared.duty.Duty.TheVariants as duties
 use Rattle.pack_thread.specs.Fields.{Obey}
 use Rattle.pack_thread.specs.Grammar.{thread_fields, duty_fields, register_fields, place_fields, slot_fields, live_fields, block_fields, is_start, is_size}
 use Rattle.pack_thread.specs.Rules.{ServesNodes, KeepsRules}
-use Rattle.pack_thread.specs.Threads.{Thread, duty_numbers, block_numbers, heap_numbers, numbers_of}
+use Rattle.pack_thread.specs.Threads.{PackedThread, duty_numbers, block_numbers, heap_numbers, numbers_of}
 use Rattle.pack_thread.proofs.BlockRules.{run_all, all_run}
 use Rattle.pack_thread.proofs.Limits.{slots_few, with_stack}
 use Rattle.slot_space.proofs.Lemmas.{length-insert}
@@ -142,10 +142,10 @@ duty_obeyed (duties.Paid call) rest o = ((ltb-true _ _ o.1.0, ltb-true _ _ o.1.1
 
 -- ## The whole thread
 
-abbrev behind_regs : Thread → List ℕ
+abbrev behind_regs : PackedThread → List ℕ
 behind_regs t = t.state.pc ∷ t.stack ∷ length t.heap.slots ∷ heap_numbers t.heap
 
-pub obeys : (t : Thread) → length t.state.regs ≡ 32 → KeepsRules t → Obey thread_fields (numbers_of t)
+pub obeys : (t : PackedThread) → length t.state.regs ≡ 32 → KeepsRules t → Obey thread_fields (numbers_of t)
 unfolding Obey thread_fields place_fields
 obeys t regs k =
     let few : length t.heap.slots < slot_limit = omega (arith, slots_few (insert t.stack t.heap.slots) (with_stack t.stack t.heap.slots k.stack k.heap), length-insert t.stack t.heap.slots k.apart) in
@@ -168,7 +168,7 @@ obeys t regs k =
       ),
     )
 
-pub keeps : (t : Thread) → length t.state.regs ≡ 32 → Obey thread_fields (numbers_of t) → KeepsRules t
+pub keeps : (t : PackedThread) → length t.state.regs ≡ 32 → Obey thread_fields (numbers_of t) → KeepsRules t
 unfolding Obey thread_fields place_fields
 keeps t regs o =
     let d = duty_obeyed t.duty (drop 1 t.state.regs ++ behind_regs t) o.1.1.1.1.1 in

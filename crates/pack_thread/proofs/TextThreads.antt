@@ -10,7 +10,7 @@ use Rattle.pack_thread.specs.declared.opening.Opened.{Opened}
 use Rattle.pack_thread.specs.Grammar.{read_text}
 use Rattle.pack_thread.specs.Opened.{live_of, slots_at, opened_numbers, reading_of, IsOpen}
 use Rattle.pack_thread.specs.Packed.{duty_numbered, call_numbered, blocks_numbered, memory_in, heap_numbered, thread_numbered, thread_read, thread_in}
-use Rattle.pack_thread.specs.Threads.{Thread, duty_numbers, block_numbers, heap_numbers, numbers_of, bytes_of, head_of, text_of, AreWhole, IsThread, IsTyped, IsTextOf}
+use Rattle.pack_thread.specs.Threads.{PackedThread, duty_numbers, block_numbers, heap_numbers, numbers_of, bytes_of, head_of, text_of, AreWhole, IsThread, IsTyped, IsTextOf}
 use Rattle.pack_thread.proofs.Building.{built}
 use Rattle.pack_thread.proofs.FieldLaws.{IsBytes}
 use Rattle.slot_space.proofs.Lemmas.{length-insert}
@@ -63,7 +63,7 @@ memory_bytes (s ∷ slots) bytes len =
 
 -- ## The whole thread
 
-abbrev behind_regs : Thread → List ℕ
+abbrev behind_regs : PackedThread → List ℕ
 behind_regs t = t.state.pc ∷ t.stack ∷ length t.heap.slots ∷ heap_numbers t.heap
 
 -- what stands behind the slots and one number more
@@ -71,7 +71,7 @@ behind_slots : (xs ys : List ℕ) (n : ℕ) → drop (suc (length xs)) (xs ++ n 
 behind_slots [] ys n = refl
 behind_slots (x ∷ xs) ys n = behind_slots xs ys n
 
-numbers_again : (t : Thread) → IsThread t → IsTyped t → thread_numbered (numbers_of t) (bytes_of t.state.memory) ≡ t
+numbers_again : (t : PackedThread) → IsThread t → IsTyped t → thread_numbered (numbers_of t) (bytes_of t.state.memory) ≡ t
 numbers_again t rules typed =
     let ns : List ℕ = numbers_of t in
     let regs : List ℕ = drop 1 t.state.regs in
@@ -98,7 +98,7 @@ numbers_again t rules typed =
     get_or-drop' : (xs : List ℕ) (n i : ℕ) → get_or (drop n xs) i 0 ≡ get_or xs (n + i) 0
     get_or-drop' xs n i = rw get_or-drop refl
 
-pub thread_again : (t : Thread) → IsThread t → IsTyped t → thread_in (text_of t) ≡ t
+pub thread_again : (t : PackedThread) → IsThread t → IsTyped t → thread_in (text_of t) ≡ t
 unfolding thread_in
 thread_again t rules typed =
     ap (thread_read (text_of t)) (text_read t rules typed)
@@ -107,7 +107,7 @@ thread_again t rules typed =
 
 -- ## The thread of an opened text
 
-opened_thread : List ℕ → Opened → Thread
+opened_thread : List ℕ → Opened → PackedThread
 opened_thread bytes o = record {
   tid = o.who.tid;
   priority = o.who.priority;
@@ -128,7 +128,7 @@ opened_text bytes o fits e rules whole =
     (memory_slots held (drop (slots_at o) bytes)) (memory_bytes held (drop (slots_at o) bytes) count)
 
 -- bytes that are the text of a thread are that of the thread that is computed from them
-pub text_again : (bytes : List ℕ) (t : Thread) → IsTextOf bytes t → IsTextOf bytes (thread_in bytes)
+pub text_again : (bytes : List ℕ) (t : PackedThread) → IsTextOf bytes t → IsTextOf bytes (thread_in bytes)
 text_again bytes t is =
     let same : thread_in bytes ≡ t = ap thread_in is.text ∙ thread_again t is.rules is.typed in
     rw same is

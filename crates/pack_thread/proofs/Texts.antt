@@ -11,7 +11,7 @@ use Rattle.rv_step.specs.declared.memory.Held.{Held}
 use Rattle.rv_step.specs.Memory.{Memory, slots_of}
 use Rattle.pack_thread.specs.Fields.{Reading, spelled, Obey, Fit, blocks_behind, read}
 use Rattle.pack_thread.specs.Grammar.{thread_fields, duty_fields, register_fields, place_fields, slot_fields, live_fields, block_fields, ends, read_text}
-use Rattle.pack_thread.specs.Threads.{Thread, duty_numbers, block_numbers, heap_numbers, numbers_of, bytes_of, head_of, text_of, AreWhole, IsThread, IsTyped, IsTextOf}
+use Rattle.pack_thread.specs.Threads.{PackedThread, duty_numbers, block_numbers, heap_numbers, numbers_of, bytes_of, head_of, text_of, AreWhole, IsThread, IsTyped, IsTextOf}
 use Rattle.pack_thread.proofs.FieldLaws.{IsBytes, takes, again}
 use Rattle.slot_space.proofs.Lemmas.{length-insert}
 use Rattle.pack_thread.proofs.RuleLaws.{keeps}
@@ -46,7 +46,7 @@ behind_live : (live : List (ℕ × ℕ)) (slots : List ℕ) → blocks_behind (l
 unfolding blocks_behind live_fields
 behind_live live slots = behind_blocks live 0 slots
 
-pub blocks_of_thread : (t : Thread) → length t.state.regs ≡ 32 → blocks_behind thread_fields (numbers_of t) ≡ length t.heap.slots + 1
+pub blocks_of_thread : (t : PackedThread) → length t.state.regs ≡ 32 → blocks_behind thread_fields (numbers_of t) ≡ length t.heap.slots + 1
 unfolding blocks_behind thread_fields place_fields
 blocks_of_thread t regs =
     behind_duty t.duty _ ∙ behind_registers 31 (drop 1 t.state.regs) _ (omega (arith, length-drop 1 t.state.regs))
@@ -58,7 +58,7 @@ length-bytes_of : (m : Memory) → AreWhole m → length (bytes_of m) ≡ slot_s
 length-bytes_of [] whole = refl
 length-bytes_of (h ∷ m) whole = omega (arith, length-append h.block (bytes_of m), whole.0, length-bytes_of m whole.1)
 
-pub length-memory : (t : Thread) → IsThread t → IsTyped t → length (bytes_of t.state.memory) ≡ slot_size * (length t.heap.slots + 1)
+pub length-memory : (t : PackedThread) → IsThread t → IsTyped t → length (bytes_of t.state.memory) ≡ slot_size * (length t.heap.slots + 1)
 length-memory t rules typed =
     let count : length t.state.memory ≡ length t.heap.slots + 1 =
     sym (length-map t.state.memory (λ (h : Held). h.slot)) ∙ ap length rules.holds ∙ length-insert t.stack t.heap.slots (keeps t typed.regs rules.rules).apart in
@@ -66,10 +66,10 @@ length-memory t rules typed =
 
 -- ## A text is read
 
-abbrev pub reading : Thread → Reading
+abbrev pub reading : PackedThread → Reading
 reading t = record { numbers = numbers_of t; at = length (head_of t); blocks = length t.heap.slots + 1 }
 
-pub head_read : (t : Thread) (rest : List ℕ) → IsThread t → IsTyped t → read thread_fields (head_of t ++ rest) 0 ≡ Ok (reading t)
+pub head_read : (t : PackedThread) (rest : List ℕ) → IsThread t → IsTyped t → read thread_fields (head_of t ++ rest) 0 ≡ Ok (reading t)
 head_read t rest rules typed =
     again thread_fields (numbers_of t) [] rest rules.rules typed.numbers
     ∙ ap (λ at. Ok (record { numbers = numbers_of t; at = at; blocks = blocks_behind thread_fields (numbers_of t) })) (zero-add (length (head_of t)))
@@ -78,7 +78,7 @@ head_read t rest rules typed =
 pub ends_whole : (bytes : List ℕ) (r : Reading) → length bytes ≡ r.at + slot_size * r.blocks → ends bytes (Ok r) ≡ Ok r
 ends_whole bytes r e = rw (le-ltb (length bytes) (r.at + slot_size * r.blocks) (omega (arith, e)), le-ltb (r.at + slot_size * r.blocks) (length bytes) (omega (arith, e))) refl
 
-pub text_read : (t : Thread) → IsThread t → IsTyped t → read_text (text_of t) ≡ Ok (reading t)
+pub text_read : (t : PackedThread) → IsThread t → IsTyped t → read_text (text_of t) ≡ Ok (reading t)
 text_read t rules typed =
     ap (ends (text_of t)) (head_read t (bytes_of t.state.memory) rules typed)
     ∙ ends_whole (text_of t) (reading t) (length-append (head_of t) (bytes_of t.state.memory) ∙ ap (λ n. length (head_of t) + n) (length-memory t rules typed))
@@ -165,7 +165,7 @@ same_memory (h ∷ m) (k ∷ n) slots wm wn e =
     let slot : h.slot ≡ k.slot = cc in
     cc (same_held h k slot parts.0, rest)
 
-thread_of_parts : (home seq priority calls : ℕ) → Duty → (regs : List ℕ) (pc : ℕ) → Memory → (stack : ℕ) → List (ℕ × ℕ) → List ℕ → Thread
+thread_of_parts : (home seq priority calls : ℕ) → Duty → (regs : List ℕ) (pc : ℕ) → Memory → (stack : ℕ) → List (ℕ × ℕ) → List ℕ → PackedThread
 thread_of_parts home seq priority calls duty regs pc memory stack live slots = record {
   tid = record { home = home; seq = seq };
   priority = priority;
@@ -176,7 +176,7 @@ thread_of_parts home seq priority calls duty regs pc memory stack live slots = r
   heap = record { live = live; slots = slots };
 }
 
-pub same_thread : (t u : Thread) → t.tid.home ≡ u.tid.home → t.tid.seq ≡ u.tid.seq → t.priority ≡ u.priority → t.calls ≡ u.calls → t.duty ≡ u.duty → t.state.regs ≡ u.state.regs
+pub same_thread : (t u : PackedThread) → t.tid.home ≡ u.tid.home → t.tid.seq ≡ u.tid.seq → t.priority ≡ u.priority → t.calls ≡ u.calls → t.duty ≡ u.duty → t.state.regs ≡ u.state.regs
     → t.state.pc ≡ u.state.pc → t.state.memory ≡ u.state.memory → t.stack ≡ u.stack → t.heap.live ≡ u.heap.live → t.heap.slots ≡ u.heap.slots → t ≡ u
 unfolding thread_of_parts
 same_thread t u home seq priority calls duty regs pc memory stack live slots =
@@ -185,11 +185,11 @@ same_thread t u home seq priority calls duty regs pc memory stack live slots =
     = rw (home, seq, priority, calls, duty, regs, pc, memory, stack, live, slots) refl in
     made
 
-abbrev behind_regs : Thread → List ℕ
+abbrev behind_regs : PackedThread → List ℕ
 behind_regs t = t.state.pc ∷ t.stack ∷ length t.heap.slots ∷ heap_numbers t.heap
 
 -- the numbers and the bytes of the memory are the thread
-same_parts : (t u : Thread) → IsThread t → IsTyped t → IsThread u → IsTyped u → numbers_of t ≡ numbers_of u → bytes_of t.state.memory ≡ bytes_of u.state.memory → t ≡ u
+same_parts : (t u : PackedThread) → IsThread t → IsTyped t → IsThread u → IsTyped u → numbers_of t ≡ numbers_of u → bytes_of t.state.memory ≡ bytes_of u.state.memory → t ≡ u
 same_parts t u rt yt ru yu e m =
     let home : t.tid.home ≡ u.tid.home = cc in
     let seq : t.tid.seq ≡ u.tid.seq = cc in
@@ -211,7 +211,7 @@ same_parts t u rt yt ru yu e m =
     let held : slots_of t.state.memory ≡ slots_of u.state.memory = rt.holds ∙ ap (λ x. insert x t.heap.slots) stack ∙ ap (insert u.stack) slots ∙ sym ru.holds in
     same_thread t u home seq priority calls d.0 regs pc (same_memory t.state.memory u.state.memory held yt.blocks yu.blocks m) stack live slots
 
-pub one_thread : (t u : Thread) → IsThread t → IsTyped t → IsThread u → IsTyped u → text_of t ≡ text_of u → t ≡ u
+pub one_thread : (t u : PackedThread) → IsThread t → IsTyped t → IsThread u → IsTyped u → text_of t ≡ text_of u → t ≡ u
 one_thread t u rt yt ru yu e =
     let both : Ok (reading t) ≡ Ok (reading u) = sym (text_read t rt yt) ∙ ap read_text e ∙ text_read u ru yu in
     let same : reading t ≡ reading u = cc in
@@ -242,7 +242,7 @@ is_read bytes numbers at blocks fits e =
     record { rules = t.obey; fit = t.fit; text = t.text }
 
 -- a thread with the numbers that were read, and with the bytes behind them, is a thread whose text the bytes are
-pub found : (bytes numbers : List ℕ) (at blocks : ℕ) (t : Thread) → IsBytes bytes → read_text bytes ≡ Ok (record { numbers = numbers; at = at; blocks = blocks }) → numbers_of t ≡ numbers
+pub found : (bytes numbers : List ℕ) (at blocks : ℕ) (t : PackedThread) → IsBytes bytes → read_text bytes ≡ Ok (record { numbers = numbers; at = at; blocks = blocks }) → numbers_of t ≡ numbers
     → (get_or t.state.regs 0 0 ≡ 0) × (length t.state.regs ≡ 32) → slots_of t.state.memory ≡ insert t.stack t.heap.slots → (bytes_of t.state.memory ≡ drop at bytes) × AreWhole t.state.memory → IsTextOf bytes t
 found bytes numbers at blocks t fits e same regs holds memory =
     let r = is_read bytes numbers at blocks fits e in

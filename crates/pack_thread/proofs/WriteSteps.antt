@@ -4,7 +4,7 @@ use Rattle.std.proofs.lemmas.List.{append-nil, take_all, take_more, length-take}
 use Rattle.byteorder.specs.Endian.{little_bytes}
 use Rattle.pack_thread.specs.Fields.{Fields, Blocks, Field, spelled, Fit}
 use Rattle.pack_thread.specs.Grammar.{magic, any, is_heap_slot, is_start, is_size, thread_fields, duty_fields, register_fields, place_fields, slot_fields, live_fields, block_fields}
-use Rattle.pack_thread.specs.Threads.{Thread, duty_numbers, block_numbers, numbers_of}
+use Rattle.pack_thread.specs.Threads.{PackedThread, duty_numbers, block_numbers, numbers_of}
 use Rattle.pack_thread.specs.Writing.{Writes}
 
 pub writes_none : (old : List ℕ) (f : Fields) → Writes old old f [] f
@@ -133,7 +133,7 @@ writes_all old new f ns count w =
     (sym (append-nil new) ∙ sym (w.text []) ∙ ap (λ (ks : List ℕ). old ++ spelled f ks) (append-nil ns), rw append-nil at (w.fit [] tt))
 
 -- the sections of a thread's head, one after another
-pub head_written : (t : Thread) (a b c d e f g : List ℕ) (left : Fields) → Writes a b thread_fields (magic ∷ t.tid.home ∷ t.tid.seq ∷ t.priority ∷ t.calls ∷ []) duty_fields
+pub head_written : (t : PackedThread) (a b c d e f g : List ℕ) (left : Fields) → Writes a b thread_fields (magic ∷ t.tid.home ∷ t.tid.seq ∷ t.priority ∷ t.calls ∷ []) duty_fields
     → Writes b c duty_fields (duty_numbers t.duty) (register_fields 31) → Writes c d (register_fields 31) (drop 1 t.state.regs) place_fields
     → Writes d e place_fields (t.state.pc ∷ t.stack ∷ length t.heap.slots ∷ []) (slot_fields (length t.heap.slots) 0 t.stack [])
     → Writes e f (slot_fields (length t.heap.slots) 0 t.stack []) t.heap.slots (live_fields t.heap.slots)

@@ -3,14 +3,14 @@ use Rattle.std.specs.Prelude.{ℕ, zero, suc, List, [], ◌∷◌, take, drop, s
 use Rattle.slot_space.specs.Limits.{slot_size}
 use Rattle.slot_space.specs.Sets.{insert}
 use Rattle.rv_step.specs.Memory.{Memory}
-use Rattle.rv_step.specs.Step.{State}
+use Rattle.rv_step.specs.Step.{HartState}
 use Rattle.iso_blocks.specs.Heap.{Heap}
 use Rattle.lrpc.specs.declared.call.CallNo.{CallNo}
 use Rattle.lrpc.specs.declared.duty.Duty.{Duty}
 use Rattle.lrpc.specs.declared.duty.Duty.TheVariants as duties
 use Rattle.pack_thread.specs.Fields.{Reading}
 use Rattle.pack_thread.specs.Grammar.{read_text}
-use Rattle.pack_thread.specs.Threads.{Thread}
+use Rattle.pack_thread.specs.Threads.{PackedThread}
 
 -- a duty by its number
 abbrev pub duty_numbered : ℕ → CallNo → Duty
@@ -38,7 +38,7 @@ memory_in (s ∷ slots) bytes = (record { slot = s; block = take slot_size bytes
 abbrev pub heap_numbered : List ℕ → Heap
 heap_numbered ns = record { live = blocks_numbered (drop (suc (slice_index ns 0)) (drop 1 ns)); slots = take (slice_index ns 0) (drop 1 ns) }
 
-abbrev pub state_numbered : List ℕ → List ℕ → State
+abbrev pub state_numbered : List ℕ → List ℕ → HartState
 state_numbered ns bytes = record {
   regs = 0 ∷ take 31 (drop 10 ns);
   pc = slice_index ns 41;
@@ -46,7 +46,7 @@ state_numbered ns bytes = record {
 }
 
 -- the thread of these numbers, in the order of the fields, with the bytes of its slots
-abbrev pub thread_numbered : List ℕ → List ℕ → Thread
+abbrev pub thread_numbered : List ℕ → List ℕ → PackedThread
 thread_numbered ns bytes = record {
   tid = record { home = slice_index ns 1; seq = slice_index ns 2 };
   priority = slice_index ns 3;
@@ -58,18 +58,18 @@ thread_numbered ns bytes = record {
 }
 
 -- the thread of what was read of bytes
-abbrev pub thread_read : List ℕ → Result Reading ℕ → Thread
+abbrev pub thread_read : List ℕ → Result Reading ℕ → PackedThread
 thread_read bytes (Ok reading) = thread_numbered reading.numbers (drop reading.at bytes)
 thread_read bytes (Err offset) = thread_numbered [] []
 
 -- the thread whose text the bytes are; what it is of other bytes doesn't matter
-unfoldable pub thread_in : List ℕ → Thread
+unfoldable pub thread_in : List ℕ → PackedThread
 thread_in bytes = thread_read bytes (read_text bytes)
 
 -- the thread whose text the bytes are, or none where they are refused
-abbrev pub thread_if : List ℕ → Result Reading ℕ → Option Thread
+abbrev pub thread_if : List ℕ → Result Reading ℕ → Option PackedThread
 thread_if bytes (Ok reading) = Some (thread_in bytes)
 thread_if bytes (Err offset) = None
 
-abbrev pub thread_from : List ℕ → Option Thread
+abbrev pub thread_from : List ℕ → Option PackedThread
 thread_from bytes = thread_if bytes (read_text bytes)

@@ -6,7 +6,7 @@ use Rattle.iso_blocks.specs.Heap.{IsSound}
 use Rattle.lrpc.specs.declared.call.CallNo.{CallNo}
 use Rattle.lrpc.specs.declared.duty.Duty.{Duty}
 use Rattle.lrpc.specs.declared.duty.Duty.TheVariants as duties
-use Rattle.pack_thread.specs.Threads.{Thread}
+use Rattle.pack_thread.specs.Threads.{PackedThread}
 
 -- the caller's home and the node where it asked are nodes
 abbrev pub NamesNodes : CallNo → Type 0
@@ -20,7 +20,7 @@ ServesNodes (duties.Owes call) = NamesNodes call
 ServesNodes (duties.Paid call) = NamesNodes call
 
 -- nodes, priority and slots are in range, the pc is a multiple of 4, and the live blocks lie in the heap slots, of which the stack slot is none
-pub record KeepsRules (t : Thread) : Type 0 where
+pub record KeepsRules (t : PackedThread) : Type 0 where
   pub home : t.tid.home < node_limit
   pub priority : t.priority ≤ 7
   pub duty : ServesNodes t.duty

@@ -22,9 +22,9 @@ pub struct Packed {
 
 impl Model for Packed {
     ghost use Rattle.pack_thread.specs.Packed.{thread_in};
-    ghost use Rattle.pack_thread.specs.Threads.{Thread, IsTextOf};
+    ghost use Rattle.pack_thread.specs.Threads.{PackedThread, IsTextOf};
 
-    ghost Value = { Thread };
+    ghost Value = { PackedThread };
 
     ghost view = { λ p. thread_in p.bytes.items };
 

@@ -7,7 +7,7 @@ ghost use Rattle.rv_step.specs.Memory.{slots_of};
 ghost use Rattle.pack_thread.specs.Grammar.{read_text};
 ghost use Rattle.pack_thread.specs.Opened.{slots_at, opened_numbers, IsOpen};
 ghost use Rattle.pack_thread.specs.Reading.{blocks_at};
-ghost use Rattle.pack_thread.specs.Threads.{Thread, thread_of, bytes_of, numbers_of, AreWhole, text_of, IsThread, IsTyped, Gives};
+ghost use Rattle.pack_thread.specs.Threads.{PackedThread, thread_of, bytes_of, numbers_of, AreWhole, text_of, IsThread, IsTyped, Gives};
 
 use crate::baggage::Baggage;
 use crate::error::UnpackError;
@@ -29,7 +29,7 @@ pub fn unpack(alloc: Global, bytes: &[u8], pool: &mut Pool) -> Result<Baggage, U
     // Bytes outside the grammar are refused at the place where their reading is, whatever memory there is.
     ensures refused { (offset : ℕ) → (result ≡ Err (UnpackError.BadImage offset)) ↔ (read_text bytes.now ≡ Err offset) }
     // The text of a thread gives that thread, unless memory runs out.
-    ensures again { (t : Thread) → IsThread t → IsTyped t → bytes.now ≡ text_of t → Gives t result }
+    ensures again { (t : PackedThread) → IsThread t → IsTyped t → bytes.now ≡ text_of t → Gives t result }
     ensures taken { IfOk result (λ b. pool.new + (length b.blocks.slots + 1) ≡ max pool.old (length b.blocks.slots + 1)) }
     ensures kept { OnErr result (pool.old ≤ pool.new) }
 {

@@ -8,7 +8,7 @@ use Rattle.slot_space.specs.declared.names.Tid.{Tid}
 use Rattle.slot_space.specs.declared.names.Reply.TheVariants as replies
 use Rattle.rv_step.specs.Run.{after, StopsBy}
 use Rattle.marcel_core.specs.Homes.{joiner}
-use Rattle.rv_step.specs.Step.{State}
+use Rattle.rv_step.specs.Step.{HartState}
 use Rattle.run_trace.specs.declared.entry.Act.{Act}
 use Rattle.run_trace.specs.declared.entry.Act.TheVariants.{Run}
 use Rattle.run_trace.specs.declared.entry.Entry.{Entry}
@@ -57,7 +57,7 @@ SoloRule p o n (Born t why entry a0 a1 sp slot) w =
     let bytes : List ℕ = stack_bytes why w.spots.remote in
     IsBorn p n why entry a0 w.spots × (a1 ≡ length bytes) × (sp ≡ stack_start slot (length bytes))
 SoloRule p o n (Ran t vp count stop) w =
-    let s : State = (w.spots.threads t).guest.solo.state in
+    let s : HartState = (w.spots.threads t).guest.solo.state in
     (after (code_of p) s count ≡ Some (stepped (code_of p) count s)) × StopsBy (code_of p) (stepped (code_of p) count s) (quantum_in o.act) count stop
 SoloRule p o n (Asked t call args bytes) w =
     let x : Solo = (w.spots.threads t).guest.solo in let c : Call = call_of x.state in

@@ -6,7 +6,7 @@ use Rattle.std.specs.List.{filter}
 use Rattle.std.proofs.lemmas.Bool.{eq-eqb, eqb-true, eqb-false, cases_eq, cases_lt, lt-ltb, le-ltb, ltb-true, ltb-false}
 use Rattle.slot_space.specs.Limits.{slot_limit}
 use Rattle.slot_space.specs.Sets.{has, IsAscending, AreBelow, IsSlotSet, insert, union, minus, least_from, run}
-use Rattle.slot_space.specs.Places.{starting_slots}
+use Rattle.slot_space.specs.Addresses.{starting_slots}
 use Rattle.slot_space.specs.WordsBack.{has-filter, has-run}
 use Rattle.slot_space.proofs.Sets.{has-insert, has-union, has-minus, has-append}
 

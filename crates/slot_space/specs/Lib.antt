@@ -1,5 +1,5 @@
 pub mod Limits
-pub mod Places
+pub mod Addresses
 pub mod Replies
 pub mod Sets
 pub mod Words

@@ -2,7 +2,7 @@
 
 ghost use Rattle.std.specs.Prelude.{◌≡◌, ℕ, ◌+◌, ◌*◌, ◌<◌, ◌≤◌, ◌↔◌, ◌⊎◌, None, IfSome, MatchOption};
 ghost use Rattle.slot_space.specs.Limits.{node_limit, slot_limit};
-ghost use Rattle.slot_space.specs.Places.{slot_base, HoldsAddress};
+ghost use Rattle.slot_space.specs.Addresses.{slot_base, HoldsAddress};
 
 use crate::names::SlotNo;
 

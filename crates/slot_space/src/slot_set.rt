@@ -5,7 +5,7 @@ ghost use Rattle.std.specs.Cmp.Lexicographic.{pointwise, nat_list_eq_equiv};
 ghost use Rattle.std.specs.Cmp.{partial_equiv_from_equiv};
 ghost use Rattle.slot_space.specs.Sets.{has, insert, union, minus, meets, run, least_from, lowest_run, IsSlotSet};
 ghost use Rattle.slot_space.specs.Limits.{slot_limit};
-ghost use Rattle.slot_space.specs.Places.{starting_slots};
+ghost use Rattle.slot_space.specs.Addresses.{starting_slots};
 
 use crate::bits;
 use crate::geometry::{Geometry, SLOT_LIMIT};

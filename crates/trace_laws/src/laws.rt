@@ -3,7 +3,7 @@
 ghost use Rattle.run_trace.specs.Trees.{Tree, processors, covers, depth_of, is_leaf, next_towards};
 ghost use Rattle.std.specs.Prelude.{suc, ◌≡◌, ◌<◌, ◌≤◌, ◌⊎◌, ℕ, List, map, ◌++◌, ◌∷◌, ◌↔◌, Some, [], false, true};
 ghost use Rattle.rv_step.specs.Run.{after, StopsBy};
-ghost use Rattle.rv_step.specs.Step.{State};
+ghost use Rattle.rv_step.specs.Step.{HartState};
 ghost use Rattle.rv_step.specs.declared.hart.Stop.{Stop};
 ghost use Rattle.slot_space.specs.declared.names.Tid.{Tid};
 ghost use Rattle.marcel_core.specs.declared.end.End.{End};
@@ -129,7 +129,7 @@ pub fn same_wherever()
 
 /// What does a run's steps and stops by a run's reason is the run that the machine makes.
 pub fn ran()
-    ensures { (image : List ℕ) (quantum count : ℕ) (s new : State) (stop : Stop) → after image s count ≡ Some new → StopsBy image new quantum count stop → run_of image quantum s ≡ record { count = count; stop = stop; state = new } }
+    ensures { (image : List ℕ) (quantum count : ℕ) (s new : HartState) (stop : Stop) → after image s count ≡ Some new → StopsBy image new quantum count stop → run_of image quantum s ≡ record { count = count; stop = stop; state = new } }
 {}
 
 /// A fresh node, asked to begin, does exactly what a legal trace begins with; and the beginnings of all nodes are a legal trace.

@@ -6,7 +6,7 @@ use Rattle.std.proofs.lemmas.List.{append-nil}
 use Rattle.std.proofs.lemmas.Bool.Decides.{nat_tests}
 use Rattle.rv_step.specs.Access.{bytes_from}
 use Rattle.rv_step.specs.Memory.{Memory}
-use Rattle.rv_step.specs.Step.{State, Call as ecall, step_of}
+use Rattle.rv_step.specs.Step.{HartState, Call as ecall, step_of}
 use Rattle.rv_step.specs.Run.{after, next_of, StopsBy}
 use Rattle.rv_step.specs.declared.hart.Stop.{Stop}
 use Rattle.rv_step.specs.declared.hart.Stop.TheVariants as stops
@@ -17,7 +17,7 @@ use Rattle.marcel_core.specs.declared.end.End.{End}
 use Rattle.marcel_core.specs.declared.end.End.TheVariants as end_of
 use Rattle.marcel_core.specs.Homes.{verdict, joiner}
 use Rattle.slot_space.specs.Sets.{run, lowest_run}
-use Rattle.slot_space.specs.Places.{slot_base}
+use Rattle.slot_space.specs.Addresses.{slot_base}
 use Rattle.slot_space.specs.Replies.{reply_code, tid_value}
 use Rattle.slot_space.specs.declared.names.Tid.{Tid}
 use Rattle.slot_space.specs.declared.names.Reply.{Reply}
@@ -47,14 +47,14 @@ use Rattle.trace_laws.proofs.Lives.OwnLives.{exit_value, ends_as, end_at, began,
 
 -- ## Steps
 
-after_sum : (image : List ℕ) (s mid : State) (a b : ℕ) → after image s a ≡ Some mid → after image s (a + b) ≡ after image mid b
+after_sum : (image : List ℕ) (s mid : HartState) (a b : ℕ) → after image s a ≡ Some mid → after image s (a + b) ≡ after image mid b
 unfolding after
 after_sum image s mid a zero h = let same : a + 0 ≡ a = omega arith in ap (after image s) same ∙ h
 after_sum image s mid a (suc b) h =
     let same : a + suc b ≡ suc (a + b) = omega arith in
     ap (after image s) same ∙ ap (λ o. option_and_then (λ x. next_of (step_of image x)) o) (after_sum image s mid a b h)
 
-after_nothing : (image : List ℕ) (s : State) → after image s 0 ≡ Some s
+after_nothing : (image : List ℕ) (s : HartState) → after image s 0 ≡ Some s
 unfolding after
 after_nothing image s = refl
 
@@ -240,7 +240,7 @@ own_ran p n count quantum stop s lines a e steps reason k = record { calls = k.c
     x : Solo
     x = s.guest.solo
 
-    next : State
+    next : HartState
     next = stepped (code_of p) count x.state
 
     was : IsReady (code_of p) a x lines
@@ -415,7 +415,7 @@ told_then a = record a { stretches = (record { instructions = a.since; gift = a.
 pub came_so : (image : List ℕ) (a : Lived) (y : Solo) → Comes image a y → ran_on image a.since (solo_after image a.start a.stretches) ≡ y
 came_so image a y r =
     let base : Solo = solo_after image a.start a.stretches in
-    ap (λ (o : Option State). record base { state = unwrap_or o base.state }) r.steps ∙ sym r.rest
+    ap (λ (o : Option HartState). record base { state = unwrap_or o base.state }) r.steps ∙ sym r.rest
 
 told_calls : (image : List ℕ) (v : Response) (a : Lived) (x : Solo) (lines : List (List ℕ)) → EachCalls image a.start a.stretches → IsJudged image v a x lines
     → EachCalls image a.start (told_then a).stretches

@@ -3,11 +3,11 @@
 use Rattle.std.proofs.Common.{◌≡◌, ℕ, suc, ◌+◌, List, [], ◌∷◌, ◌++◌, Some, Bool, true, false, refl, sym, ap, ◌∙◌, subst, arith, map}
 use Rattle.std.specs.Prelude.{length, nat_lt, ◌==◌, if◌then◌else◌, ⊤}
 use Rattle.rv_step.specs.Access.{bytes_from}
-use Rattle.rv_step.specs.Step.{State, Outcome, Call as ecall, Fault, step_of}
+use Rattle.rv_step.specs.Step.{HartState, Outcome, Call as ecall, Fault, step_of}
 use Rattle.rv_step.specs.Run.{after}
 use Rattle.rv_step.specs.Birth.{told as hart_told}
 use Rattle.rv_step.specs.declared.hart.Stop.TheVariants as stops
-use Rattle.slot_space.specs.Places.{slot_base}
+use Rattle.slot_space.specs.Addresses.{slot_base}
 use Rattle.iso_blocks.specs.Heap.{rounded, with_block, without, emptied}
 use Rattle.run_trace.specs.declared.call.Call.{Call}
 use Rattle.run_trace.specs.declared.call.Call.TheVariants.{Exit, Isomalloc, Isofree, Print}
@@ -67,12 +67,12 @@ abbrev pub line_if : Bool → List ℕ → List (List ℕ)
 line_if true line = line ∷ []
 line_if false line = []
 
-abbrev pub printed_by : List ℕ → Call → ℕ → State → List (List ℕ)
+abbrev pub printed_by : List ℕ → Call → ℕ → HartState → List (List ℕ)
 printed_by image (Print address len) code s = line_if (code == 0) (bytes_from image s.memory address len)
 printed_by image _ code s = []
 
 -- the line that it names where it has come to a print
-abbrev pub named_line : List ℕ → Call → State → List ℕ
+abbrev pub named_line : List ℕ → Call → HartState → List ℕ
 named_line image (Print address len) s = bytes_from image s.memory address len
 named_line image _ s = []
 
@@ -90,7 +90,7 @@ exit_value (Exit value) = value
 exit_value _ = 0
 
 -- by a fault, or by the exit that it has come to
-abbrev pub ends_as : Outcome → State → End
+abbrev pub ends_as : Outcome → HartState → End
 ends_as (Fault kind) s = end_of.Fault kind s.pc
 ends_as _ s = end_of.Exit (exit_value (call_of s))
 
@@ -100,19 +100,19 @@ end_at image x = ends_as (step_of image x.state) x.state
 -- ## Each stretch ends at a call, so the gifts tell its length
 
 -- after so many steps it comes to a call
-abbrev pub CallsAt : List ℕ → State → ℕ → Type 0
-CallsAt image s count = (mid : State) × (after image s count ≡ Some mid) × (step_of image mid ≡ ecall)
+abbrev pub CallsAt : List ℕ → HartState → ℕ → Type 0
+CallsAt image s count = (mid : HartState) × (after image s count ≡ Some mid) × (step_of image mid ≡ ecall)
 
 abbrev pub EachCalls : List ℕ → Start → List Stretch → Type 0
 EachCalls image s [] = ⊤
 EachCalls image s (x ∷ before) = EachCalls image s before × CallsAt image (solo_after image s before).state x.instructions
 
-call_run : (image : List ℕ) (s : State) (count more : ℕ) (c : CallsAt image s count) → run_of image (suc (count + more)) s ≡ record { count = count; stop = stops.Call; state = c.0 }
+call_run : (image : List ℕ) (s : HartState) (count more : ℕ) (c : CallsAt image s count) → run_of image (suc (count + more)) s ≡ record { count = count; stop = stops.Call; state = c.0 }
 call_run image s count more c =
     let one : Run = record { count = count; stop = stops.Call; state = c.0 } in
     run_is image (suc (count + more)) s one (record { steps = c.1; stop = (omega arith, c.2) })
 
-pub one_call : (image : List ℕ) (s : State) (a b : ℕ) → CallsAt image s a → CallsAt image s b → a ≡ b
+pub one_call : (image : List ℕ) (s : HartState) (a b : ℕ) → CallsAt image s a → CallsAt image s b → a ≡ b
 one_call image s a b x y =
     let same : b + a ≡ a + b = omega arith in
     ap (λ (r : Run). r.count) (sym (call_run image s a b x) ∙ ap (λ k. run_of image (suc k) s) (sym same) ∙ call_run image s b a y)

@@ -3,7 +3,7 @@ use Rattle.std.proofs.Common.{◌≡◌, ℕ, zero, suc, ◌+◌, ◌<◌, ◌�
 use Rattle.std.specs.Prelude.{nat_lt}
 use Rattle.std.proofs.lemmas.Bool.{eq-eqb, ne_eqb, eqb-true, lt-ltb}
 use Rattle.slot_space.specs.Sets.{has}
-use Rattle.slot_space.specs.Places.{starting_slots}
+use Rattle.slot_space.specs.Addresses.{starting_slots}
 use Rattle.slot_space.proofs.Lemmas.{lowest_run-some, has_run-all}
 use Rattle.run_trace.specs.declared.entry.Act.TheVariants.{Boot}
 use Rattle.run_trace.specs.declared.packet.Packet.{Packet}

@@ -3,7 +3,7 @@ use Rattle.std.proofs.Common.{◌≡◌, ℕ, List, [], ◌∷◌, Option, Some,
 use Rattle.std.specs.Prelude.{slice_get}
 use Rattle.marcel_core.specs.Homes.{joiner}
 use Rattle.std.proofs.lemmas.Bool.{eqb-true}
-use Rattle.rv_step.specs.Step.{State}
+use Rattle.rv_step.specs.Step.{HartState}
 use Rattle.rv_step.specs.declared.hart.Stop.{Stop}
 use Rattle.rv_step.specs.declared.hart.Stop.TheVariants as stops
 use Rattle.slot_space.specs.Sets.{has}
@@ -166,7 +166,7 @@ seen w u t s f h = elim (is_tid u t) as (λ b. is_tid u t ≡ b → alone_in (co
 seen_so : (w : Tid → Spot) (u t : Tid) (life : Life) → asked_in life ≡ asked_in (w u).life → alone_in (update w u (record (w u) { life = life }) t) ≡ cond (is_tid u t) (alone_in (w t)) (alone_in (w t))
 seen_so w u t life h = seen w u t (record (w u) { life = life }) (λ z a. a) (ap (asking (w u)) h)
 
-ran_asks : (n : ℕ) (stop : Stop) (s : State) → asked_in (On n (ran_stage stop s)) ≡ None
+ran_asks : (n : ℕ) (stop : Stop) (s : HartState) → asked_in (On n (ran_stage stop s)) ≡ None
 ran_asks n stops.Quantum s = refl
 ran_asks n stops.Call s = refl
 ran_asks n (stops.Fault kind) s = refl
@@ -214,7 +214,7 @@ label_alone p q n (Born u why entry a0 a1 sp slot) w t solo life =
     seen (creator_served n u why w.spots.threads) u t _ (λ z a. alone_then p w.spots.remote z (Born u why entry a0 a1 sp slot) a) refl
     ∙ ap (λ a. cond (is_tid u t) (alone_then p w.spots.remote t (Born u why entry a0 a1 sp slot) a) a) (served_creator p n u why entry a0 w.spots t solo.0)
 label_alone p q n (Ran u vp count stop) w t solo life =
-    let next : State = stepped (code_of p) count (w.spots.threads u).guest.solo.state in
+    let next : HartState = stepped (code_of p) count (w.spots.threads u).guest.solo.state in
     seen w.spots.threads u t _ (λ z a. alone_then p w.spots.remote z (Ran u vp count stop) a) (ap (asking (ran_spot p n count stop (w.spots.threads u))) (ran_asks n stop next ∙ sym (ap asked_in life)))
 label_alone p q n (Asked u call args bytes) w t solo life =
     let x : Solo = (w.spots.threads u).guest.solo in

@@ -7,7 +7,7 @@ use Rattle.std.proofs.lemmas.Bool.Decides.{nat_tests}
 use Rattle.slot_space.specs.declared.names.Tid.{Tid}
 use Rattle.slot_space.specs.declared.names.Reply.{Reply}
 use Rattle.rv_step.specs.declared.hart.Stop.{Stop}
-use Rattle.rv_step.specs.Step.{State}
+use Rattle.rv_step.specs.Step.{HartState}
 use Rattle.marcel_core.specs.declared.birth.Birth.{Birth}
 use Rattle.marcel_core.specs.declared.end.End.{End}
 use Rattle.marcel_core.specs.Homes.{joiner}
@@ -76,7 +76,7 @@ call_asks p n t x = by (call_of x.state) (refusal p t x (call_of x.state)) refl
     by c (Some reply) e = first_node p
 
 -- nothing else begins to ask
-ran_asks : (n : ℕ) (stop : Stop) (s : State) → asked_home (On n (ran_stage stop s)) ≡ 0
+ran_asks : (n : ℕ) (stop : Stop) (s : HartState) → asked_home (On n (ran_stage stop s)) ≡ 0
 ran_asks n stop s = grind arith
 
 heard_asks : (births : ℕ → List Birth) (life : Life) → asked_home (heard_at births life) ≤ asked_home life

@@ -2,7 +2,7 @@
 use Rattle.std.proofs.Common.{◌≡◌, ℕ, ◌%◌, List, [], ◌∷◌, ◌++◌, Some, None, true, false, eqb, ltb, cond, refl, sym, ap, ◌∙◌, subst, arith}
 use Rattle.std.proofs.lemmas.Bool.{ltb-true}
 use Rattle.slot_space.specs.Sets.{has, run}
-use Rattle.slot_space.specs.Places.{starting_slots}
+use Rattle.slot_space.specs.Addresses.{starting_slots}
 use Rattle.slot_space.specs.declared.names.Tid.{Tid}
 use Rattle.slot_space.proofs.Lemmas.{has-filter, has-run}
 use Rattle.run_trace.specs.declared.entry.Entry.{Entry}

@@ -2,7 +2,7 @@
 use Rattle.std.proofs.Common.{◌≡◌, ℕ, List, [], ◌∷◌, map, refl, sym, ap, ◌∙◌, subst}
 use Rattle.slot_space.specs.declared.names.Tid.{Tid}
 use Rattle.rv_step.specs.declared.hart.Stop.{Stop}
-use Rattle.rv_step.specs.Step.{State}
+use Rattle.rv_step.specs.Step.{HartState}
 use Rattle.run_trace.specs.declared.entry.Act.{Act}
 use Rattle.run_trace.specs.declared.entry.Act.TheVariants.{Boot, Run as RunThread, Take, Move}
 use Rattle.run_trace.specs.declared.entry.Entry.{Entry}
@@ -27,7 +27,7 @@ use Rattle.trace_laws.specs.Headings.{Heading, heading}
 -- a run has one count and one stop
 one_run : (p : Program) (q : Occasion) (n vp count more : ℕ) (stop other : Stop) (t : Tid) (w : World) → Allows p q n (Ran t vp count stop) w → Allows p q n (Ran t vp more other) w → Ran t vp count stop ≡ Ran t vp more other
 one_run p q n vp count more stop other t w x y =
-    let s : State = (w.spots.threads t).guest.solo.state in
+    let s : HartState = (w.spots.threads t).guest.solo.state in
     let a : run_of (code_of p) (quantum_in q.act) s ≡ record { count = count; stop = stop; state = stepped (code_of p) count s } = run_is (code_of p) (quantum_in q.act) s _ (record { steps = x.solo.0; stop = x.solo.1 }) in
     let b : run_of (code_of p) (quantum_in q.act) s ≡ record { count = more; stop = other; state = stepped (code_of p) more s } = run_is (code_of p) (quantum_in q.act) s _ (record { steps = y.solo.0; stop = y.solo.1 }) in
     ap (λ (r : Run). Ran t vp r.count r.stop) (sym a ∙ b)

@@ -13,7 +13,7 @@ use Rattle.marcel_core.specs.declared.end.End.{End}
 use Rattle.marcel_core.specs.declared.birth.Verdict.{Verdict}
 use Rattle.marcel_core.specs.declared.birth.Verdict.TheVariants.{Now, Later, NoSuch, Taken}
 use Rattle.marcel_core.specs.Homes.{verdict, joiner}
-use Rattle.pack_thread.specs.Threads.{Thread as Packed}
+use Rattle.pack_thread.specs.Threads.{PackedThread as Packed}
 use Rattle.run_trace.specs.declared.node.Wait.TheVariants as wait
 use Rattle.run_trace.specs.declared.packet.Body.{Body}
 use Rattle.run_trace.specs.declared.packet.Body.TheVariants.{Mover, Show, ShowDone, JoinAsk, Answer, EndNote}

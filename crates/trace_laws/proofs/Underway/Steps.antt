@@ -8,7 +8,7 @@ use Rattle.slot_space.specs.Sets.{has}
 use Rattle.slot_space.specs.Replies.{reply_code}
 use Rattle.slot_space.specs.declared.names.Tid.{Tid}
 use Rattle.slot_space.specs.declared.names.Reply.TheVariants as replies
-use Rattle.rv_step.specs.Step.{State}
+use Rattle.rv_step.specs.Step.{HartState}
 use Rattle.rv_step.specs.Run.{after, StopsBy}
 use Rattle.run_trace.specs.declared.label.Label.{Label}
 use Rattle.run_trace.specs.declared.label.Label.TheVariants.{Ran, Asked, Judged, Told, Left, Halted}
@@ -440,24 +440,24 @@ module _ (p : Program) (net : Net) (q : Occasion) (n : ℕ) (opening ahead : Lis
   abbrev pub ran_label : Spots → Tid → ℕ → Label
   ran_label v t vp = Ran t vp (run_now v t).count (run_now v t).stop
 
-  abbrev ran_with : Spots → Tid → State → Spot
+  abbrev ran_with : Spots → Tid → HartState → Spot
   ran_with v t z = record (spot v t) { life = On n (ran_stage (run_now v t).stop z); guest = with_state z (spot v t).guest }
 
   ran_same : (v : Spots) (t : Tid) (vp : ℕ) → after_label p n (ran_label v t vp) v
       ≡ spots_with (update v.threads t (ran_with v t (run_now v t).state)) v.slots v.births v.halts v.remote
   ran_same v t vp =
-      ap (λ (z : State). spots_with (update v.threads t (ran_with v t z)) v.slots v.births v.halts v.remote) (run_stepped (code_of p) (quantum_in q.act) (spot v t).guest.solo.state)
+      ap (λ (z : HartState). spots_with (update v.threads t (ran_with v t z)) v.slots v.births v.halts v.remote) (run_stepped (code_of p) (quantum_in q.act) (spot v t).guest.solo.state)
 
   ran_allowed : (said : List Label) (v : World) (t : Tid) (vp : ℕ) → (spot v.spots t).life ≡ On n Ready → Allows p (having_said said q) n (ran_label v.spots t vp) v
   ran_allowed said v t vp x =
-      let s : State = (spot v.spots t).guest.solo.state in
+      let s : HartState = (spot v.spots t).guest.solo.state in
       let r : Run = run_now v.spots t in
       record {
         life = x;
         holders = tt;
         replies = tt;
         grants = tt;
-        solo = subst (λ (z : State). (after (code_of p) s r.count ≡ Some z) × StopsBy (code_of p) z (quantum_in q.act) r.count r.stop) (sym (run_stepped (code_of p) (quantum_in q.act) s)) ((run_does (code_of p) (quantum_in q.act) s).steps, (run_does (code_of p) (quantum_in q.act) s).stop);
+        solo = subst (λ (z : HartState). (after (code_of p) s r.count ≡ Some z) × StopsBy (code_of p) z (quantum_in q.act) r.count r.stop) (sym (run_stepped (code_of p) (quantum_in q.act) s)) ((run_does (code_of p) (quantum_in q.act) s).steps, (run_does (code_of p) (quantum_in q.act) s).stop);
       }
 
   -- a run changes nothing of what its thread holds

@@ -1,5 +1,5 @@
 use Rattle.std.proofs.Common.{◌≡◌}
-use Rattle.slot_space.specs.Places.{starting_slots}
+use Rattle.slot_space.specs.Addresses.{starting_slots}
 use Rattle.slot_space.proofs.slot_set.SlotSet.starting.Given as goal
 
 abbrev pub invariant-loop-s : goal.invariant-loop-s

@@ -2,8 +2,8 @@ use Rattle.std.proofs.Common.{arith, ℕ, ◌+◌, ◌-◌, List, sym, ap, ◌�
 use Rattle.iso_blocks.specs.Heap.{Heap, Fits, with_block}
 use Rattle.iso_blocks.proofs.FreeBytes.{heap}
 use Rattle.iso_blocks.proofs.LiveBlocks.{starts_rise, with_block-at}
-use Rattle.iso_blocks.proofs.KeptBy.{kept-settle, fits_within}
-use Rattle.iso_blocks.proofs.layout.Layout.settle.Goals as goal
+use Rattle.iso_blocks.proofs.KeptBy.{kept-occupy, fits_within}
+use Rattle.iso_blocks.proofs.layout.Layout.occupy.Goals as goal
 
 pub starting_before-k-requires : goal.starting_before-k-requires
 starting_before-k-requires c = rw c.deref.ensures.value (starts_rise 0 c.reserve.new.self.heap c.reserve.new.self.live.items c.in_ok-reserve.ensures.kept.sound)
@@ -24,7 +24,7 @@ returns-clause-kept c =
     let P : Heap → Type 0 = λ h. Fits h c.args.size c.args.address in subst P (sym c.in_ok-reserve.ensures.same) c.requires.fits in
     let placed = with_block-at (c.args.address, c.args.size) l.live.items c.starting_before-k.result (rw c.deref.ensures.value at c.starting_before-k.ensures.bound)
     (rw c.deref.ensures.value at c.starting_before-k.ensures.before) (rw c.deref.ensures.value at c.starting_before-k.ensures.behind) in
-    kept-settle l _ c.args.address c.args.size c.slots_of-first.result.0 c.slots_of-first.result.1 (c.slots_of-first.result.0 + c.slots_of-first.result.1 - 1)
+    kept-occupy l _ c.args.address c.args.size c.slots_of-first.result.0 c.slots_of-first.result.1 (c.slots_of-first.result.0 + c.slots_of-first.result.1 - 1)
     c.in_ok-reserve.ensures.kept fits c.requires.some c.requires.whole
     (record {
       live = c.in_ok-insert.ensures.items ∙ sym placed;
