@@ -2,8 +2,6 @@
 //! Its words are SOURCE NODES SLOTS QUANTUM TRACE... `bench/many_runs` gives it what `run` has written.
 #![tactic(auto)]
 
-ghost use Rattle.node_state.specs.Events.{StartsAligned};
-
 use anyhow::{Context, Result, bail};
 use outside::{RealShelf, Shelf};
 use run_judge::judge;
@@ -19,11 +17,13 @@ use trace_text::read_trace;
 const LIMIT: u64 = 1 << 30;
 
 /// The number of the first entry that isn't legal in the trace of this text, if there is one.
-fn fault_in(alloc: Global, setup: &Setup, image: &Image, text: &[u8]) -> Result<Option<usize>>
-    requires { StartsAligned image.now }
-{
+fn fault_in(alloc: Global, setup: &Setup, image: &Image, text: &[u8]) -> Result<Option<usize>> {
     if text.len() >= 0xffff_ffff {
         bail!("too long");
+    }
+    // Each image of a source begins its main function so.
+    if image.main % 4 != 0 {
+        bail!("no image");
     }
     let trace = read_trace(alloc, text)?;
     Ok(judge(alloc, setup, image, trace.as_slice())?)
