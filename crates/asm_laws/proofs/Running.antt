@@ -5,10 +5,11 @@ use Rattle.rv_inst.specs.declared.inst.Inst.{Inst}
 use Rattle.rv_inst.specs.declared.inst.Inst.TheVariants.{Lui, Imm, Shift}
 use Rattle.rv_inst.specs.declared.inst.ImmOp.TheVariants.{Addi, Addiw}
 use Rattle.rv_inst.specs.declared.inst.ShiftOp.TheVariants.{Slli}
-use Rattle.rv_step.specs.Alu.{plus, extended}
+use Rattle.rv_alu.specs.Alu.{plus, extended}
 use Rattle.rv_step.specs.Memory.{Memory}
 use Rattle.rv_step.specs.Step.{HartState, Next, Call, Fault, effect, reg_of, with_reg}
-use Rattle.rv_asm.specs.Expansions.{fits_signed, low, high, shifted, load_short, load_within, load_number, distance, load_address}
+use Rattle.rv_inst.specs.Format.{low_twelve}
+use Rattle.asm_targets.specs.Expansions.{fits_signed, high, shifted, load_short, load_within, load_number, distance, load_address}
 use Rattle.asm_laws.specs.Loads.{and_then, after, Puts}
 use Rattle.asm_laws.proofs.Sums.{low_alone, low_onto, low_onto_high, low_onto_place, shifted_fits, shifted_once, shifted_twice, shifted_thrice}
 
@@ -47,26 +48,26 @@ after_then image (x ∷ xs) ys s =
 
 short_puts : (image : List ℕ) (s : HartState) (rd n : ℕ) → 0 < rd → rd < length s.regs → n < 2 ^ 64 → fits_signed 31 n ≡ true → Puts image (load_short rd n) rd n s
 short_puts image s rd n some h fit e =
-    elim (fits_signed 11 n) as (λ b. fits_signed 11 n ≡ b → Puts image (cond b (Imm Addi rd 0 (low n) ∷ []) (Lui rd (high n) ∷ Imm Addiw rd rd (low n) ∷ [])) rd n s) [
+    elim (fits_signed 11 n) as (λ b. fits_signed 11 n ≡ b → Puts image (cond b (Imm Addi rd 0 (low_twelve n) ∷ []) (Lui rd (high n) ∷ Imm Addiw rd rd (low_twelve n) ∷ [])) rd n s) [
       | true ↦ λ f. (plus s.pc 4, in_state _ _ _ _ (ap (λ v. with_reg s.regs rd v) (low_alone n fit f)))
-      | false ↦ λ f. (plus (plus s.pc 4) 4, in_state _ _ _ _ (second s.regs rd (extended (high n * 2 ^ 12)) n (λ x. extended ((x + cast_unsigned w64 (low n)) % 2 ^ 32)) some h (low_onto_high n fit e)))
+      | false ↦ λ f. (plus (plus s.pc 4) 4, in_state _ _ _ _ (second s.regs rd (extended (high n * 2 ^ 12)) n (λ x. extended ((x + cast_unsigned w64 (low_twelve n)) % 2 ^ 32)) some h (low_onto_high n fit e)))
     ] refl
 
 tail_puts : (image : List ℕ) (s : HartState) (rd n pc : ℕ) → 0 < rd → rd < length s.regs → n < 2 ^ 64
-    → after image (record { regs = with_reg s.regs rd (shifted n); pc = pc; memory = s.memory }) (Shift Slli rd rd 12 ∷ Imm Addi rd rd (low n) ∷ [])
+    → after image (record { regs = with_reg s.regs rd (shifted n); pc = pc; memory = s.memory }) (Shift Slli rd rd 12 ∷ Imm Addi rd rd (low_twelve n) ∷ [])
     ≡ Next (record { regs = with_reg s.regs rd n; pc = plus (plus pc 4) 4; memory = s.memory })
 tail_puts image s rd n pc some h fit =
     let one = with_reg s.regs rd (shifted n) in
     let b : ℕ = (shifted n * 2 ^ 12) % 2 ^ 64 in
     let first : with_reg one rd ((reg_of one rd * 2 ^ 12) % 2 ^ 64) ≡ with_reg s.regs rd b = second s.regs rd (shifted n) b (λ x. (x * 2 ^ 12) % 2 ^ 64) some h refl in
     in_state _ _ _ _
-    (ap (λ r. with_reg r rd (plus (reg_of r rd) (cast_unsigned w64 (low n)))) first
-    ∙ second s.regs rd b n (λ x. plus x (cast_unsigned w64 (low n))) some h (low_onto n fit))
+    (ap (λ r. with_reg r rd (plus (reg_of r rd) (cast_unsigned w64 (low_twelve n)))) first
+    ∙ second s.regs rd b n (λ x. plus x (cast_unsigned w64 (low_twelve n))) some h (low_onto n fit))
 
 longer_puts : (image : List ℕ) (s : HartState) (k rd n : ℕ) → 0 < rd → rd < length s.regs → n < 2 ^ 64
     → Puts image (load_within k rd (shifted n)) rd (shifted n) s → Puts image (load_within (suc k) rd n) rd n s
 longer_puts image s k rd n some h fit first =
-    let tail : List Inst = Shift Slli rd rd 12 ∷ Imm Addi rd rd (low n) ∷ [] in
+    let tail : List Inst = Shift Slli rd rd 12 ∷ Imm Addi rd rd (low_twelve n) ∷ [] in
     elim (fits_signed 31 n) as (λ b. fits_signed 31 n ≡ b → Puts image (cond b (load_short rd n) (load_within k rd (shifted n) ++ tail)) rd n s) [
       | true ↦ λ e. short_puts image s rd n some h fit e
       | false ↦ λ e. (plus (plus first.0 4) 4, after_then image (load_within k rd (shifted n)) tail s ∙ ap (λ o. and_then o (λ t. after image t tail)) first.1 ∙ tail_puts image s rd n first.0 some h fit)
@@ -92,6 +93,6 @@ pub address_puts : (image : List ℕ) (s : HartState) (rd target : ℕ) → 0 < 
 address_puts image s rd target some h near fit =
     let d = distance s.pc target in (
       plus (plus s.pc 4) 4,
-      in_state _ _ _ _ (second s.regs rd (plus s.pc (extended (high d * 2 ^ 12))) target (λ x. plus x (cast_unsigned w64 (low d))) some h
+      in_state _ _ _ _ (second s.regs rd (plus s.pc (extended (high d * 2 ^ 12))) target (λ x. plus x (cast_unsigned w64 (low_twelve d))) some h
           (low_onto_place s.pc target near fit)),
     )

@@ -7,7 +7,7 @@ use Rattle.std.proofs.lemmas.Int.{to_z-of_z, ints, unsigned_abs-mul}
 use Rattle.std.proofs.Math.Nat.{add-mul, mul-add, add_comm, mul_comm, mul-le-mul}
 use Rattle.std.proofs.lemmas.Bool.{cases_lt}
 use Rattle.rv_inst.specs.declared.inst.RegOp.TheVariants as ops
-use Rattle.rv_step.specs.Alu.{upper, whole, reg_value}
+use Rattle.rv_alu.specs.Alu.{upper, whole, reg_value}
 use Rattle.asm_laws.specs.Products.{Halves}
 
 -- the bits of a whole number below 2 ^ 64

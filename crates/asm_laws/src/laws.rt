@@ -2,9 +2,9 @@
 
 ghost use Rattle.std.specs.Prelude.{◌≡◌, ◌<◌, ◌^◌, ℕ, ℤ, List, Some, length};
 ghost use Rattle.std.specs.Int.{cast_unsigned, w64};
-ghost use Rattle.rv_step.specs.Alu.{plus};
+ghost use Rattle.rv_alu.specs.Alu.{plus};
 ghost use Rattle.rv_step.specs.Step.{HartState};
-ghost use Rattle.rv_asm.specs.Expansions.{load_number, load_address, offset_to};
+ghost use Rattle.asm_targets.specs.Expansions.{load_number, load_address, offset_to};
 ghost use Rattle.asm_laws.specs.Loads.{Puts};
 
 /// A number that is loaded is in its register, and nothing else has changed.

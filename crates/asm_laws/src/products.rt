@@ -2,7 +2,7 @@
 
 ghost use Rattle.std.specs.Prelude.{◌≡◌, ◌≢◌, ◌<◌, ◌^◌, ◌-◌, ◌*ℤ◌, ◌⊎◌, ℕ, pos};
 ghost use Rattle.rv_inst.specs.declared.inst.RegOp.TheVariants as ops;
-ghost use Rattle.rv_step.specs.Alu.{low, whole, whole_w, reg_value};
+ghost use Rattle.rv_alu.specs.Alu.{low, whole, whole_w, reg_value};
 ghost use Rattle.asm_laws.specs.Products.{Halves, Divides};
 
 /// The upper half of a product and the lower half together are the product: of signed numbers, of a signed and an unsigned one, and

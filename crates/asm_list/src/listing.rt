@@ -2,7 +2,7 @@
 
 ghost use Rattle.std.specs.Prelude.{◌≡◌, ◌+◌, ◌*◌, ◌/◌, ◌<◌, ◌≤◌, ◌^◌, ◌++◌, ℕ, All, length, IfOk, OnOk};
 ghost use Rattle.std.specs.List.{flat_map};
-ghost use Rattle.rv_inst.specs.Image.{IsWellFormed};
+ghost use Rattle.rv_inst.specs.Image.{IsWellFormed, image_limit};
 ghost use Rattle.asm_list.specs.Listing.{service_line, line_at, word_lines, listing, HasShortAddresses};
 
 use crate::lines::{push_main, push_service, push_word};
@@ -35,7 +35,7 @@ fn push_word_at(out: &mut Vec<u8>, image: &Image, index: u64) -> Result<(), Allo
 
 /// Appends the lines of the words of an image.
 fn push_words(out: &mut Vec<u8>, image: &Image) -> Result<(), AllocError>
-    requires { length image.now.bytes ≤ 2 ^ 20 }
+    requires { length image.now.bytes ≤ image_limit }
     ensures { OnOk result (out.new.items ≡ out.old.items ++ word_lines image.now.bytes) }
 {
     for index in 0..image.len() / 4 {

@@ -3,7 +3,7 @@
 ghost use Rattle.std.specs.Prelude.{◌≡◌};
 ghost use Rattle.rv_inst.specs.Table.{branch_row, load_row, store_row, imm_row, shift_row, reg_row, inst_name};
 
-use rv_inst::{BranchOp, ImmOp, Inst, LoadOp, RegOp, ShiftOp, StoreOp, rows_of};
+use rv_inst::{BranchOp, ImmOp, Inst, LoadOp, RegOp, ShiftOp, StoreOp, row_name, row_of, rows_of};
 
 /// The name in the row of an operation.
 macro_rules! name {
@@ -55,18 +55,18 @@ pub fn inst_name(inst: &Inst) -> &'static [u8]
     ensures { result.now ≡ inst_name inst.now }
 {
     match *inst {
-        Inst::Lui { .. } => b"lui",
-        Inst::Auipc { .. } => b"auipc",
-        Inst::Jal { .. } => b"jal",
-        Inst::Jalr { .. } => b"jalr",
+        Inst::Lui { .. } => row_of!(Lui row_name),
+        Inst::Auipc { .. } => row_of!(Auipc row_name),
+        Inst::Jal { .. } => row_of!(Jal row_name),
+        Inst::Jalr { .. } => row_of!(Jalr row_name),
         Inst::Branch { op, .. } => branch_name(op),
         Inst::Load { op, .. } => load_name(op),
         Inst::Store { op, .. } => store_name(op),
         Inst::Imm { op, .. } => imm_name(op),
         Inst::Shift { op, .. } => shift_name(op),
         Inst::Op { op, .. } => reg_name(op),
-        Inst::Fence { .. } => b"fence",
-        Inst::Ecall => b"ecall",
-        Inst::Ebreak => b"ebreak",
+        Inst::Fence { .. } => row_of!(Fence row_name),
+        Inst::Ecall => row_of!(Ecall row_name),
+        Inst::Ebreak => row_of!(Ebreak row_name),
     }
 }

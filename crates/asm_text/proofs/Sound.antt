@@ -6,17 +6,17 @@ use Rattle.std.proofs.lemmas.Bool.{cases_Bool}
 use Rattle.std.proofs.lemmas.Bool.Decides.{nat_tests}
 use Rattle.rv_inst.specs.declared.inst.ShiftOp.{ShiftOp}
 use Rattle.rv_inst.specs.declared.inst.ShiftOp.TheVariants as shift_op
-use Rattle.rv_inst.specs.Format.{FitsBits}
+use Rattle.rv_inst.specs.Format.{FitsBits, low_twelve}
 use Rattle.rv_inst.specs.Table.{shift_end}
 use Rattle.asm_text.specs.declared.statements.Make.{Make}
 use Rattle.asm_text.specs.declared.statements.Make.TheVariants as make
 use Rattle.asm_text.specs.declared.slots.What.{What}
 use Rattle.asm_text.specs.Lines.{LineOf, HasSound}
-use Rattle.asm_text.specs.Tokens.{TokenOf, word, mark, text, stray}
-use Rattle.asm_text.specs.Statements.{StatementOf, plain, branch, jump, load_number, load_address, values, bytes, align, service, nothing, FieldsOf, bulk, low12, values_of, made, IsSound}
+use Rattle.asm_words.specs.Tokens.{TokenOf, word, mark, text, stray}
+use Rattle.asm_text.specs.Statements.{StatementOf, plain, branch, jump, load_number, load_address, values, bytes, align, service, nothing, FieldsOf, bulk, values_of, made, IsSound}
 
-low12_fits : (n : ℕ) → FitsBits 11 (low12 n)
-low12_fits n =
+low_twelve_fits : (n : ℕ) → FitsBits 11 (low_twelve n)
+low_twelve_fits n =
     elim (cases_Bool (nat_lt (n % 4096) 2048)) [
       | inl is ↦ rw is (let h : n % 4096 < 2048 = grind (arith, nat_tests) in h)
       | inr isnt ↦ rw isnt (let h : 4095 - n % 4096 < 2048 = grind (arith, nat_tests) in h)
@@ -42,14 +42,14 @@ made_sound make.Lui f n h = (omega arith, omega arith)
 made_sound make.Auipc f n h = (omega arith, omega arith)
 made_sound make.Jal f n h = tt
 made_sound make.Call f n h = tt
-made_sound make.Jalr f n h = (omega arith, omega arith, low12_fits f.number)
-made_sound make.CallBy f n h = (omega arith, omega arith, low12_fits 0)
-made_sound make.Return f n h = (omega arith, omega arith, low12_fits 0)
+made_sound make.Jalr f n h = (omega arith, omega arith, low_twelve_fits f.number)
+made_sound make.CallBy f n h = (omega arith, omega arith, low_twelve_fits 0)
+made_sound make.Return f n h = (omega arith, omega arith, low_twelve_fits 0)
 made_sound (make.Branch op) f n h = tt
-made_sound (make.Load op) f n h = (omega arith, omega arith, low12_fits f.number)
-made_sound (make.Store op) f n h = (omega arith, omega arith, low12_fits f.number)
-made_sound (make.Imm op) f n h = (omega arith, omega arith, low12_fits f.number)
-made_sound (make.ImmBy op number) f n h = (omega arith, omega arith, low12_fits number)
+made_sound (make.Load op) f n h = (omega arith, omega arith, low_twelve_fits f.number)
+made_sound (make.Store op) f n h = (omega arith, omega arith, low_twelve_fits f.number)
+made_sound (make.Imm op) f n h = (omega arith, omega arith, low_twelve_fits f.number)
+made_sound (make.ImmBy op number) f n h = (omega arith, omega arith, low_twelve_fits number)
 made_sound (make.Shift op) f n h = (omega arith, omega arith, amount_fits op f.number)
 made_sound (make.Op op) f n h = (omega arith, omega arith, omega arith)
 made_sound make.Fence f n h = (omega arith, omega arith, omega arith)

@@ -2,7 +2,7 @@
 use Rattle.std.proofs.Common.{◌≡◌, ℕ, Bool, List, [], ◌∷◌, length, refl, arith}
 use Rattle.asm_text.specs.declared.slots.Slot.{Slot}
 use Rattle.asm_text.specs.declared.slots.Slot.TheVariants as slot
-use Rattle.asm_text.specs.Tokens.{TokenOf}
+use Rattle.asm_words.specs.Tokens.{TokenOf}
 use Rattle.asm_text.specs.Statements.{FieldsOf}
 use Rattle.asm_text.specs.Slots.{read_slots, read_values}
 

@@ -1,5 +1,3 @@
-pub mod Words
-pub mod Tokens
 pub mod Statements
 pub mod Slots
 pub mod Rows

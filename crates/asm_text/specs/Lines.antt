@@ -3,8 +3,8 @@ use Rattle.std.specs.Prelude.{ℕ, true, List, [], ◌∷◌, if◌then◌else�
 use Rattle.std.specs.Option.{option_map, option_map_or, option_or}
 use Rattle.std.specs.Str.{bytes_eq}
 use Rattle.std.specs.Str.Lines.{lines}
-use Rattle.asm_text.specs.Tokens.{TokenOf, word, mark, tokens_of}
-use Rattle.asm_text.specs.Words.{is_name}
+use Rattle.asm_words.specs.Tokens.{TokenOf, word, mark, tokens_of}
+use Rattle.asm_words.specs.Words.{is_name}
 use Rattle.asm_text.specs.declared.slots.What.{What}
 use Rattle.asm_text.specs.declared.slots.What.TheVariants.{Form, Name}
 use Rattle.asm_text.specs.declared.reading.Line.{Line}

@@ -3,7 +3,7 @@ use Rattle.std.specs.Prelude.{ℕ, ◌^◌, ◌-◌, true, false, List, [], ◌�
 use Rattle.rv_inst.specs.declared.inst.BranchOp.TheVariants as branch_op
 use Rattle.rv_inst.specs.declared.inst.ImmOp.TheVariants as imm_op
 use Rattle.rv_inst.specs.declared.inst.RegOp.TheVariants as reg_op
-use Rattle.rv_inst.specs.Table.{branch_row, load_row, store_row, imm_row, shift_row, reg_row, shift_end, branch_ops, load_ops, store_ops, imm_ops, shift_ops, reg_ops}
+use Rattle.rv_inst.specs.Table.{lui_row, auipc_row, jal_row, jalr_row, fence_row, ecall_row, ebreak_row, branch_row, load_row, store_row, imm_row, shift_row, reg_row, shift_end, branch_ops, load_ops, store_ops, imm_ops, shift_ops, reg_ops}
 use Rattle.asm_text.specs.declared.statements.Width.TheVariants as width
 use Rattle.asm_text.specs.declared.statements.Make.{Make}
 use Rattle.asm_text.specs.declared.statements.Make.TheVariants as make
@@ -34,6 +34,10 @@ left = slot.Mark 40
 abbrev pub right : Slot
 right = slot.Mark 41
 
+-- a number of twelve bits in two's complement
+abbrev pub twelve_bits : Slot
+twelve_bits = slot.Number 2048 2047
+
 abbrev pub no_operands : List Slot
 no_operands = []
 
@@ -41,7 +45,7 @@ abbrev pub three_registers : List Slot
 three_registers = slot.Rd ∷ comma ∷ slot.Rs1 ∷ comma ∷ slot.Rs2 ∷ []
 
 abbrev pub immediate : List Slot
-immediate = slot.Rd ∷ comma ∷ slot.Rs1 ∷ comma ∷ slot.Number 2048 2047 ∷ []
+immediate = slot.Rd ∷ comma ∷ slot.Rs1 ∷ comma ∷ twelve_bits ∷ []
 
 -- an amount below the end
 abbrev pub amount : ℕ → List Slot
@@ -51,10 +55,10 @@ abbrev pub upper : List Slot
 upper = slot.Rd ∷ comma ∷ slot.Number 0 0xfffff ∷ []
 
 abbrev pub from_memory : List Slot
-from_memory = slot.Rd ∷ comma ∷ slot.Number 2048 2047 ∷ left ∷ slot.Rs1 ∷ right ∷ []
+from_memory = slot.Rd ∷ comma ∷ twelve_bits ∷ left ∷ slot.Rs1 ∷ right ∷ []
 
 abbrev pub to_memory : List Slot
-to_memory = slot.Rs2 ∷ comma ∷ slot.Number 2048 2047 ∷ left ∷ slot.Rs1 ∷ right ∷ []
+to_memory = slot.Rs2 ∷ comma ∷ twelve_bits ∷ left ∷ slot.Rs1 ∷ right ∷ []
 
 abbrev pub compare : List Slot
 compare = slot.Rs1 ∷ comma ∷ slot.Rs2 ∷ comma ∷ slot.Label ∷ []
@@ -112,18 +116,18 @@ instructions =
     map (λ op. row (reg_row op).name three_registers (make.Op op)) reg_ops
     ++ map (λ op. row (imm_row op).name immediate (make.Imm op)) imm_ops
     ++ map (λ op. row (shift_row op).name (amount (shift_end op)) (make.Shift op)) shift_ops
-    ++ row (codes "lui") upper make.Lui
-    ∷ row (codes "auipc") upper make.Auipc
+    ++ row lui_row.name upper make.Lui
+    ∷ row auipc_row.name upper make.Auipc
     ∷ map (λ op. row (load_row op).name from_memory (make.Load op)) load_ops
     ++ map (λ op. row (store_row op).name to_memory (make.Store op)) store_ops
     ++ map (λ op. row (branch_row op).name compare (make.Branch op)) branch_ops
-    ++ row (codes "jal") link make.Jal
-    ∷ row (codes "jal") target make.Call
-    ∷ row (codes "jalr") from_memory make.Jalr
-    ∷ row (codes "jalr") source make.CallBy
-    ∷ row (codes "fence") no_operands make.Fence
-    ∷ row (codes "ecall") no_operands make.Ecall
-    ∷ row (codes "ebreak") no_operands make.Ebreak
+    ++ row jal_row.name link make.Jal
+    ∷ row jal_row.name target make.Call
+    ∷ row jalr_row.name from_memory make.Jalr
+    ∷ row jalr_row.name source make.CallBy
+    ∷ row fence_row.name no_operands make.Fence
+    ∷ row ecall_row.name no_operands make.Ecall
+    ∷ row ebreak_row.name no_operands make.Ebreak
     ∷ []
 
 -- pseudo instructions

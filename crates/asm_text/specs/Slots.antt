@@ -2,8 +2,8 @@
 use Rattle.std.specs.Prelude.{ℕ, Bool, true, false, ◌||◌, ◌&&◌, List, [], ◌∷◌, if◌then◌else◌, ◌==◌, Result, Ok, Err, is_some}
 use Rattle.std.specs.Option.{option_map_or}
 use Rattle.std.specs.List.{list_all}
-use Rattle.asm_text.specs.Tokens.{TokenOf, word, mark, text}
-use Rattle.asm_text.specs.Words.{is_name, number_of, register_among, registers, in_range, bits_of}
+use Rattle.asm_words.specs.Tokens.{TokenOf, word, mark, text}
+use Rattle.asm_words.specs.Words.{is_name, number_of, register_among, registers, in_range, bits_of}
 use Rattle.asm_text.specs.declared.slots.What.{What}
 use Rattle.asm_text.specs.declared.slots.What.TheVariants.{Form, Name, Range, Place}
 use Rattle.asm_text.specs.declared.slots.Slot.{Slot}

@@ -1,10 +1,10 @@
 -- A statement: what its row makes of what stands in its slots.
-use Rattle.std.specs.Prelude.{ℕ, ◌+◌, ◌^◌, ◌%◌, ◌<◌, ◌≤◌, List, [], ◌∷◌, length, ℤ, map}
+use Rattle.std.specs.Prelude.{ℕ, ◌+◌, ◌^◌, ◌%◌, ◌<◌, ◌≤◌, List, [], ◌∷◌, length, map}
 use Rattle.std.specs.Option.{option_map_or}
 use Rattle.rv_inst.specs.declared.inst.Inst.{Inst}
 use Rattle.rv_inst.specs.declared.inst.Inst.TheVariants.{Lui, Auipc, Jalr, Load, Store, Imm, Shift, Op, Fence, Ecall, Ebreak}
 use Rattle.rv_inst.specs.declared.inst.BranchOp.{BranchOp}
-use Rattle.rv_inst.specs.Format.{signed}
+use Rattle.rv_inst.specs.Format.{low_twelve}
 use Rattle.rv_inst.specs.Table.{Fits, shift_end}
 use Rattle.asm_text.specs.declared.statements.Width.{Width}
 use Rattle.asm_text.specs.declared.statements.Value.{Value}
@@ -15,8 +15,8 @@ use Rattle.asm_text.specs.declared.statements.Make.{Make}
 use Rattle.asm_text.specs.declared.statements.Make.TheVariants as make
 use Rattle.asm_text.specs.declared.statements.Fields.{Fields}
 use Rattle.asm_text.specs.declared.statements.Filled.{Filled}
-use Rattle.asm_text.specs.Tokens.{token_of, TokenOf, word}
-use Rattle.asm_text.specs.Words.{number_of, bits_of}
+use Rattle.asm_words.specs.Tokens.{token_of, TokenOf, word}
+use Rattle.asm_words.specs.Words.{number_of, bits_of}
 
 -- ---- statements, without where they lie in memory
 
@@ -98,10 +98,6 @@ filled_seen s = record { make = s.make; fields = fields_seen s.fields }
 abbrev pub reg : ℕ → ℕ
 reg n = n % 32
 
--- the low twelve bits as a signed number
-abbrev pub low12 : ℕ → ℤ
-low12 n = signed 11 (n % 4096)
-
 -- a word that is a number stands for it, every other one for a label's address
 abbrev pub value_of : List ℕ → ValueOf
 value_of w = option_map_or (λ n. bits (bits_of n)) (number_of w) (address w)
@@ -117,14 +113,14 @@ made make.Lui f = plain (Lui (reg f.rd) (f.number % 2 ^ 20))
 made make.Auipc f = plain (Auipc (reg f.rd) (f.number % 2 ^ 20))
 made make.Jal f = jump (reg f.rd) f.label
 made make.Call f = jump 1 f.label
-made make.Jalr f = plain (Jalr (reg f.rd) (reg f.rs1) (low12 f.number))
-made make.CallBy f = plain (Jalr 1 (reg f.rs1) (low12 0))
-made make.Return f = plain (Jalr 0 1 (low12 0))
+made make.Jalr f = plain (Jalr (reg f.rd) (reg f.rs1) (low_twelve f.number))
+made make.CallBy f = plain (Jalr 1 (reg f.rs1) (low_twelve 0))
+made make.Return f = plain (Jalr 0 1 (low_twelve 0))
 made (make.Branch op) f = branch op (reg f.rs1) (reg f.rs2) f.label
-made (make.Load op) f = plain (Load op (reg f.rd) (reg f.rs1) (low12 f.number))
-made (make.Store op) f = plain (Store op (reg f.rs1) (reg f.rs2) (low12 f.number))
-made (make.Imm op) f = plain (Imm op (reg f.rd) (reg f.rs1) (low12 f.number))
-made (make.ImmBy op number) f = plain (Imm op (reg f.rd) (reg f.rs1) (low12 number))
+made (make.Load op) f = plain (Load op (reg f.rd) (reg f.rs1) (low_twelve f.number))
+made (make.Store op) f = plain (Store op (reg f.rs1) (reg f.rs2) (low_twelve f.number))
+made (make.Imm op) f = plain (Imm op (reg f.rd) (reg f.rs1) (low_twelve f.number))
+made (make.ImmBy op number) f = plain (Imm op (reg f.rd) (reg f.rs1) (low_twelve number))
 made (make.Shift op) f = plain (Shift op (reg f.rd) (reg f.rs1) (f.number % shift_end op))
 made (make.Op op) f = plain (Op op (reg f.rd) (reg f.rs1) (reg f.rs2))
 made make.Fence f = plain (Fence 0 0 0x0ff)

@@ -2,13 +2,11 @@
 //! A layer above uses `read_source` or `read_line`, and lays out what they give.
 #![tactic(auto)]
 
-mod lexing;
 mod reading;
 mod rows;
 mod slots;
 mod source;
 mod statements;
-mod words;
 
 pub use reading::{Line, Reading, read_line};
 pub use slots::What;

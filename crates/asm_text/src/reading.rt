@@ -2,17 +2,16 @@
 
 ghost use Rattle.std.specs.Prelude.{◌≡◌, ℕ, ◌+◌, ◌<◌, ◌≤◌, ◌∷◌, length, map, IfOk, IfSome};
 ghost use Rattle.std.specs.Option.{option_map};
-ghost use Rattle.asm_text.specs.Tokens.{token_of, tokens_of, spans};
+ghost use Rattle.asm_words.specs.Tokens.{token_of, tokens_of, spans};
 ghost use Rattle.asm_text.specs.Statements.{filled_seen, fields_seen, bulk};
 ghost use Rattle.asm_text.specs.Slots.{seen};
 ghost use Rattle.asm_text.specs.Rows.{row_of, instructions, pseudo_instructions, directives};
 ghost use Rattle.asm_text.specs.Lines.{read_row, read_rows, read_tables, label_at, statement_at, line_at, line_said, line_seen, HasSound};
 
-use crate::lexing::{Token, tokens};
 use crate::rows::{Row, directives, instructions, pseudo_instructions};
 use crate::slots::{What, read_slots};
 use crate::statements::{Fields, Filled, Statement, made};
-use crate::words::is_name;
+use asm_words::{Token, is_name, tokens};
 use basics::NoMemory;
 use std::alloc::Global;
 

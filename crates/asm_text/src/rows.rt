@@ -5,7 +5,7 @@ ghost use Rattle.asm_text.specs.Rows.{row_of, instructions, pseudo_instructions,
 
 use crate::slots::Slot;
 use crate::statements::{Make, Width};
-use rv_inst::{BranchOp, ImmOp, LoadOp, RegOp, ShiftOp, StoreOp, all_rows};
+use rv_inst::{BranchOp, ImmOp, LoadOp, RegOp, ShiftOp, StoreOp, all_rows, row_name, row_of};
 
 /// A form of a statement.
 #[derive(Clone, Copy)]
@@ -23,11 +23,14 @@ const LEFT: Slot = Slot::Mark(b'(');
 
 const RIGHT: Slot = Slot::Mark(b')');
 
+/// A number of twelve bits in two's complement.
+const TWELVE_BITS: Slot = Slot::Number(2048, 2047);
+
 const NO_OPERANDS: &[Slot] = &[];
 
 const THREE_REGISTERS: &[Slot] = &[Slot::Rd, COMMA, Slot::Rs1, COMMA, Slot::Rs2];
 
-const IMMEDIATE: &[Slot] = &[Slot::Rd, COMMA, Slot::Rs1, COMMA, Slot::Number(2048, 2047)];
+const IMMEDIATE: &[Slot] = &[Slot::Rd, COMMA, Slot::Rs1, COMMA, TWELVE_BITS];
 
 const AMOUNT: &[Slot] = &[Slot::Rd, COMMA, Slot::Rs1, COMMA, Slot::Number(0, 63)];
 
@@ -35,23 +38,9 @@ const AMOUNT_W: &[Slot] = &[Slot::Rd, COMMA, Slot::Rs1, COMMA, Slot::Number(0, 3
 
 const UPPER: &[Slot] = &[Slot::Rd, COMMA, Slot::Number(0, 0xf_ffff)];
 
-const FROM_MEMORY: &[Slot] = &[
-    Slot::Rd,
-    COMMA,
-    Slot::Number(2048, 2047),
-    LEFT,
-    Slot::Rs1,
-    RIGHT,
-];
+const FROM_MEMORY: &[Slot] = &[Slot::Rd, COMMA, TWELVE_BITS, LEFT, Slot::Rs1, RIGHT];
 
-const TO_MEMORY: &[Slot] = &[
-    Slot::Rs2,
-    COMMA,
-    Slot::Number(2048, 2047),
-    LEFT,
-    Slot::Rs1,
-    RIGHT,
-];
+const TO_MEMORY: &[Slot] = &[Slot::Rs2, COMMA, TWELVE_BITS, LEFT, Slot::Rs1, RIGHT];
 
 const COMPARE: &[Slot] = &[Slot::Rs1, COMMA, Slot::Rs2, COMMA, Slot::Label];
 
@@ -90,7 +79,7 @@ const POWER: &[Slot] = &[Slot::Number(0, 12)];
 const SERVICE: &[Slot] = &[Slot::Number(0, 255), COMMA, Slot::Label];
 
 macro_rules! row {
-    ($name:literal, $slots:expr, $make:expr) => {
+    ($name:expr, $slots:expr, $make:expr) => {
         Row {
             name: $name,
             slots: $slots,
@@ -124,18 +113,18 @@ macro_rules! forms {
             $(row!($reg_name, THREE_REGISTERS, Make::Op(RegOp::$reg)),)*
             $(row!($imm_name, IMMEDIATE, Make::Imm(ImmOp::$imm)),)*
             $(row!($shift_name, amount!($opcode), Make::Shift(ShiftOp::$shift)),)*
-            row!(b"lui", UPPER, Make::Lui),
-            row!(b"auipc", UPPER, Make::Auipc),
+            row!(row_of!(Lui row_name), UPPER, Make::Lui),
+            row!(row_of!(Auipc row_name), UPPER, Make::Auipc),
             $(row!($load_name, FROM_MEMORY, Make::Load(LoadOp::$load)),)*
             $(row!($store_name, TO_MEMORY, Make::Store(StoreOp::$store)),)*
             $(row!($branch_name, COMPARE, Make::Branch(BranchOp::$branch)),)*
-            row!(b"jal", LINK, Make::Jal),
-            row!(b"jal", TARGET, Make::Call),
-            row!(b"jalr", FROM_MEMORY, Make::Jalr),
-            row!(b"jalr", SOURCE, Make::CallBy),
-            row!(b"fence", NO_OPERANDS, Make::Fence),
-            row!(b"ecall", NO_OPERANDS, Make::Ecall),
-            row!(b"ebreak", NO_OPERANDS, Make::Ebreak),
+            row!(row_of!(Jal row_name), LINK, Make::Jal),
+            row!(row_of!(Jal row_name), TARGET, Make::Call),
+            row!(row_of!(Jalr row_name), FROM_MEMORY, Make::Jalr),
+            row!(row_of!(Jalr row_name), SOURCE, Make::CallBy),
+            row!(row_of!(Fence row_name), NO_OPERANDS, Make::Fence),
+            row!(row_of!(Ecall row_name), NO_OPERANDS, Make::Ecall),
+            row!(row_of!(Ebreak row_name), NO_OPERANDS, Make::Ebreak),
         ]
     };
 }

@@ -3,13 +3,12 @@
 ghost use Rattle.std.specs.Prelude.{true, false, ◌≡◌, ℕ, ◌+◌, ◌<◌, ◌≤◌, ◌∷◌, length, map, IfOk, IfSome};
 ghost use Rattle.std.specs.Option.{option_map};
 ghost use Rattle.std.specs.List.{list_all};
-ghost use Rattle.asm_text.specs.Tokens.{token_of, span, spans};
+ghost use Rattle.asm_words.specs.Tokens.{token_of, span, spans};
 ghost use Rattle.asm_text.specs.Statements.{fields_seen, bulk};
 ghost use Rattle.asm_text.specs.Slots.{seen, worst, fault_or, register_in, number_in, label_in, text_in, mark_in, read_slot, read_values, is_comma, is_value, are_values, value_fits, read_slots};
 
-use crate::lexing::Token;
 use crate::statements::Fields;
-use crate::words::{bits_of, in_range, is_name, number_of, register_of};
+use asm_words::{Token, bits_of, in_range, is_name, number_of, register_of};
 
 /// What is wrong with a line.
 #[derive(Clone, Copy, Debug, PartialEq, Eq)]

@@ -3,14 +3,12 @@
 ghost use Rattle.std.specs.Prelude.{◌≡◌, ℕ, ◌+◌, ◌%◌, ◌^◌, ◌<◌, ◌≤◌, length, map, IfOk, IfSome};
 ghost use Rattle.std.specs.Option.{option_map};
 ghost use Rattle.rv_inst.specs.Table.{Fits, shift_end};
-ghost use Rattle.rv_inst.specs.Format.{FitsBits, signed};
-ghost use Rattle.asm_text.specs.Tokens.{token_of, spans};
-ghost use Rattle.asm_text.specs.Statements.{value_seen, value_of, values_of, statement_seen, fields_seen, filled_seen, reg, low12, made, IsSound};
+ghost use Rattle.asm_words.specs.Tokens.{token_of, spans};
+ghost use Rattle.asm_text.specs.Statements.{value_seen, value_of, values_of, statement_seen, fields_seen, filled_seen, reg, made, IsSound};
 
-use crate::lexing::Token;
-use crate::words::{bits_of, number_of};
+use asm_words::{Token, bits_of, number_of};
 use basics::NoMemory;
-use rv_inst::{BranchOp, ImmOp, Inst, LoadOp, Reg, RegOp, ShiftOp, StoreOp};
+use rv_inst::{BranchOp, ImmOp, Inst, LoadOp, Reg, RegOp, ShiftOp, StoreOp, low_twelve};
 use std::alloc::Global;
 
 /// How many bytes a value has.
@@ -134,15 +132,6 @@ fn reg(number: u8) -> Reg
     Reg::new(number % 32)
 }
 
-/// The low twelve bits as a signed number.
-fn low12(number: u64) -> i16
-    ensures value { result ≡ low12 number }
-    ensures fits { FitsBits 11 result }
-{
-    let bits = (number % 4096) as i16;
-    if bits < 0x800 { bits } else { bits - 0x1000 }
-}
-
 /// The low twenty bits.
 fn low20(number: u64) -> u32
     ensures { result ≡ number % 2 ^ 20 }
@@ -208,17 +197,17 @@ pub fn made<'s>(alloc: Global, filled: Filled<'s, '_>) -> Result<Statement<'s>, 
         Make::Jalr => Statement::Plain(Inst::Jalr {
             rd,
             rs1,
-            offset: low12(number),
+            offset: low_twelve(number),
         }),
         Make::CallBy => Statement::Plain(Inst::Jalr {
             rd: reg(1),
             rs1,
-            offset: low12(0),
+            offset: low_twelve(0),
         }),
         Make::Return => Statement::Plain(Inst::Jalr {
             rd: reg(0),
             rs1: reg(1),
-            offset: low12(0),
+            offset: low_twelve(0),
         }),
         Make::Branch(op) => Statement::Branch {
             op,
@@ -230,25 +219,25 @@ pub fn made<'s>(alloc: Global, filled: Filled<'s, '_>) -> Result<Statement<'s>, 
             op,
             rd,
             rs1,
-            offset: low12(number),
+            offset: low_twelve(number),
         }),
         Make::Store(op) => Statement::Plain(Inst::Store {
             op,
             rs1,
             rs2,
-            offset: low12(number),
+            offset: low_twelve(number),
         }),
         Make::Imm(op) => Statement::Plain(Inst::Imm {
             op,
             rd,
             rs1,
-            imm: low12(number),
+            imm: low_twelve(number),
         }),
         Make::ImmBy(op, number) => Statement::Plain(Inst::Imm {
             op,
             rd,
             rs1,
-            imm: low12(number),
+            imm: low_twelve(number),
         }),
         Make::Shift(op) => Statement::Plain(Inst::Shift {
             op,

@@ -1,9 +1,10 @@
 -- General lemmas of choices, lists and prefixes, for every crate.
-use Rattle.std.proofs.Common.{◌≡◌, ◌≢◌, ℕ, ◌-◌, zero, suc, ◌<◌, ◌≤◌, Bool, true, false, eqb, eqb-true, ltb, ltb-true, ltb-false, List, [], ◌∷◌, ◌++◌, length, set, get_or, refl, sym, ap, ◌∙◌, subst, arith, Some, length-append, length-set, append_assoc, append-nil}
+use Rattle.std.proofs.Common.{◌≡◌, ◌≢◌, ℕ, ◌+◌, ◌-◌, zero, suc, ◌<◌, ◌≤◌, Bool, true, false, eqb, eqb-true, ltb, ltb-true, ltb-false, List, [], ◌∷◌, ◌++◌, length, set, get_or, refl, sym, ap, ◌∙◌, subst, arith, Some, length-append, length-set, append_assoc, append-nil}
 use Rattle.std.proofs.lemmas.Bool.{eqb-false}
 use Rattle.std.proofs.lemmas.List.{set-append_left, set-append_right, get_or_append_left, get_or-append_right}
 use Rattle.std.proofs.lemmas.Option.{slice_get-get_or, same_Some}
 use Rattle.std.specs.Prelude.{slice_get}
+use Rattle.std.specs.List.{flat_map, range_with_len}
 use mathlib.Core.List.{IsPrefix}
 
 -- ## Choices
@@ -87,6 +88,19 @@ pub get_back : {A : Type 0} (xs f b : List A) (j : ℕ) (d : A) → xs ≡ f ++ 
 get_back xs f b j d e n h =
     let z : j - j ≡ 0 = omega arith in
     slice_get-get_or xs j d h ∙ ap Some (ap (λ ys. get_or ys j d) e ∙ get_or-append_right f b j j d n (omega arith) ∙ ap (λ k. get_or b k d) z)
+
+-- ## A list made item by item from numbers in a row
+
+-- the first of those that are left
+pub range_left : (n k : ℕ) → k < n → range_with_len k (n - k) ≡ k ∷ range_with_len (k + 1) (n - (k + 1))
+range_left n k h = let more : n - k ≡ suc (n - (k + 1)) = omega arith in rw more refl
+
+-- one more is made
+pub one_more : {A : Type 0} (f : ℕ → List A) (now new whole : List A) (n k : ℕ) → k < n → new ≡ now ++ f k
+    → now ++ flat_map f (range_with_len k (n - k)) ≡ whole → new ++ flat_map f (range_with_len (k + 1) (n - (k + 1))) ≡ whole
+one_more f now new whole n k h e so_far =
+    let rest = flat_map f (range_with_len (k + 1) (n - (k + 1))) in
+    ap (λ x. x ++ rest) e ∙ append_assoc now (f k) rest ∙ ap (λ ks. now ++ flat_map f ks) (sym (range_left n k h)) ∙ so_far
 
 -- ## Prefixes
 

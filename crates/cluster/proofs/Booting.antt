@@ -12,13 +12,13 @@ use Rattle.run_trace.specs.Cluster.{Net, fresh_net, after_or, sent, received}
 use Rattle.run_trace.specs.Console.{console_of, printed}
 use Rattle.run_trace.specs.Histories.{own_entries, seen}
 use Rattle.run_trace.specs.Legality.{Legal, NoneAbove, boot_entry, boot_entries}
-use Rattle.run_trace.specs.Local.{Doing, fresh}
+use Rattle.run_trace.specs.Local.{EventSoFar, fresh}
 use Rattle.run_trace.specs.Machine.{local_event, turn_event}
 use Rattle.run_trace.specs.Program.{Program, nodes_of, quantum_limit}
 use Rattle.run_trace.specs.Spots.{at_first}
 use Rattle.run_trace.specs.Trace.{done_for, events_of, prints_or, sends_or}
 use Rattle.trace_laws.specs.Beginnings.{BeginsSo}
-use Rattle.trace_laws.proofs.Lemmas.{begins_so, beginnings_legal, starts, run_whole}
+use Rattle.trace_laws.proofs.Lemmas.{begins_so, beginnings_legal, console_after}
 use Rattle.wires.specs.declared.ends.Ends.{Ends}
 use Rattle.wires.specs.Ends.{of_link, sent_to, received_from, width}
 use Rattle.wires.specs.Link.{link_sent, link_received}
@@ -26,8 +26,8 @@ use Rattle.wires.specs.Wires.{row_link, sent_on, received_on, AreWired, AreFresh
 use Rattle.wires.proofs.Lemmas.{all_stay_wired, sent_on-node, received_on-node, stays_refl}
 use Rattle.basics.proofs.Lemmas.{by_eq, by_less, some_at}
 use Rattle.node_loop.specs.View.{NodeView}
-use Rattle.cluster.specs.Between.{AllOf, AreNumbered, AreReady, HasBegun, HaveBegun, wires_in}
-use Rattle.cluster.specs.Standing.{StandsFor, AgreesWith, IsNodeOf, NoneLater, entries_at, net_after, turns_in}
+use Rattle.cluster.specs.Between.{AllOf, AreNumbered, AreReady, HasBegun, HaveBegun, HaveBooted, wires_in}
+use Rattle.cluster.specs.Standing.{AgreesWith, IsNodeOf, NoneLater, entries_at, net_after, turns_in}
 use Rattle.cluster.specs.View.{ClusterView, view_of, ends_of, console_at, greatest_clock, round_at, round_in}
 use Rattle.cluster.proofs.Clocks.{greatest_is}
 use Rattle.cluster.proofs.Runs.{carried_run}
@@ -60,17 +60,17 @@ began p n l ends v h =
     record {
       program = ap (λ (z : NodeView). z.program) d.after;
       me = ap (λ (z : NodeView). z.me) d.after;
-      state = ap (λ (z : NodeView). z.state) d.after ∙ ap (λ (z : Doing). z.node) same;
+      state = ap (λ (z : NodeView). z.state) d.after ∙ ap (λ (z : EventSoFar). z.node) same;
       booted = h.booted;
       clock = ap (λ (z : NodeView). z.clock) d.after ∙ stamp;
       round = ap (λ (z : NodeView). z.round) d.after;
       entries = ap (λ (z : NodeView). z.entries) d.after
           ∙ ap (λ k. (record { stamp = k; node = n; round = 0; act = Boot; labels = d.done.labels }) ∷ []) stamp
-          ∙ ap (λ (ls : List Label). (record { stamp = 1; node = n; round = 0; act = Boot; labels = ls }) ∷ []) (ap (λ (z : Doing). z.labels) same ∙ sym b.labels);
-      console = ap (λ (z : NodeView). z.console) d.after ∙ ap (λ (z : Doing). z.prints) same ∙ b.prints;
+          ∙ ap (λ (ls : List Label). (record { stamp = 1; node = n; round = 0; act = Boot; labels = ls }) ∷ []) (ap (λ (z : EventSoFar). z.labels) same ∙ sym b.labels);
+      console = ap (λ (z : NodeView). z.console) d.after ∙ ap (λ (z : EventSoFar). z.prints) same ∙ b.prints;
       sends = λ k e. by_less k (width ends)
           (λ lt. d.links.sent k lt ∙ ap (λ ps. ps ++ packets_to k (suc (max 0 (seen d.took))) d.done.sends) e
-          ∙ ap (λ (ss : List Send). packets_to k (suc (max 0 (seen d.took))) ss) (ap (λ (z : Doing). z.sends) same ∙ b.sends))
+          ∙ ap (λ (ss : List Send). packets_to k (suc (max 0 (seen d.took))) ss) (ap (λ (z : EventSoFar). z.sends) same ∙ b.sends))
           (λ ge. ap (of_link link_sent) (slice_get_past v.ends.links.items k (omega (arith, ge, d.links.wide, v.ends.links.ok.0))));
       takes = λ k e. d.links.received k ∙ ap (λ ps. ps ++ []) e;
       wired = d.links.wired;
@@ -94,7 +94,7 @@ acting : (p : Program) (k m : ℕ) → m ≡ k → (i : m < nodes_of p) (l : k <
 acting p k m e i l net h =
     ap (λ b. cond b (after_or (local_event p m (net.nodes m) Boot None) (net.nodes m)) (net.nodes m)) (eq-eqb k m (sym e))
     ∙ ap (λ z. after_or (local_event p z (net.nodes z) Boot None) (net.nodes z)) e ∙ h ∙ (let same : Some (begins_so p k l).done ≡ Some (begins_so p m i).done =
-    sym (begins_so p k l).is ∙ ap (λ z. local_event p z (fresh p z) Boot None) (sym e) ∙ (begins_so p m i).is in ap (λ (o : Option Doing). after_or o (fresh p m)) same)
+    sym (begins_so p k l).is ∙ ap (λ z. local_event p z (fresh p z) Boot None) (sym e) ∙ (begins_so p m i).is in ap (λ (o : Option EventSoFar). after_or o (fresh p m)) same)
 
 starts_with : (p : Program) (k : ℕ) → k ≤ nodes_of p → Starts p k
 starts_with p zero l = record { here = λ m h i. absurd (omega arith); later = λ m h. refl; sends = λ i j. refl; takes = λ i j. refl; prints = refl }
@@ -134,9 +134,13 @@ first_rounds : (p : Program) (k : ℕ) → NoneAbove 0 (boot_entries p k)
 first_rounds p zero = tt
 first_rounds p (suc k) = (omega arith, first_rounds p k)
 
-no_turns : (p : Program) (k : ℕ) → turns_in (boot_entries p k) ≡ 0
+pub no_turns : (p : Program) (k : ℕ) → turns_in (boot_entries p k) ≡ 0
 no_turns p zero = refl
 no_turns p (suc k) = omega (arith, no_turns p k)
+
+pub boot_count : (p : Program) (k : ℕ) → length (boot_entries p k) ≡ k
+boot_count p zero = refl
+boot_count p (suc k) = ap suc (boot_count p k)
 
 -- ## The ends
 
@@ -207,8 +211,8 @@ module _ (p : Program) (wires : List (Ends Packet)) (wide : nodes_of p ≤ lengt
 
 module _ (p : Program) (wires : List (Ends Packet)) (fr : AreFreshFor (length wires) wires) (wide : nodes_of p ≤ length wires) (nodes : List NodeView) (rest : List (Ends Packet))
     (r : AreReady p (nodes_of p) wires nodes rest) (some : 0 < p.setup.quantum) (few : p.setup.quantum ≤ quantum_limit) (aligned : p.image.main % 4 ≡ 0) where
-  abbrev lines : List Entry
-  lines = boot_entries p (nodes_of p)
+  abbrev trace : List Entry
+  trace = boot_entries p (nodes_of p)
 
   abbrev now : ClusterView
   now = view_of p 0 nodes rest
@@ -233,7 +237,7 @@ module _ (p : Program) (wires : List (Ends Packet)) (fr : AreFreshFor (length wi
       let o = some_at r.first n (omega (arith, r.settled.nodes.count, slice_get_within nodes n u e)) in
       record { old = o.0; at_first_place = o.1; is = r.settled.nodes.each n o.0 u o.1 e; at_old = at p wires wide r.first rest r.begun n o.0 o.1 }
 
-  node_is : (n : ℕ) (u : NodeView) → slice_get nodes n ≡ Some u → IsNodeOf now lines n u
+  node_is : (n : ℕ) (u : NodeView) → slice_get nodes n ≡ Some u → IsNodeOf now trace n u
   node_is n u e =
       let k = now_at n u e in
       let b = k.at_old.began in
@@ -248,7 +252,7 @@ module _ (p : Program) (wires : List (Ends Packet)) (fr : AreFreshFor (length wi
   clock_is : (n : ℕ) (u : NodeView) → slice_get nodes n ≡ Some u → u.clock ≡ 1
   clock_is n u e = let k = now_at n u e in ap (λ (z : NodeView). z.clock) k.is ∙ k.at_old.began.clock
 
-  pub ready_clock : greatest_clock nodes ≡ 1
+  ready_clock : greatest_clock nodes ≡ 1
   ready_clock =
       let u = some_at nodes 0 (omega (arith, count, p.setup.geometry.some_node)) in
       greatest_is 1 nodes 0 u.0 u.1 (clock_is 0 u.0 u.1) (λ m w e. omega (arith, clock_is m w e))
@@ -256,12 +260,12 @@ module _ (p : Program) (wires : List (Ends Packet)) (fr : AreFreshFor (length wi
   round_is : (n : ℕ) (u : NodeView) → slice_get nodes n ≡ Some u → u.round ≡ 0
   round_is n u e = let k = now_at n u e in ap (λ (z : NodeView). z.round) k.is ∙ k.at_old.began.round
 
-  pub ready_round : round_in now ≡ 0
+  ready_round : round_in now ≡ 0
   ready_round =
       let u = some_at nodes 0 (omega (arith, count, p.setup.geometry.some_node)) in
       ap round_at u.1 ∙ round_is 0 u.0 u.1
 
-  entries_are : (m : ℕ) → own_entries m lines ≡ reverse (entries_at (slice_get nodes m))
+  entries_are : (m : ℕ) → own_entries m trace ≡ reverse (entries_at (slice_get nodes m))
   entries_are m = by_less m (nodes_of p)
       (λ l.
       let u = some_at nodes m (omega (arith, l, count)) in
@@ -269,18 +273,18 @@ module _ (p : Program) (wires : List (Ends Packet)) (fr : AreFreshFor (length wi
       own_one p m (nodes_of p) l ∙ ap reverse (sym (ap entries_at u.1 ∙ ap (λ (z : NodeView). z.entries) k.is ∙ k.at_old.began.entries)))
       (λ past. own_none p m (nodes_of p) past ∙ ap (λ o. reverse (entries_at o)) (sym (slice_get_past nodes m (omega (arith, past, count)))))
 
-  console_is : console_of p (at_first p) lines ≡ console_at (slice_get nodes 0)
+  console_is : console_of p (at_first p) trace ≡ console_at (slice_get nodes 0)
   console_is =
-      let whole : printed (events_of p (fresh_net p) lines) ≡ console_of p (at_first p) lines = (run_whole p (at_first p) (fresh_net p) (starts p) lines (beginnings_legal p).runs).console in
+      let whole : printed (events_of p (fresh_net p) trace) ≡ console_of p (at_first p) trace = console_after p trace (beginnings_legal p).runs in
       let u = some_at nodes 0 (omega (arith, count, p.setup.geometry.some_node)) in
       let k = now_at 0 u.0 u.1 in
       sym whole ∙ told.prints ∙ sym (ap console_at u.1 ∙ ap (λ (z : NodeView). z.console) k.is ∙ k.at_old.began.console)
 
   -- no part of the trace came before
-  whole : lines ≡ lines ++ []
-  whole = sym (append-nil lines)
+  whole : trace ≡ trace ++ []
+  whole = sym (append-nil trace)
 
-  agrees : AgreesWith now [] lines
+  agrees : AgreesWith now [] trace
   agrees = record {
     legal = subst (λ xs. Legal p xs) whole (beginnings_legal p);
     trace = record { order = (beginnings_legal p).order; entries = entries_are; wired = r.settled.wired };
@@ -288,31 +292,31 @@ module _ (p : Program) (wires : List (Ends Packet)) (fr : AreFreshFor (length wi
     turns = sym (no_turns p (nodes_of p));
     node = λ n u e. subst (λ xs. IsNodeOf now xs n u) whole (node_is n u e);
     one_round = λ n u e. round_is n u e ∙ sym ready_round;
-    rounds = subst (λ k. NoneAbove k (lines ++ [])) (sym ready_round) (subst (λ xs. NoneAbove 0 xs) whole (first_rounds p (nodes_of p)));
-    stamps = subst (λ k. NoneLater k (lines ++ [])) (sym ready_clock) (subst (λ xs. NoneLater 1 xs) whole (first_stamps p (nodes_of p)));
+    rounds = subst (λ k. NoneAbove k (trace ++ [])) (sym ready_round) (subst (λ xs. NoneAbove 0 xs) whole (first_rounds p (nodes_of p)));
+    stamps = subst (λ k. NoneLater k (trace ++ [])) (sym ready_clock) (subst (λ xs. NoneLater 1 xs) whole (first_stamps p (nodes_of p)));
     clocks = λ n u e. omega (arith, clock_is n u e);
     carried = record {
       sends = λ i j. r.settled.same.same_sent i j ∙ none_sent p wires wide r.first rest r.begun fr i j ∙ sym (told.sends i j);
       takes = λ i j. r.settled.same.same_received i j ∙ none_received p wires wide r.first rest r.begun fr i j ∙ sym (told.takes i j);
     };
     under_way = λ i j.
-        ap (λ ps. ps ++ (net_after p (lines ++ [])).links i j) (r.settled.same.same_received i j ∙ none_received p wires wide r.first rest r.begun fr i j ∙ sym (told.takes i j))
-        ∙ ap (λ xs. received i j (events_of p (fresh_net p) lines) ++ (net_after p xs).links i j) (sym whole)
-        ∙ carried_run p lines i j ∙ told.sends i j ∙ sym (r.settled.same.same_sent i j ∙ none_sent p wires wide r.first rest r.begun fr i j);
+        ap (λ ps. ps ++ (net_after p (trace ++ [])).links i j) (r.settled.same.same_received i j ∙ none_received p wires wide r.first rest r.begun fr i j ∙ sym (told.takes i j))
+        ∙ ap (λ xs. received i j (events_of p (fresh_net p) trace) ++ (net_after p xs).links i j) (sym whole)
+        ∙ carried_run p trace i j ∙ told.sends i j ∙ sym (r.settled.same.same_sent i j ∙ none_sent p wires wide r.first rest r.begun fr i j);
     console = ap (console_of p (at_first p)) (sym whole) ∙ console_is;
     some_quantum = some;
     bounded_quantum = few;
     aligned = aligned;
   }
 
-  pub begun_stands : StandsFor now [] lines
-  begun_stands = record {
-    agrees = agrees;
-    settled = λ i j x y li lj f g. r.settled.settled i j x y (omega (arith, li, first_many)) (omega (arith, lj, first_many)) f g;
+  pub booted : HaveBooted p wires nodes rest
+  booted = record {
+    programs = λ n u e. let k = now_at n u e in ap (λ (z : NodeView). z.program) k.is ∙ k.at_old.began.program;
+    stands = record {
+      agrees = agrees;
+      settled = λ i j x y li lj f g. r.settled.settled i j x y (omega (arith, li, first_many)) (omega (arith, lj, first_many)) f g;
+    };
+    clock = ready_clock;
+    round = ready_round;
+    wide = r.settled.same.nodes ∙ long p wires wide r.first rest r.begun;
   }
-
-  pub ready_all : AllOf p nodes
-  ready_all n u e = let k = now_at n u e in ap (λ (z : NodeView). z.program) k.is ∙ k.at_old.began.program
-
-  pub ready_long : length (wires_in nodes rest) ≡ length wires
-  ready_long = r.settled.same.nodes ∙ long p wires wide r.first rest r.begun

@@ -33,32 +33,32 @@ abbrev pub AreSorted : List NodeView → Type 0
 AreSorted nodes = (n : ℕ) (v : NodeView) → slice_get nodes n ≡ Some v → AreInOrder v.state.threads
 
 module _ (c : ClusterView) (before kept : List Entry) (s : StandsFor c before kept) (sorted : AreSorted c.nodes) where
-  abbrev lines : List Entry
-  lines = kept ++ before
+  abbrev trace : List Entry
+  trace = kept ++ before
 
-  same_names : (n : ℕ) (v : NodeView) → slice_get c.nodes n ≡ Some v → names_of v.state.places.rows ≡ unwaiting v.state.threads
+  same_names : (n : ℕ) (v : NodeView) → slice_get c.nodes n ≡ Some v → names_of v.state.run_lists.rows ≡ unwaiting v.state.threads
   same_names n v at =
       let state = (s.agrees.node n v at).state in
-      let net = net_after c.program lines in
-      ap (λ (l : Local). names_of l.places.rows) (sym state)
-      ∙ names_ready c.program (spots_of c.program (at_first c.program) lines) net (stands c before kept s) n (subst (λ (l : Local). AreInOrder l.threads) (sym state) (sorted n v at))
+      let net = net_after c.program trace in
+      ap (λ (l : Local). names_of l.run_lists.rows) (sym state)
+      ∙ names_ready c.program (spots_of c.program (at_first c.program) trace) net (stands c before kept s) n (subst (λ (l : Local). AreInOrder l.threads) (sym state) (sorted n v at))
       ∙ sym (ready_names c before kept s n) ∙ ap (λ (l : Local). unwaiting l.threads) state
 
   node_acts : (moves : Bool) (n : ℕ) (v : NodeView) → slice_get c.nodes n ≡ Some v → acts_in moves v ≡ acts_by moves v
   node_acts moves n v at =
       ap (λ ts. run_by v ++ (takes_from v (run 0 (nodes_of v.program)) ++ cond moves (flat_map (λ t. moves_among v.me t (run 0 (nodes_of v.program))) ts) [])) (same_names n v at)
 
-  all_in : (moves : Bool) → flat_map (acts_in moves) c.nodes ≡ possible_acts moves c.program (net_after c.program lines)
+  all_in : (moves : Bool) → flat_map (acts_in moves) c.nodes ≡ possible_acts moves c.program (net_after c.program trace)
   all_in moves = flat_alike (acts_in moves) (acts_by moves) c.nodes (node_acts moves) ∙ all_acts c before kept s moves
 
   pub nothing_chosen : (moves : Bool) (total word : ℕ) → IsCapped total (length (flat_map (acts_in moves) c.nodes)) → total ≡ 0
-      → None ≡ slice_get (possible_acts moves c.program (net_after c.program lines)) (word % length (possible_acts moves c.program (net_after c.program lines)))
+      → None ≡ slice_get (possible_acts moves c.program (net_after c.program trace)) (word % length (possible_acts moves c.program (net_after c.program trace)))
   nothing_chosen moves total word capped z =
       let none = ap (λ (acts : List (ℕ × Act)). length acts) (all_in moves) in
-      sym (slice_get_past (possible_acts moves c.program (net_after c.program lines)) _ (omega (arith, capped, z, none)))
+      sym (slice_get_past (possible_acts moves c.program (net_after c.program trace)) _ (omega (arith, capped, z, none)))
 
   pub chosen_by : (moves : Bool) (total word : ℕ) (it : Option (ℕ × Act)) → IsCapped total (length (flat_map (acts_in moves) c.nodes)) → word < 2 ^ 32 → it ≡ slice_get (flat_map (acts_in moves) c.nodes) (word % total)
-      → it ≡ slice_get (possible_acts moves c.program (net_after c.program lines)) (word % length (possible_acts moves c.program (net_after c.program lines)))
+      → it ≡ slice_get (possible_acts moves c.program (net_after c.program trace)) (word % length (possible_acts moves c.program (net_after c.program trace)))
   chosen_by moves total word it capped low is =
       is ∙ ap (slice_get (flat_map (acts_in moves) c.nodes)) (word_same total _ word capped low)
       ∙ ap (λ (acts : List (ℕ × Act)). slice_get acts (word % length acts)) (all_in moves)

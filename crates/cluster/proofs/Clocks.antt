@@ -1,5 +1,5 @@
 -- The greatest of the nodes' clocks, and the nodes' round.
-use Rattle.std.proofs.Common.{◌≡◌, ℕ, zero, suc, ◌+◌, ◌*◌, ◌-◌, ◌^◌, ◌<◌, ◌≤◌, max, List, [], ◌∷◌, length, reverse, drop, get_or, Some, Bool, true, false, cond, refl, sym, ap, ◌∙◌, arith}
+use Rattle.std.proofs.Common.{◌≡◌, ℕ, zero, suc, ◌+◌, ◌*◌, ◌-◌, ◌^◌, ◌<◌, ◌≤◌, max, List, [], ◌∷◌, length, reverse, drop, get_or, Some, Bool, true, false, cond, eqb, refl, sym, ap, ◌∙◌, arith}
 use Rattle.std.specs.Prelude.{nat_lt, slice_get}
 use Rattle.std.proofs.Math.Nat.{le-max_left, le-max_right, max-le, max-zero, zero-max}
 use Rattle.std.proofs.Math.Seq.{drop-cons}
@@ -12,8 +12,8 @@ use Rattle.run_trace.specs.Program.{nodes_of}
 use Rattle.basics.proofs.Lemmas.{some_at}
 use Rattle.node_loop.specs.View.{NodeView, next_round}
 use Rattle.node_loop.specs.Turns.{entry_limit}
-use Rattle.cluster.specs.Standing.{AgreesWith, HasRoom, entries_at}
-use Rattle.cluster.specs.View.{ClusterView, greatest_clock}
+use Rattle.cluster.specs.Standing.{AgreesWith, HasRoom, HasTrace, clock_limit, entries_at}
+use Rattle.cluster.specs.View.{ClusterView, greatest_clock, last_clock}
 use Rattle.cluster.proofs.Runs.{few_all, few_own, later_front}
 
 pub clock_within : (vs : List NodeView) (n : ℕ) (v : NodeView) → slice_get vs n ≡ Some v → v.clock ≤ greatest_clock vs
@@ -76,27 +76,42 @@ next_not_below round = by (nat_lt round (2 ^ 64 - 1))
 pub next_is : (round : ℕ) → round < 2 ^ 64 - 1 → next_round round ≡ suc round
 next_is round l = ap (λ b. cond b (suc round) round) (lt-ltb round (2 ^ 64 - 1) l)
 
+-- ## How many entries a node keeps
+
+own_fewer : (n : ℕ) (trace : List Entry) → length (own_entries n trace) ≤ length trace
+own_fewer n [] = omega arith
+own_fewer n (x ∷ xs) = by (eqb x.node n) (own_fewer n xs)
+  where
+    by : (c : Bool) → length (own_entries n xs) ≤ length xs → length (cond c (x ∷ own_entries n xs) (own_entries n xs)) ≤ suc (length xs)
+    by true h = omega (arith, h)
+    by false h = omega (arith, h)
+
+module _ (c : ClusterView) (kept : List Entry) (t : HasTrace c kept) (n : ℕ) (v : NodeView) (at : slice_get c.nodes n ≡ Some v) where
+  own_many : length (own_entries n kept) ≡ length v.entries
+  own_many = ap length (t.entries n ∙ ap (λ o. reverse (entries_at o)) at) ∙ length-reverse v.entries
+
+  pub keeps_within : length v.entries ≤ length kept
+  keeps_within = omega (arith, own_many, own_fewer n kept)
+
 module _ (c : ClusterView) (before kept : List Entry) (s : AgreesWith c before kept) where
   pub few_kept : length kept ≤ nodes_of c.program * entry_limit
   few_kept = few_all (nodes_of c.program) entry_limit kept
       (λ n past. s.trace.entries n ∙ ap (λ o. reverse (entries_at o)) (slice_get_past c.nodes n (omega (arith, past, s.count))))
       (λ n l.
       let v = some_at c.nodes n (omega (arith, l, s.count)) in
-      let same : length (own_entries n kept) ≡ length v.0.entries = ap length (s.trace.entries n ∙ ap (λ o. reverse (entries_at o)) v.1) ∙ length-reverse v.0.entries in
-      omega (arith, same, (s.node n v.0 v.1).few))
+      omega (arith, own_many c kept s.trace n v.0 v.1, (s.node n v.0 v.1).few))
 
   -- eight nodes
   pub few_entries : length kept ≤ 16000000
   few_entries = omega (arith, few_kept, c.program.setup.geometry.few_nodes)
 
-  pub greatest_within : greatest_clock c.nodes < 2 ^ 61 + length kept
-  greatest_within = greatest_below (2 ^ 61 + length kept) c.nodes (omega arith) s.clocks
+  pub greatest_within : greatest_clock c.nodes < clock_limit (length kept)
+  greatest_within = greatest_below (clock_limit (length kept)) c.nodes (omega arith) s.clocks
 
-  pub clocks_low : greatest_clock c.nodes < 2 ^ 62 - 1
+  pub clocks_low : greatest_clock c.nodes < last_clock
   clocks_low = omega (arith, greatest_within, few_entries)
 
   -- a node has at most one entry for each stamp, so where the clocks are low it has room for more
   pub has_room : greatest_clock c.nodes + 1 < entry_limit → (n : ℕ) → HasRoom c n
   has_room low n v at =
-      let same : length (own_entries n kept) ≡ length v.entries = ap length (s.trace.entries n ∙ ap (λ o. reverse (entries_at o)) at) ∙ length-reverse v.entries in
-      omega (arith, few_own n (greatest_clock c.nodes) kept s.trace.order (later_front (greatest_clock c.nodes) kept before s.stamps), same, low)
+      omega (arith, few_own n (greatest_clock c.nodes) kept s.trace.order (later_front (greatest_clock c.nodes) kept before s.stamps), own_many c kept s.trace n v at, low)

@@ -9,9 +9,9 @@ use Rattle.slot_space.specs.Sets.{run}
 use Rattle.run_trace.specs.declared.entry.Act.{Act}
 use Rattle.run_trace.specs.declared.entry.Act.TheVariants.{Run, Take}
 use Rattle.run_trace.specs.declared.entry.Entry.{Entry}
-use Rattle.run_trace.specs.declared.node.Row.{Row}
+use Rattle.run_trace.specs.declared.node.ReadyRow.{ReadyRow}
 use Rattle.run_trace.specs.declared.packet.Packet.{Packet}
-use Rattle.run_trace.specs.Cluster.{Net, fresh_net}
+use Rattle.run_trace.specs.Cluster.{Net}
 use Rattle.run_trace.specs.Guests.{Thread}
 use Rattle.run_trace.specs.Local.{Local, fresh}
 use Rattle.run_trace.specs.Names.{is_tid}
@@ -20,7 +20,7 @@ use Rattle.run_trace.specs.Program.{Program, nodes_of, processors_of}
 use Rattle.run_trace.specs.Rules.{spots_of}
 use Rattle.run_trace.specs.Spots.{Spots, at_first}
 use Rattle.run_trace.specs.Stands.{Stands}
-use Rattle.trace_laws.proofs.Lemmas.{Inside, run_inside, stuck, is_somewhere, lives_there, halts_are, starts, run_whole}
+use Rattle.trace_laws.proofs.Lemmas.{Inside, run_inside, stuck, is_somewhere, lives_there, halts_are, stands_after}
 use Rattle.run_trace.proofs.Lemmas.{is-refl}
 use Rattle.basics.proofs.Lemmas.{by_eq, by_less, some_at}
 use Rattle.node_loop.specs.View.{NodeView}
@@ -110,7 +110,7 @@ filter_some f test first (suc count) j l m h = by (test first) refl (λ a b. fil
     by true e more k = absurd (cc k)
     by false e more k = more (by_eq j first (λ s. absurd (cc (s, e, h))) (λ ne. omega (arith, l, ne))) (omega (arith, m)) k
 
-no_rows_there : (rows : List Row) → nat_lt 0 (length rows) ≡ false → rows ≡ []
+no_rows_there : (rows : List ReadyRow) → nat_lt 0 (length rows) ≡ false → rows ≡ []
 no_rows_there [] e = refl
 no_rows_there (r ∷ rs) e = let some : nat_lt 0 (length (r ∷ rs)) ≡ true = lt-ltb 0 (length (r ∷ rs)) (omega arith) in absurd (cc (some, e))
 
@@ -126,20 +126,20 @@ module _ (c : ClusterView) (before kept : List Entry) (s : StandsFor c before ke
   abbrev p : Program
   p = c.program
 
-  abbrev lines : List Entry
-  lines = kept ++ before
+  abbrev trace : List Entry
+  trace = kept ++ before
 
   abbrev net : Net
-  net = net_after p lines
+  net = net_after p trace
 
   abbrev w : Spots
-  w = spots_of p (at_first p) lines
+  w = spots_of p (at_first p) trace
 
   stands : Stands p w net
-  stands = (run_whole p (at_first p) (fresh_net p) (starts p) lines s.agrees.legal.runs).stands
+  stands = stands_after p trace s.agrees.legal.runs
 
   inside : Inside p w net
-  inside = run_inside p lines s.agrees.legal.runs
+  inside = run_inside p trace s.agrees.legal.runs
 
   below : (n : ℕ) (v : NodeView) → slice_get c.nodes n ≡ Some v → n < nodes_of p
   below n v at = omega (arith, s.agrees.count, slice_get_within c.nodes n v at)
@@ -150,8 +150,8 @@ module _ (c : ClusterView) (before kept : List Entry) (s : StandsFor c before ke
       (λ l. let v = some_at c.nodes n (omega (arith, l, s.agrees.count)) in subst (λ z. P z) (sym (s.agrees.node n v.0 v.1).state) (here v.0 v.1))
       (λ past. subst (λ z. P z) (sym (inside.nodes n past)) first)
 
-  no_rows : any_of has_row c.nodes ≡ false → (n : ℕ) → (net.nodes n).places.rows ≡ []
-  no_rows e n = at_node (λ l. l.places.rows ≡ []) n (λ v at. no_rows_there v.state.places.rows (any_none has_row c.nodes e n v at)) refl
+  no_rows : any_of has_row c.nodes ≡ false → (n : ℕ) → (net.nodes n).run_lists.rows ≡ []
+  no_rows e n = at_node (λ l. l.run_lists.rows ≡ []) n (λ v at. no_rows_there v.state.run_lists.rows (any_none has_row c.nodes e n v at)) refl
 
   not_halted : any_of has_halted c.nodes ≡ false → (n : ℕ) → (net.nodes n).halted ≡ false
   not_halted e n = at_node (λ l. l.halted ≡ false) n (λ v at. any_none has_halted c.nodes e n v at) refl
@@ -185,13 +185,13 @@ module _ (c : ClusterView) (before kept : List Entry) (s : StandsFor c before ke
           let found : lookup (is_tid e.0) m.node.state.threads ≡ Some e.1 = ap (λ xs. lookup (is_tid e.0) xs) h ∙ ap (λ b. cond b (Some e.1) (lookup (is_tid e.0) es)) (is-refl e.0) in
           (e.0, lives_there p w net stands e.0 m.place e.1 (ap (λ (z : Local). lookup (is_tid e.0) z.threads) (s.agrees.node m.place m.node m.at).state ∙ found))
 
-  done_by_halt : Some_of has_halted c.nodes → IsDoneAt p lines
+  done_by_halt : Some_of has_halted c.nodes → IsDoneAt p trace
   done_by_halt m = inl (m.place, sym (halts_are p w net stands m.place) ∙ ap (λ (z : Local). z.halted) (s.agrees.node m.place m.node m.at).state ∙ m.so)
 
-  not_done : ((n : ℕ) → (net.nodes n).halted ≡ false) → (AllLinksEmpty net → (t : Tid) × Lives (w.threads t).life) → IsDoneAt p lines → ⊥
+  not_done : ((n : ℕ) → (net.nodes n).halted ≡ false) → (AllLinksEmpty net → (t : Tid) × Lives (w.threads t).life) → IsDoneAt p trace → ⊥
   not_done h some d = elim d as (λ z. ⊥) [ inl k ↦ absurd (cc (h k.0, halts_are p w net stands k.0, k.1)) | inr k ↦ (let l = some k.1 in k.0 l.0 l.1) ]
 
-  goes_by_packet : ((n : ℕ) → (net.nodes n).halted ≡ false) → Some_of knows_packet c.nodes → GoesOn p lines
+  goes_by_packet : ((n : ℕ) → (net.nodes n).halted ≡ false) → Some_of knows_packet c.nodes → GoesOn p trace
   goes_by_packet h m =
       let known : Known m.node 0 (nodes_of m.node.program) = knows_some m.node 0 (nodes_of m.node.program) m.so in
       let j : ℕ = m.place in
@@ -213,23 +213,23 @@ module _ (c : ClusterView) (before kept : List Entry) (s : StandsFor c before ke
   some_run n true e k = absurd (cc k)
   some_run n false e k = absurd (cc e)
 
-  goes_by_row : ((n : ℕ) → (net.nodes n).halted ≡ false) → (t : Tid) × Lives (w.threads t).life → Some_of has_row c.nodes → GoesOn p lines
+  goes_by_row : ((n : ℕ) → (net.nodes n).halted ≡ false) → (t : Tid) × Lives (w.threads t).life → Some_of has_row c.nodes → GoesOn p trace
   goes_by_row h lives m =
       let n : ℕ = m.place in
       let ln : n < nodes_of p = below n m.node m.at in
-      let pick : has_pick net n ≡ true = ap (λ (z : Local). nat_lt 0 (length z.places.rows)) (s.agrees.node n m.node m.at).state ∙ m.so in
+      let pick : has_pick net n ≡ true = ap (λ (z : Local). nat_lt 0 (length z.run_lists.rows)) (s.agrees.node n m.node m.at).state ∙ m.so in
       record {
         not_done = not_done h (λ none. lives);
-        not_stuck = λ k. (let none : has_pick net n ≡ false = ap (λ (rs : List Row). nat_lt 0 (length rs)) (k.rows n) in cc (pick, none));
+        not_stuck = λ k. (let none : has_pick net n ≡ false = ap (λ (rs : List ReadyRow). nat_lt 0 (length rs)) (k.rows n) in cc (pick, none));
         possible = λ moves. flat_some (acts_of moves p net) 0 (nodes_of p) n (omega arith) (omega (arith, ln))
             (front_some (runs_of p net n) (takes_of p net n ++ moves_of moves p net n) (some_run n (has_pick net n) pick));
       }
 
-  pub decided_right : IsAt p lines (decided (any_of has_halted c.nodes) (any_of knows_packet c.nodes) (any_of has_thread c.nodes) (any_of has_row c.nodes))
+  pub decided_right : IsAt p trace (decided (any_of has_halted c.nodes) (any_of knows_packet c.nodes) (any_of has_thread c.nodes) (any_of has_row c.nodes))
   decided_right = by (any_of has_halted c.nodes) refl (any_of knows_packet c.nodes) refl (any_of has_thread c.nodes) refl (any_of has_row c.nodes) refl
     where
       by : (h : Bool) → any_of has_halted c.nodes ≡ h → (k : Bool) → any_of knows_packet c.nodes ≡ k → (t : Bool) → any_of has_thread c.nodes ≡ t → (r : Bool) → any_of has_row c.nodes ≡ r
-          → IsAt p lines (decided h k t r)
+          → IsAt p trace (decided h k t r)
       by true he k ke t te r re = done_by_halt (any_some has_halted c.nodes he)
       by false he true ke t te r re = goes_by_packet (not_halted he) (any_some knows_packet c.nodes ke)
       by false he false ke true te true re = goes_by_row (not_halted he) (one_lives (any_some has_thread c.nodes te)) (any_some has_row c.nodes re)

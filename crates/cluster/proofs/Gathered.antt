@@ -36,15 +36,15 @@ begins_on p old new some b = elim b as (λ z. Begins p (new ++ old)) [
 legal_on : (p : Program) (old new : List Entry) → Legal p old → old ≢ [] → IsInOrder (new ++ old) → AreRising (new ++ old) → IsRun p (net_after p old) new → Legal p (new ++ old)
 legal_on p old new l some order rising run = whole p (new ++ old) order (begins_on p old new some l.begins) rising (runs_on p (fresh_net p) old new l.runs run)
 
-pub are_joined : (p : Program) (old lines : List Entry) (histories : ℕ → List Event) → JoinsAfter p old lines histories
-    → IsRun p (net_after p old) lines
-    → ((n : ℕ) → (net_after_trace p (net_after p old) lines).nodes n ≡ state p n ((net_after p old).nodes n) (histories n))
-    → ((i j : ℕ) → taken_from i (histories j) ++ (net_after_trace p (net_after p old) lines).links i j ≡ (net_after p old).links i j ++ sent_to j (histories i))
-    → AreJoined p old lines histories
-are_joined p old lines histories j run nodes links = record {
-  legal = legal_on p old lines j.legal j.begun j.order j.rounds run;
-  nodes = λ n. ap (λ (net : Net). net.nodes n) (sym (net_joined p (fresh_net p) old lines)) ∙ nodes n;
-  links = λ i k. ap (λ (net : Net). taken_from i (histories k) ++ net.links i k) (sym (net_joined p (fresh_net p) old lines)) ∙ links i k;
+pub are_joined : (p : Program) (old trace : List Entry) (histories : ℕ → List Event) → JoinsAfter p old trace histories
+    → IsRun p (net_after p old) trace
+    → ((n : ℕ) → (net_after_trace p (net_after p old) trace).nodes n ≡ state p n ((net_after p old).nodes n) (histories n))
+    → ((i j : ℕ) → taken_from i (histories j) ++ (net_after_trace p (net_after p old) trace).links i j ≡ (net_after p old).links i j ++ sent_to j (histories i))
+    → AreJoined p old trace histories
+are_joined p old trace histories j run nodes links = record {
+  legal = legal_on p old trace j.legal j.begun j.order j.rounds run;
+  nodes = λ n. ap (λ (net : Net). net.nodes n) (sym (net_joined p (fresh_net p) old trace)) ∙ nodes n;
+  links = λ i k. ap (λ (net : Net). taken_from i (histories k) ++ net.links i k) (sym (net_joined p (fresh_net p) old trace)) ∙ links i k;
 }
 
 -- ## The turns of a node

@@ -1,4 +1,4 @@
--- A turn of one node, after which the nodes stand for one entry more.
+-- A turn of one node, after which the nodes stand for the trace with its entry.
 use Rattle.std.proofs.Common.{◌≡◌, ◌≢◌, ℕ, suc, ◌-◌, ◌^◌, ◌<◌, ◌≤◌, List, [], ◌∷◌, ◌++◌, length, max, Option, Some, None, Bool, true, false, cond, refl, sym, ap, ◌∙◌, subst, arith, inl, inr}
 use Rattle.std.specs.Prelude.{⊤, nat_lt, slice_get}
 use Rattle.std.proofs.lemmas.Bool.{lt-ltb, eq-eqb, ne_eqb}
@@ -8,7 +8,7 @@ use Rattle.run_trace.specs.declared.entry.Act.TheVariants.{Boot, Run, Take, Move
 use Rattle.run_trace.specs.declared.entry.Entry.{Entry}
 use Rattle.run_trace.specs.declared.packet.Packet.{Packet}
 use Rattle.run_trace.specs.Program.{Program, nodes_of}
-use Rattle.run_trace.specs.Local.{Local, Doing}
+use Rattle.run_trace.specs.Local.{Local, EventSoFar}
 use Rattle.run_trace.specs.Machine.{local_event, turn_event, is_beyond, stamp_limit, is_range}
 use Rattle.run_trace.specs.Cluster.{Net, fresh_net, after_or, next_packet, IsTaken}
 use Rattle.run_trace.specs.Console.{console_of, printed}
@@ -17,7 +17,7 @@ use Rattle.run_trace.specs.Legality.{Legal, Begins}
 use Rattle.run_trace.specs.Spots.{at_first}
 use Rattle.run_trace.specs.Trace.{IsRun, done_for, events_of, prints_or}
 use Rattle.trace_laws.specs.Gathers.{AllWithin}
-use Rattle.trace_laws.proofs.Lemmas.{fits_exactly, starts, run_whole, whole}
+use Rattle.trace_laws.proofs.Lemmas.{fits_exactly, whole, console_after}
 use Rattle.wires.specs.Ends.{known_from}
 use Rattle.node_loop.specs.View.{NodeView, next_round, raised}
 use Rattle.node_loop.specs.Turns.{IsActInRange, TakesKnown, Does, can}
@@ -54,7 +54,7 @@ takes_nothing : (p : Program) (me : ℕ) (s : Local) (from : ℕ) → local_even
 unfolding local_event
 takes_nothing p me s from = by (is_range p me s (Take from))
   where
-    by : (b : Bool) → cond {A = Option Doing} b None None ≡ None
+    by : (b : Bool) → cond {A = Option EventSoFar} b None None ≡ None
     by true = refl
     by false = refl
 
@@ -66,8 +66,8 @@ known_taken (q ∷ qs) o o' l h e = h q qs refl ∙ e
 module _ (c : ClusterView) (before kept : List Entry) (s : StandsFor c before kept) (n : ℕ) (inside : n < nodes_of c.program)
     (v : NodeView) (at : slice_get c.nodes n ≡ Some v) (act : Act) (range : IsActInRange c.program n act) (able : can v act ≡ true)
     (new : NodeView) (d : Does (raised (greatest_clock c.nodes) v) act new) where
-  abbrev lines : List Entry
-  lines = kept ++ before
+  abbrev trace : List Entry
+  trace = kept ++ before
 
   -- the greatest clock
   abbrev g : ℕ
@@ -77,12 +77,12 @@ module _ (c : ClusterView) (before kept : List Entry) (s : StandsFor c before ke
   p = c.program
 
   abbrev net : Net
-  net = net_after p lines
+  net = net_after p trace
 
   abbrev w : NodeView
   w = raised g v
 
-  is_node : IsNodeOf c lines n v
+  is_node : IsNodeOf c trace n v
   is_node = s.agrees.node n v at
 
   pub took_is : d.took ≡ next_packet net n act
@@ -94,7 +94,7 @@ module _ (c : ClusterView) (before kept : List Entry) (s : StandsFor c before ke
       by (Move t to) r b h k = h
       by (Take from) r b h k = known_taken (known_from v.ends from) d.took (first_of (net.links from n)) b k (known_first c before kept s n v at inside from r)
 
-  stamps : NoneLater g lines
+  stamps : NoneLater g trace
   stamps = s.agrees.stamps
 
   low : g < 2 ^ 62 - 1
@@ -107,7 +107,7 @@ module _ (c : ClusterView) (before kept : List Entry) (s : StandsFor c before ke
       by Boot = tt
       by (Run vp quantum) = tt
       by (Move t to) = tt
-      by (Take from) = timely g (net.links from n) (links_within p g lines stamps from n)
+      by (Take from) = timely g (net.links from n) (links_within p g trace stamps from n)
 
   took_timely : IsTimely g d.took
   took_timely = subst (λ o. IsTimely g o) (sym took_is) next_timely
@@ -154,26 +154,26 @@ module _ (c : ClusterView) (before kept : List Entry) (s : StandsFor c before ke
 
   -- ## The trace with the entry
 
-  pub runs : IsRun p (fresh_net p) (x ∷ lines)
-  runs = (fits_exactly p (fresh_net p) x lines).1 (s.agrees.legal.runs, record { done = d.done; is = done_is; labels = refl; takes = taken_in_time })
+  pub runs : IsRun p (fresh_net p) (x ∷ trace)
+  runs = (fits_exactly p (fresh_net p) x trace).1 (s.agrees.legal.runs, record { done = d.done; is = done_is; labels = refl; takes = taken_in_time })
 
-  pub order : IsInOrder (x ∷ lines)
-  order = (above g x (omega arith) lines stamps, s.agrees.legal.order)
+  pub order : IsInOrder (x ∷ trace)
+  order = (above g x (omega arith) trace stamps, s.agrees.legal.order)
 
   -- it is above the kept ones too
   pub order_kept : IsInOrder (x ∷ kept)
   order_kept = (above g x (omega arith) kept (later_front g kept before stamps), s.agrees.trace.order)
 
-  begins : Begins p (x ∷ lines)
-  begins = elim s.agrees.legal.begins as (λ z. Begins p (x ∷ lines)) [ inl none ↦ absurd (nothing none) | inr h ↦ inr (x ∷ h.0, ap (λ (xs : List Entry). x ∷ xs) h.1) ]
+  begins : Begins p (x ∷ trace)
+  begins = elim s.agrees.legal.begins as (λ z. Begins p (x ∷ trace)) [ inl none ↦ absurd (nothing none) | inr h ↦ inr (x ∷ h.0, ap (λ (xs : List Entry). x ∷ xs) h.1) ]
     where
-      nothing : lines ≡ [] → ⊥
+      nothing : trace ≡ [] → ⊥
       nothing none =
           let unbooted : v.state.booted ≡ false = ap (λ (z : Local). z.booted) (sym is_node.state) ∙ ap (λ xs. ((net_after p xs).nodes n).booted) none in
           cc (unbooted, is_node.booted)
 
-  pub legal : Legal p (x ∷ lines)
-  legal = whole p (x ∷ lines) order begins (higher (round_in c) round (next_not_below (round_in c)) lines s.agrees.rounds, s.agrees.legal.rounds) runs
+  pub legal : Legal p (x ∷ trace)
+  legal = whole p (x ∷ trace) order begins (higher (round_in c) round (next_not_below (round_in c)) trace s.agrees.rounds, s.agrees.legal.rounds) runs
 
   -- ## What it leaves
 
@@ -184,15 +184,15 @@ module _ (c : ClusterView) (before kept : List Entry) (s : StandsFor c before ke
       ∙ ap (λ k. v.entries ++ (record { stamp = stamp; node = k; round = w.round; act = act; labels = d.done.labels }) ∷ []) is_node.me
       ∙ ap (λ k. v.entries ++ (record { stamp = stamp; node = n; round = k; act = act; labels = d.done.labels }) ∷ []) round_is
 
-  pub node_is : (net_after p (x ∷ lines)).nodes n ≡ new.state
+  pub node_is : (net_after p (x ∷ trace)).nodes n ≡ new.state
   node_is =
       ap (λ b. cond b (after_or (done_for p net x) (net.nodes n)) (net.nodes n)) (eq-eqb n n refl) ∙ ap (λ o. after_or o (net.nodes n)) done_is ∙ sym (ap (λ (z : NodeView). z.state) d.after)
 
-  pub other_is : (m : ℕ) → n ≢ m → (net_after p (x ∷ lines)).nodes m ≡ net.nodes m
+  pub other_is : (m : ℕ) → n ≢ m → (net_after p (x ∷ trace)).nodes m ≡ net.nodes m
   other_is m ne = ap (λ b. cond b (after_or (local_event p m (net.nodes m) act (next_packet net n act)) (net.nodes m)) (net.nodes m)) (ne_eqb n m ne)
 
-  pub console_is : console_of p (at_first p) (x ∷ lines) ≡ console_of p (at_first p) lines ++ d.done.prints
+  pub console_is : console_of p (at_first p) (x ∷ trace) ≡ console_of p (at_first p) trace ++ d.done.prints
   console_is =
-      let old : printed (events_of p (fresh_net p) lines) ≡ console_of p (at_first p) lines = (run_whole p (at_first p) (fresh_net p) (starts p) lines s.agrees.legal.runs).console in
-      let more : printed (events_of p (fresh_net p) (x ∷ lines)) ≡ console_of p (at_first p) (x ∷ lines) = (run_whole p (at_first p) (fresh_net p) (starts p) (x ∷ lines) runs).console in
-      sym more ∙ ap (λ o. printed (events_of p (fresh_net p) lines) ++ prints_or o) done_is ∙ ap (λ bs. bs ++ d.done.prints) old
+      let old : printed (events_of p (fresh_net p) trace) ≡ console_of p (at_first p) trace = console_after p trace s.agrees.legal.runs in
+      let more : printed (events_of p (fresh_net p) (x ∷ trace)) ≡ console_of p (at_first p) (x ∷ trace) = console_after p (x ∷ trace) runs in
+      sym more ∙ ap (λ o. printed (events_of p (fresh_net p) trace) ++ prints_or o) done_is ∙ ap (λ bs. bs ++ d.done.prints) old

@@ -9,7 +9,7 @@ use Rattle.run_trace.specs.declared.packet.Packet.{Packet}
 use Rattle.run_trace.specs.Cluster.{Net}
 use Rattle.run_trace.specs.Local.{Local}
 use Rattle.run_trace.specs.Program.{Program, nodes_of}
-use Rattle.run_trace.specs.Places.{is_listed}
+use Rattle.run_trace.specs.RunLists.{is_listed}
 use Rattle.wires.specs.declared.ends.Ends.{Ends}
 use Rattle.wires.specs.declared.link.Link.{Link}
 use Rattle.wires.specs.Ends.{known_from, of_link}
@@ -77,6 +77,6 @@ module _ (c : ClusterView) (before kept : List Entry) (s : StandsFor c before ke
     -- whether it can is told by the node itself
     pub can_is : (act : Act) → IsActInRange p n act → can v act ≡ is_possible net n act
     can_is Boot r = refl
-    can_is (Run vp quantum) r = ap (λ (z : Local). nat_lt 0 (length z.places.rows)) (sym (s.agrees.node n v at).state)
+    can_is (Run vp quantum) r = ap (λ (z : Local). nat_lt 0 (length z.run_lists.rows)) (sym (s.agrees.node n v at).state)
     can_is (Take from) r = held_is (known_from v.ends from) ∙ ap is_some (known_first from r)
-    can_is (Move t to) r = ap (λ (z : Local). is_listed t z.places.rows) (sym (s.agrees.node n v at).state)
+    can_is (Move t to) r = ap (λ (z : Local). is_listed t z.run_lists.rows) (sym (s.agrees.node n v at).state)

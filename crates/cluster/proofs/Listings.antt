@@ -8,18 +8,18 @@ use Rattle.slot_space.specs.Sets.{run}
 use Rattle.run_trace.specs.declared.entry.Act.{Act}
 use Rattle.run_trace.specs.declared.entry.Act.TheVariants.{Run, Take}
 use Rattle.run_trace.specs.declared.entry.Entry.{Entry}
-use Rattle.run_trace.specs.declared.node.Row.{Row}
-use Rattle.run_trace.specs.Cluster.{Net, fresh_net}
+use Rattle.run_trace.specs.declared.node.ReadyRow.{ReadyRow}
+use Rattle.run_trace.specs.Cluster.{Net}
 use Rattle.run_trace.specs.Guests.{Thread, is_unwaiting, unwaiting}
 use Rattle.run_trace.specs.Keyed.{AreDistinct}
 use Rattle.run_trace.specs.Local.{Local}
 use Rattle.run_trace.specs.Names.{is_tid}
-use Rattle.run_trace.specs.Places.{is_listed}
+use Rattle.run_trace.specs.RunLists.{is_listed}
 use Rattle.run_trace.specs.Program.{Program, nodes_of}
 use Rattle.run_trace.specs.Rules.{spots_of}
 use Rattle.run_trace.specs.Spots.{Spots, at_first}
 use Rattle.run_trace.specs.Stands.{Stands}
-use Rattle.trace_laws.proofs.Lemmas.{listed_is, starts, run_whole}
+use Rattle.trace_laws.proofs.Lemmas.{listed_is, stands_after}
 use Rattle.run_trace.proofs.Lemmas.{is-refl, is-true}
 use Rattle.node_loop.specs.View.{NodeView}
 use Rattle.node_loop.specs.Turns.{can}
@@ -51,7 +51,7 @@ found_all : (es : List (Tid × Thread)) → AreDistinct is_tid es → AllFound e
 found_all [] h = tt
 found_all (e ∷ es) h = (ap (λ b. cond b (Some e.1) (lookup (is_tid e.0) es)) (is-refl e.0), found_later e es es h.0 (found_all es h.1))
 
-same_names : (rows : List Row) (all es : List (Tid × Thread)) → AllFound all es → ((t : Tid) (x : Thread) → lookup (is_tid t) all ≡ Some x → is_listed t rows ≡ is_unwaiting x)
+same_names : (rows : List ReadyRow) (all es : List (Tid × Thread)) → AllFound all es → ((t : Tid) (x : Thread) → lookup (is_tid t) all ≡ Some x → is_listed t rows ≡ is_unwaiting x)
     → unwaiting es ≡ filter (λ t. is_listed t rows) (map (λ e. e.0) es)
 same_names rows all [] h k = refl
 same_names rows all (e ∷ es) h k = by (is_unwaiting e.1) refl (k e.0 e.1 h.0) (same_names rows all es h.1 k)
@@ -85,7 +85,7 @@ flat_same f g (v ∷ vs) first h =
     ∙ ap (λ xs. g first ++ xs) (flat_same f g vs (suc first) (λ k w e. let next : first + suc k ≡ suc first + k = omega arith in h (suc k) w e ∙ ap g next))
 
 abbrev run_at : ℕ → Program → Local → List (ℕ × Act)
-run_at m q l = cond (nat_lt 0 (length l.places.rows)) ((m, Run 0 q.setup.quantum) ∷ []) []
+run_at m q l = cond (nat_lt 0 (length l.run_lists.rows)) ((m, Run 0 q.setup.quantum) ∷ []) []
 
 runs_at : (p : Program) (net : Net) (n : ℕ) → runs_of p net n ≡ run_at n p (net.nodes n)
 unfolding run
@@ -95,20 +95,20 @@ module _ (c : ClusterView) (before kept : List Entry) (s : StandsFor c before ke
   abbrev p : Program
   p = c.program
 
-  abbrev lines : List Entry
-  lines = kept ++ before
+  abbrev trace : List Entry
+  trace = kept ++ before
 
   abbrev net : Net
-  net = net_after p lines
+  net = net_after p trace
 
   abbrev w : Spots
-  w = spots_of p (at_first p) lines
+  w = spots_of p (at_first p) trace
 
   pub stands : Stands p w net
-  stands = (run_whole p (at_first p) (fresh_net p) (starts p) lines s.agrees.legal.runs).stands
+  stands = stands_after p trace s.agrees.legal.runs
 
   pub ready_names : (n : ℕ) → unwaiting (net.nodes n).threads ≡ ready_on (net.nodes n)
-  ready_names n = same_names (net.nodes n).places.rows (net.nodes n).threads (net.nodes n).threads (found_all (net.nodes n).threads (stands.nodes n).threads.apart) (λ t x h. listed_is p w net stands n t x h)
+  ready_names n = same_names (net.nodes n).run_lists.rows (net.nodes n).threads (net.nodes n).threads (found_all (net.nodes n).threads (stands.nodes n).threads.apart) (λ t x h. listed_is p w net stands n t x h)
 
   acts_same : (moves : Bool) (n : ℕ) (v : NodeView) → slice_get c.nodes n ≡ Some v → acts_by moves v ≡ acts_of moves p net n
   acts_same moves n v at =

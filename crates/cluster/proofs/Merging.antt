@@ -62,10 +62,10 @@ parts_from : (first : ℕ) (vs : List NodeView) → ((k : ℕ) (v : NodeView) �
 parts_from first [] h = tt
 parts_from first (v ∷ vs) h = (subst (λ k. IsPart k v.entries) (omega arith) (h 0 v refl), parts_from (suc first) vs (λ k w e. subst (λ m. IsPart m w.entries) (omega arith) (h (suc k) w e)))
 
-pub are_parts : (c : ClusterView) (lines : List Entry) → HasTrace c lines → AreParts 0 (map entries_of c.nodes)
-are_parts c lines t = parts_from 0 c.nodes (λ k v e.
-    let own : own_entries k lines ≡ reverse v.entries = t.entries k ∙ ap (λ o. reverse (entries_at o)) e in
-    let part : IsPart k (reverse (own_entries k lines)) = part_reverse k (own_entries k lines) (own_descends k lines t.order) in
+pub are_parts : (c : ClusterView) (trace : List Entry) → HasTrace c trace → AreParts 0 (map entries_of c.nodes)
+are_parts c trace t = parts_from 0 c.nodes (λ k v e.
+    let own : own_entries k trace ≡ reverse v.entries = t.entries k ∙ ap (λ o. reverse (entries_at o)) e in
+    let part : IsPart k (reverse (own_entries k trace)) = part_reverse k (own_entries k trace) (own_descends k trace t.order) in
     let z : k ≡ 0 + k = omega arith in
     subst (λ m. IsPart m v.entries) z (subst (λ xs. IsPart k xs) (ap reverse own ∙ reverse-reverse v.entries) part))
 
@@ -125,9 +125,9 @@ entries_there (v ∷ vs) zero = refl
 entries_there (v ∷ vs) (suc n) = entries_there vs n
 
 -- what is merged of the nodes' entries is the trace
-pub merged_trace : (c : ClusterView) (lines merged : List Entry) (parts : List (List Entry)) → HasTrace c lines → parts ≡ map entries_of c.nodes
-    → IsInOrder (reverse merged) → ((n : ℕ) → own_entries n (reverse merged) ≡ reverse (get_or parts n [])) → merged ≡ reverse lines
-merged_trace c lines merged parts t p order own =
-    let same : reverse merged ≡ lines = unique (reverse merged) lines order t.order
+pub merged_trace : (c : ClusterView) (trace merged : List Entry) (parts : List (List Entry)) → HasTrace c trace → parts ≡ map entries_of c.nodes
+    → IsInOrder (reverse merged) → ((n : ℕ) → own_entries n (reverse merged) ≡ reverse (get_or parts n [])) → merged ≡ reverse trace
+merged_trace c trace merged parts t p order own =
+    let same : reverse merged ≡ trace = unique (reverse merged) trace order t.order
     (λ n. own n ∙ ap (λ ps. reverse (get_or ps n [])) p ∙ ap reverse (entries_there c.nodes n) ∙ sym (t.entries n)) in
     sym (reverse-reverse merged) ∙ ap reverse same

@@ -46,8 +46,8 @@ module _ (c : ClusterView) (before kept : List Entry) (s : StandsFor c before ke
     (v : NodeView) (at : slice_get c.nodes n ≡ Some v) (room : length v.entries < entry_limit) (act : Act) (range : IsActInRange c.program n act) (able : can v act ≡ true)
     (new : NodeView) (d : Does (raised (greatest_clock c.nodes) v) act new) (booted : new.state.booted ≡ true)
     (nodes : List NodeView) (settled : SettlesOf n c.rest (set (map (raised (greatest_clock c.nodes)) c.nodes) n new) nodes) where
-  abbrev lines : List Entry
-  lines = kept ++ before
+  abbrev trace : List Entry
+  trace = kept ++ before
 
   -- the greatest clock
   abbrev top : ℕ
@@ -57,7 +57,7 @@ module _ (c : ClusterView) (before kept : List Entry) (s : StandsFor c before ke
   p = c.program
 
   abbrev net : Net
-  net = net_after p lines
+  net = net_after p trace
 
   abbrev mid : List NodeView
   mid = set (map (raised top) c.nodes) n new
@@ -141,7 +141,7 @@ module _ (c : ClusterView) (before kept : List Entry) (s : StandsFor c before ke
       let none : sent_to new.ends j ≡ [] = ap (of_link link_sent) (slice_get_past new.ends.links.items j (omega (arith, past, new.ends.links.ok.0))) in
       let none_old : sent_to v.ends j ≡ [] = ap (of_link link_sent) (slice_get_past v.ends.links.items j (omega (arith, ge, v.ends.links.ok.0))) in
       let outside : nodes_of p ≤ j = omega (arith, ge, s.agrees.trace.wired.wide n v.ends here, wires-length c.nodes c.rest, s.agrees.count) in
-      let empty : (net_after p (x ∷ lines)).links n j ≡ [] = (run_inside p (x ∷ lines) (keeping.runs c before kept s n inside v at act range able new d)).links n j (inr outside) in
+      let empty : (net_after p (x ∷ trace)).links n j ≡ [] = (run_inside p (x ∷ trace) (keeping.runs c before kept s n inside v at act range able new d)).links n j (inr outside) in
       let unsent : packets_to j (suc top) (sends_or (done_for p net x)) ≡ [] =
       ap (λ b. cond b (packets_to j (suc top) (sends_or (done_for p net x))) []) (sym (eq-eqb n n refl))
       ∙ no_more (cond (eqb n j) (left_after n act (net.links n j)) (net.links n j)) (cond (eqb n n) (packets_to j (suc top) (sends_or (done_for p net x))) []) empty in
@@ -180,11 +180,11 @@ module _ (c : ClusterView) (before kept : List Entry) (s : StandsFor c before ke
   }
 
   -- what is on the links goes on as the trace does
-  under_way : HoldUnderWay p (x ∷ lines) (wires_of now)
+  under_way : HoldUnderWay p (x ∷ trace) (wires_of now)
   under_way i j =
       let held : received i j ev ++ since.links i j ≡ sent i j ev =
       ap (λ (z : Net). received i j ev ++ z.links i j) parts ∙ ap (λ ps. ps ++ net.links i j) (sym (s.agrees.carried.takes i j)) ∙ s.agrees.under_way i j ∙ s.agrees.carried.sends i j in
-      ap (λ ps. ps ++ (net_after p (x ∷ lines)).links i j) (carried.takes i j)
+      ap (λ ps. ps ++ (net_after p (x ∷ trace)).links i j) (carried.takes i j)
       ∙ ap (λ (z : Net). received i j (events_of p (net_after p before) (x ∷ kept)) ++ z.links i j) (sym (net_joined p (fresh_net p) before (x ∷ kept)))
       ∙ carried_one p since x i j (received i j ev) (sent i j ev) held ∙ sym (carried.sends i j)
 
@@ -220,12 +220,12 @@ module _ (c : ClusterView) (before kept : List Entry) (s : StandsFor c before ke
           ap (λ b. cond b (x ∷ own_entries m kept) (own_entries m kept)) (ne_eqb n m (λ e. ne (sym e))) ∙ s.agrees.trace.entries m ∙ ap (λ o. reverse (entries_at o)) o.was
           ∙ ap (λ (z : NodeView). reverse z.entries) (sym o.is) ∙ ap (λ o. reverse (entries_at o)) (sym g))
 
-  node_now : (m : ℕ) (u : NodeView) → slice_get nodes m ≡ Some u → IsNodeOf now (x ∷ lines) m u
+  node_now : (m : ℕ) (u : NodeView) → slice_get nodes m ≡ Some u → IsNodeOf now (x ∷ trace) m u
   node_now m u g = by_eq m n
-      (λ e. subst (λ k. IsNodeOf now (x ∷ lines) k u) (sym e) (acting (subst (λ k. slice_get nodes k ≡ Some u) e g)))
+      (λ e. subst (λ k. IsNodeOf now (x ∷ trace) k u) (sym e) (acting (subst (λ k. slice_get nodes k ≡ Some u) e g)))
       (λ ne.
       let o = old_at m u ne g in
-      let was : IsNodeOf c lines m o.old = s.agrees.node m o.old o.was in
+      let was : IsNodeOf c trace m o.old = s.agrees.node m o.old o.was in
       record {
         program = ap (λ (z : NodeView). z.program) o.is ∙ was.program;
         me = ap (λ (z : NodeView). z.me) o.is ∙ was.me;
@@ -234,10 +234,10 @@ module _ (c : ClusterView) (before kept : List Entry) (s : StandsFor c before ke
         few = omega (arith, ap (λ (z : NodeView). length z.entries) o.is, was.few);
       })
     where
-      acting : slice_get nodes n ≡ Some u → IsNodeOf now (x ∷ lines) n u
+      acting : slice_get nodes n ≡ Some u → IsNodeOf now (x ∷ trace) n u
       acting h =
           let is : u ≡ with_ends u.ends new = new_at u h in
-          let was : IsNodeOf c lines n v = s.agrees.node n v at in
+          let was : IsNodeOf c trace n v = s.agrees.node n v at in
           record {
             program = ap (λ (z : NodeView). z.program) is ∙ ap (λ (z : NodeView). z.program) d.after ∙ was.program;
             me = ap (λ (z : NodeView). z.me) is ∙ ap (λ (z : NodeView). z.me) d.after ∙ was.me;
@@ -285,12 +285,12 @@ module _ (c : ClusterView) (before kept : List Entry) (s : StandsFor c before ke
   -- ## The console
 
   abbrev shown : List ℕ
-  shown = shown_by_all p n d.done.labels (spots_of p (at_first p) lines)
+  shown = shown_by_all p n d.done.labels (spots_of p (at_first p) trace)
 
   none_shown : 0 ≢ n → shown ≡ []
   none_shown ne =
       let rules = (keeping.legal c before kept s n inside v at act range able new d).rules.1 in
-      subst (λ w. shown_by_all p n d.done.labels w ≡ []) (told_spots p (first_world p) lines) (silent p _ n d.done.labels (world_of p (first_world p) lines) rules.to_do (λ e. ne (sym e)) rules.goes)
+      subst (λ w. shown_by_all p n d.done.labels w ≡ []) (told_spots p (first_world p) trace) (silent p _ n d.done.labels (world_of p (first_world p) trace) rules.to_do (λ e. ne (sym e)) rules.goes)
 
   first : (o : Option NodeView) (z : NodeView) → o ≡ Some z → console_at o ≡ z.console
   first o z e = ap console_at e
@@ -299,7 +299,7 @@ module _ (c : ClusterView) (before kept : List Entry) (s : StandsFor c before ke
   abbrev shown_before : List ℕ
   shown_before = console_of p (at_first p) before
 
-  console_now : console_of p (at_first p) (x ∷ lines) ≡ shown_before ++ console_at (slice_get nodes 0)
+  console_now : console_of p (at_first p) (x ∷ trace) ≡ shown_before ++ console_at (slice_get nodes 0)
   console_now =
       let u = some_at nodes 0 (omega (arith, count, s.agrees.count, inside)) in
       by_eq 0 n
@@ -311,7 +311,7 @@ module _ (c : ClusterView) (before kept : List Entry) (s : StandsFor c before ke
       ∙ ap (λ bs. shown_before ++ bs) (sym (ap (λ (z : NodeView). z.console) d.after) ∙ ap (λ (z : NodeView). z.console) (sym (new_at u.0 gn)) ∙ sym (first (slice_get nodes 0) u.0 u.1)))
       (λ ne.
       let o = old_at 0 u.0 ne u.1 in
-      ap (λ bs. console_of p (at_first p) lines ++ bs) (none_shown ne) ∙ append-nil (console_of p (at_first p) lines) ∙ s.agrees.console
+      ap (λ bs. console_of p (at_first p) trace ++ bs) (none_shown ne) ∙ append-nil (console_of p (at_first p) trace) ∙ s.agrees.console
       ∙ ap (λ bs. shown_before ++ bs) (first (slice_get c.nodes 0) o.old o.was ∙ ap (λ (z : NodeView). z.console) (sym o.is) ∙ sym (first (slice_get nodes 0) u.0 u.1)))
 
   same_rest : (xs ys zs : List ℕ) → xs ++ ys ≡ xs ++ zs → ys ≡ zs
@@ -338,8 +338,8 @@ module _ (c : ClusterView) (before kept : List Entry) (s : StandsFor c before ke
     turns = omega (arith, s.agrees.turns, one_turn act range);
     node = node_now;
     one_round = λ m u h. (clock_of m u h).round ∙ sym round_now;
-    rounds = subst (λ r. NoneAbove r (x ∷ lines)) (sym round_now) (omega arith, (keeping.legal c before kept s n inside v at act range able new d).rounds.0);
-    stamps = subst (λ k. NoneLater k (x ∷ lines)) (sym greatest_now) (omega arith, later_all top (suc top) (omega arith) lines s.agrees.stamps);
+    rounds = subst (λ r. NoneAbove r (x ∷ trace)) (sym round_now) (omega arith, (keeping.legal c before kept s n inside v at act range able new d).rounds.0);
+    stamps = subst (λ k. NoneLater k (x ∷ trace)) (sym greatest_now) (omega arith, later_all top (suc top) (omega arith) trace s.agrees.stamps);
     clocks = λ m u h. omega (arith, (clock_of m u h).high, greatest_within c before kept s.agrees);
     carried = carried;
     under_way = under_way;

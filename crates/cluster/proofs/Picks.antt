@@ -154,54 +154,54 @@ parts_length m g each (t ∷ ts) =
     let one = each t in
     length-append (g t) (flat_map g ts) ∙ (let z = suc-mul (length ts) m in omega (arith, more, one, z))
 
-moves_many : (v : NodeView) (count : ℕ) → v.me < count → nodes_of v.program ≡ count → length (moves_in v) ≡ length v.state.places.rows * (count - 1)
+moves_many : (v : NodeView) (count : ℕ) → v.me < count → nodes_of v.program ≡ count → length (moves_in v) ≡ length v.state.run_lists.rows * (count - 1)
 moves_many v count l e =
-    ap (λ z. length (flat_map (λ t. moves_among v.me t (run 0 z)) (names_of v.state.places.rows))) e
-    ∙ parts_length (count - 1) (λ t. moves_among v.me t (run 0 count)) (λ t. moves_length v.me count t l) (names_of v.state.places.rows)
-    ∙ ap (λ z. z * (count - 1)) (names_length v.state.places.rows)
+    ap (λ z. length (flat_map (λ t. moves_among v.me t (run 0 z)) (names_of v.state.run_lists.rows))) e
+    ∙ parts_length (count - 1) (λ t. moves_among v.me t (run 0 count)) (λ t. moves_length v.me count t l) (names_of v.state.run_lists.rows)
+    ∙ ap (λ z. z * (count - 1)) (names_length v.state.run_lists.rows)
 
 no_moves : (v : NodeView) (count place : ℕ) → v.me < count → nodes_of v.program ≡ count → count - 1 ≡ 0 → slice_get (moves_in v) place ≡ None
 no_moves v count place l e z =
-    slice_get_past (moves_in v) place (let n = moves_many v count l e ∙ ap (λ m. length v.state.places.rows * m) z in let o : length v.state.places.rows * 0 ≡ 0 = mul-zero (length v.state.places.rows) in omega (arith, n, o))
+    slice_get_past (moves_in v) place (let n = moves_many v count l e ∙ ap (λ m. length v.state.run_lists.rows * m) z in let o : length v.state.run_lists.rows * 0 ≡ 0 = mul-zero (length v.state.run_lists.rows) in omega (arith, n, o))
 
-move_is : (v : NodeView) (count place : ℕ) (o : Option Tid) → v.me < count → nodes_of v.program ≡ count → 0 < count - 1 → o ≡ slice_get (names_of v.state.places.rows) (place / (count - 1))
+move_is : (v : NodeView) (count place : ℕ) (o : Option Tid) → v.me < count → nodes_of v.program ≡ count → 0 < count - 1 → o ≡ slice_get (names_of v.state.run_lists.rows) (place / (count - 1))
     → slice_get (moves_in v) place ≡ item_in (λ t. moves_among v.me t (run 0 count)) o (place % (count - 1))
 move_is v count place o l e some is =
-    ap (λ z. slice_get (flat_map (λ t. moves_among v.me t (run 0 z)) (names_of v.state.places.rows)) place) e
-    ∙ parts_get (count - 1) (λ t. moves_among v.me t (run 0 count)) some (λ t. moves_length v.me count t l) (names_of v.state.places.rows) place
+    ap (λ z. slice_get (flat_map (λ t. moves_among v.me t (run 0 z)) (names_of v.state.run_lists.rows)) place) e
+    ∙ parts_get (count - 1) (λ t. moves_among v.me t (run 0 count)) some (λ t. moves_length v.me count t l) (names_of v.state.run_lists.rows) place
     ∙ ap (λ z. item_in (λ t. moves_among v.me t (run 0 count)) z (place % (count - 1))) (sym is)
 
-move_to : (v : NodeView) (count place : ℕ) (o : Option Tid) (t : Tid) → v.me < count → nodes_of v.program ≡ count → 0 < count - 1 → o ≡ slice_get (names_of v.state.places.rows) (place / (count - 1)) → o ≡ Some t
+move_to : (v : NodeView) (count place : ℕ) (o : Option Tid) (t : Tid) → v.me < count → nodes_of v.program ≡ count → 0 < count - 1 → o ≡ slice_get (names_of v.state.run_lists.rows) (place / (count - 1)) → o ≡ Some t
     → Some (v.me, Move t (other_at v.me (place % (count - 1)))) ≡ slice_get (moves_in v) place
 move_to v count place o t l e some is h =
     sym (move_is v count place o l e some is ∙ ap (λ z. item_in (λ t. moves_among v.me t (run 0 count)) z (place % (count - 1))) h
     ∙ moves_get v.me count (place % (count - 1)) t l (mod-lt place some))
 
-move_none : (v : NodeView) (count place : ℕ) (o : Option Tid) → v.me < count → nodes_of v.program ≡ count → 0 < count - 1 → o ≡ slice_get (names_of v.state.places.rows) (place / (count - 1)) → o ≡ None
+move_none : (v : NodeView) (count place : ℕ) (o : Option Tid) → v.me < count → nodes_of v.program ≡ count → 0 < count - 1 → o ≡ slice_get (names_of v.state.run_lists.rows) (place / (count - 1)) → o ≡ None
     → None ≡ slice_get (moves_in v) place
 move_none v count place o l e some is h = sym (move_is v count place o l e some is ∙ ap (λ z. item_in (λ t. moves_among v.me t (run 0 count)) z (place % (count - 1))) h)
 
 abbrev at_listed : Bool → NodeView → ℕ → Option (ℕ × Act)
 at_listed moves v place = slice_get (listed_moves moves v) place
 
-pub moves_counted : (moves : Bool) (v : NodeView) (count ready others product : ℕ) → moves ≡ true → v.me < count → nodes_of v.program ≡ count → ready ≡ length v.state.places.rows → others ≡ count - 1
+pub moves_counted : (moves : Bool) (v : NodeView) (count ready others product : ℕ) → moves ≡ true → v.me < count → nodes_of v.program ≡ count → ready ≡ length v.state.run_lists.rows → others ≡ count - 1
     → product ≡ min (ready * others) (2 ^ 64 - 1) → IsCapped product (length (listed_moves moves v))
 moves_counted moves v count ready others product m l e r h p =
-    p ∙ ap (λ z. min z (2 ^ 64 - 1)) (ap (λ z. z * others) r ∙ ap (λ z. length v.state.places.rows * z) h ∙ sym (moves_many v count l e) ∙ ap (λ b. length (listed_moves b v)) (sym m))
+    p ∙ ap (λ z. min z (2 ^ 64 - 1)) (ap (λ z. z * others) r ∙ ap (λ z. length v.state.run_lists.rows * z) h ∙ sym (moves_many v count l e) ∙ ap (λ b. length (listed_moves b v)) (sym m))
 
 pub none_at : (moves : Bool) (v : NodeView) (count others place : ℕ) → moves ≡ true → v.me < count → nodes_of v.program ≡ count → others ≡ count - 1 → others ≡ 0 → None ≡ at_listed moves v place
 none_at moves v count others place m l e h z = sym (ap (λ b. at_listed b v place) m ∙ no_moves v count place l e (sym h ∙ z))
 
 pub past_names : (moves : Bool) (v : NodeView) (count others place : ℕ) (o : Option Tid) → moves ≡ true → v.me < count → nodes_of v.program ≡ count → others ≡ count - 1 → others ≢ 0
-    → o ≡ slice_get (names_of v.state.places.rows) (place / others) → o ≡ None → None ≡ at_listed moves v place
+    → o ≡ slice_get (names_of v.state.run_lists.rows) (place / others) → o ≡ None → None ≡ at_listed moves v place
 past_names moves v count others place o m l e h some is none =
-    move_none v count place o l e (omega (arith, h, some)) (is ∙ ap (λ z. slice_get (names_of v.state.places.rows) (place / z)) h) none ∙ ap (λ b. at_listed b v place) (sym m)
+    move_none v count place o l e (omega (arith, h, some)) (is ∙ ap (λ z. slice_get (names_of v.state.run_lists.rows) (place / z)) h) none ∙ ap (λ b. at_listed b v place) (sym m)
 
 pub moved_at : (moves : Bool) (v : NodeView) (count others place me to : ℕ) (o : Option Tid) (t : Tid) → moves ≡ true → v.me < count → nodes_of v.program ≡ count → others ≡ count - 1 → others ≢ 0
-    → o ≡ slice_get (names_of v.state.places.rows) (place / others) → o ≡ Some t → me ≡ v.me → to ≡ other_at me (place % others) → Some (me, Move t to) ≡ at_listed moves v place
+    → o ≡ slice_get (names_of v.state.run_lists.rows) (place / others) → o ≡ Some t → me ≡ v.me → to ≡ other_at me (place % others) → Some (me, Move t to) ≡ at_listed moves v place
 moved_at moves v count others place me to o t m l e h some is it own there =
     ap (λ z. Some (me, Move t z)) (there ∙ ap (λ z. other_at me (place % z)) h) ∙ ap (λ z. Some (z, Move t (other_at z (place % (count - 1))))) own
-    ∙ move_to v count place o t l e (omega (arith, h, some)) (is ∙ ap (λ z. slice_get (names_of v.state.places.rows) (place / z)) h) it ∙ ap (λ b. at_listed b v place) (sym m)
+    ∙ move_to v count place o t l e (omega (arith, h, some)) (is ∙ ap (λ z. slice_get (names_of v.state.run_lists.rows) (place / z)) h) it ∙ ap (λ b. at_listed b v place) (sym m)
 
 -- ## Takes
 

@@ -7,18 +7,18 @@ use Rattle.slot_space.specs.declared.names.Tid.{Tid}
 use Rattle.run_trace.specs.declared.entry.Act.{Act}
 use Rattle.run_trace.specs.declared.entry.Act.TheVariants.{Boot, Run, Take, Move}
 use Rattle.run_trace.specs.declared.entry.Entry.{Entry}
-use Rattle.run_trace.specs.declared.node.Row.{Row}
+use Rattle.run_trace.specs.declared.node.ReadyRow.{ReadyRow}
 use Rattle.run_trace.specs.declared.packet.Packet.{Packet}
 use Rattle.run_trace.specs.Names.{is_tid}
 use Rattle.run_trace.specs.Program.{Program, nodes_of, processors_of, quantum_limit}
-use Rattle.run_trace.specs.Places.{is_listed}
+use Rattle.run_trace.specs.RunLists.{is_listed}
 use Rattle.run_trace.specs.Local.{Local}
 use Rattle.run_trace.specs.Machine.{local_event, turn_event, is_range, acts, run_picked, run_found, moves_found}
-use Rattle.run_trace.specs.Cluster.{Net, fresh_net}
+use Rattle.run_trace.specs.Cluster.{Net}
 use Rattle.run_trace.specs.Rules.{spots_of}
 use Rattle.run_trace.specs.Spots.{Spots, at_first}
 use Rattle.run_trace.specs.Stands.{Stands}
-use Rattle.trace_laws.proofs.Lemmas.{picked_there, some_pick, listed_there, starts, run_whole}
+use Rattle.trace_laws.proofs.Lemmas.{picked_there, some_pick, listed_there, stands_after}
 use Rattle.wires.specs.Ends.{known_from}
 use Rattle.node_loop.specs.View.{NodeView, raised}
 use Rattle.node_loop.specs.Turns.{IsActInRange, IsImpossible, Turns, can}
@@ -26,8 +26,8 @@ use Rattle.node_loop.specs.declared.node.Turned.TheVariants.{Idle}
 use Rattle.cluster.specs.Standing.{StandsFor, IsNodeOf, net_after}
 use Rattle.cluster.specs.View.{ClusterView}
 
-some_rows : (rows : List Row) → nat_lt 0 (length rows) ≡ true → rows ≡ [] → ⊥
-some_rows rows l e = let none : nat_lt 0 (length rows) ≡ false = ap (λ (xs : List Row). nat_lt 0 (length xs)) e in cc (l, none)
+some_rows : (rows : List ReadyRow) → nat_lt 0 (length rows) ≡ true → rows ≡ [] → ⊥
+some_rows rows l e = let none : nat_lt 0 (length rows) ≡ false = ap (λ (xs : List ReadyRow). nat_lt 0 (length xs)) e in cc (l, none)
 
 none_known : (ps : List Packet) → nat_lt 0 (length ps) ≡ true → ps ≡ [] → ⊥
 none_known ps l e = let none : nat_lt 0 (length ps) ≡ false = ap (λ (qs : List Packet). nat_lt 0 (length qs)) e in cc (l, none)
@@ -36,20 +36,20 @@ module _ (c : ClusterView) (before kept : List Entry) (s : StandsFor c before ke
   abbrev p : Program
   p = c.program
 
-  abbrev lines : List Entry
-  lines = kept ++ before
+  abbrev trace : List Entry
+  trace = kept ++ before
 
   abbrev net : Net
-  net = net_after p lines
+  net = net_after p trace
 
-  is_node : IsNodeOf c lines n v
+  is_node : IsNodeOf c trace n v
   is_node = s.agrees.node n v at
 
   abbrev w : Spots
-  w = spots_of p (at_first p) lines
+  w = spots_of p (at_first p) trace
 
   stands : Stands p w net
-  stands = (run_whole p (at_first p) (fresh_net p) (starts p) lines s.agrees.legal.runs).stands
+  stands = stands_after p trace s.agrees.legal.runs
 
   -- the event that isn't there, in the words of the trace
   as_told : (act : Act) → turn_event v.program v.me v.state act None ≡ None → local_event p n (net.nodes n) act None ≡ None
@@ -60,10 +60,10 @@ module _ (c : ClusterView) (before kept : List Entry) (s : StandsFor c before ke
   booted : (net.nodes n).booted ≡ true
   booted = ap (λ (z : Local). z.booted) is_node.state ∙ is_node.booted
 
-  runs_some : (vp quantum : ℕ) → IsActInRange p n (Run vp quantum) → nat_lt 0 (length (net.nodes n).places.rows) ≡ true → local_event p n (net.nodes n) (Run vp quantum) None ≡ None → ⊥
+  runs_some : (vp quantum : ℕ) → IsActInRange p n (Run vp quantum) → nat_lt 0 (length (net.nodes n).run_lists.rows) ≡ true → local_event p n (net.nodes n) (Run vp quantum) None ≡ None → ⊥
   unfolding local_event is_range
   runs_some vp quantum r l e =
-      let b = some_pick p w net stands n vp (some_rows (net.nodes n).places.rows l) in
+      let b = some_pick p w net stands n vp (some_rows (net.nodes n).run_lists.rows l) in
       let t = picked_there p w net stands n vp b.0 b.1 in
       let range : (nat_lt n (nodes_of p) && ((net.nodes n).booted && (nat_lt vp (processors_of p) && (nat_lt 0 quantum && nat_le quantum quantum_limit)))) ≡ true =
       rw (lt-ltb n (nodes_of p) inside, booted, lt-ltb vp (processors_of p) r.0, lt-ltb 0 quantum r.1, le-leb quantum quantum_limit r.2) refl in
@@ -72,7 +72,7 @@ module _ (c : ClusterView) (before kept : List Entry) (s : StandsFor c before ke
       let found = ap (λ o. run_found p n vp quantum b.0.tid o (net.nodes n)) t.1 in
       cc (sym e ∙ picked ∙ found)
 
-  moves_some : (t : Tid) (to : ℕ) → IsActInRange p n (Move t to) → is_listed t (net.nodes n).places.rows ≡ true → local_event p n (net.nodes n) (Move t to) None ≡ None → ⊥
+  moves_some : (t : Tid) (to : ℕ) → IsActInRange p n (Move t to) → is_listed t (net.nodes n).run_lists.rows ≡ true → local_event p n (net.nodes n) (Move t to) None ≡ None → ⊥
   unfolding local_event is_range
   moves_some t to r l e =
       let x = listed_there p w net stands n t l in
@@ -85,9 +85,9 @@ module _ (c : ClusterView) (before kept : List Entry) (s : StandsFor c before ke
 
   possible : (act : Act) → IsActInRange p n act → can v act ≡ true → IsImpossible v act → ⊥
   possible Boot r b i = cc b
-  possible (Run vp quantum) r b i = runs_some vp quantum r (ap (λ (z : Local). nat_lt 0 (length z.places.rows)) is_node.state ∙ b) (as_told (Run vp quantum) i)
+  possible (Run vp quantum) r b i = runs_some vp quantum r (ap (λ (z : Local). nat_lt 0 (length z.run_lists.rows)) is_node.state ∙ b) (as_told (Run vp quantum) i)
   possible (Take from) r b i = none_known (known_from v.ends from) b i
-  possible (Move t to) r b i = moves_some t to r (ap (λ (z : Local). is_listed t z.places.rows) is_node.state ∙ b) (as_told (Move t to) i)
+  possible (Move t to) r b i = moves_some t to r (ap (λ (z : Local). is_listed t z.run_lists.rows) is_node.state ∙ b) (as_told (Move t to) i)
 
   -- it is the same after the clock was raised
   raised_too : (clock : ℕ) (act : Act) → IsImpossible (raised clock v) act → IsImpossible v act

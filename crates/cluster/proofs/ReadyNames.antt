@@ -7,12 +7,12 @@ use Rattle.std.specs.Map.{lookup, keys_of}
 use Rattle.std.specs.declared.cmp.Ordering.TheVariants.{Less}
 use Rattle.std.specs.Ordering.{is_lt, is_eq}
 use Rattle.slot_space.specs.declared.names.Tid.{Tid}
-use Rattle.run_trace.specs.declared.node.Row.{Row}
+use Rattle.run_trace.specs.declared.node.ReadyRow.{ReadyRow}
 use Rattle.run_trace.specs.Cluster.{Net}
 use Rattle.run_trace.specs.Guests.{Thread}
 use Rattle.run_trace.specs.Keyed.{AreApart}
 use Rattle.run_trace.specs.Names.{is_tid, tid_cmp}
-use Rattle.run_trace.specs.Places.{is_listed}
+use Rattle.run_trace.specs.RunLists.{is_listed}
 use Rattle.run_trace.specs.Program.{Program}
 use Rattle.run_trace.specs.Spots.{Spots}
 use Rattle.run_trace.specs.Stands.{Stands, listed, listed_name}
@@ -88,7 +88,7 @@ none_listed : (es : List Tid) → filter (λ t. is_listed t []) es ≡ []
 none_listed [] = refl
 none_listed (e ∷ es) = none_listed es
 
-names_same : (rows : List Row) (es : List (Tid × Thread)) → AreInOrder es → AreApart is_tid listed_name (map listed rows)
+names_same : (rows : List ReadyRow) (es : List (Tid × Thread)) → AreInOrder es → AreApart is_tid listed_name (map listed rows)
     → ((t : Tid) → is_listed t rows ≡ true → (x : Thread) × (lookup (is_tid t) es ≡ Some x)) → names_of rows ≡ filter (λ t. is_listed t rows) (keys_of es)
 names_same [] es o apart there = sym (none_listed (keys_of es))
 names_same (r ∷ rows) es o apart there =
@@ -105,5 +105,5 @@ names_same (r ∷ rows) es o apart there =
         by false = l
 
 -- on a node of a net that stands
-pub names_ready : (p : Program) (w : Spots) (net : Net) → Stands p w net → (n : ℕ) → AreInOrder (net.nodes n).threads → names_of (net.nodes n).places.rows ≡ ready_on (net.nodes n)
-names_ready p w net s n o = names_same (net.nodes n).places.rows (net.nodes n).threads o (s.nodes n).rows.apart (λ t l. listed_there p w net s n t l)
+pub names_ready : (p : Program) (w : Spots) (net : Net) → Stands p w net → (n : ℕ) → AreInOrder (net.nodes n).threads → names_of (net.nodes n).run_lists.rows ≡ ready_on (net.nodes n)
+names_ready p w net s n o = names_same (net.nodes n).run_lists.rows (net.nodes n).threads o (s.nodes n).rows.apart (λ t l. listed_there p w net s n t l)

@@ -63,7 +63,7 @@ carried_one p net x i j got gave h = regroup got t l s ∙ ap (λ z. (got ++ z) 
     same : t ++ l ≡ net.links i j
     same = by (eqb x.node j) refl
 
-pub carried_run : (p : Program) (lines : List Entry) (i j : ℕ) → received i j (events_of p (fresh_net p) lines) ++ (net_after p lines).links i j ≡ sent i j (events_of p (fresh_net p) lines)
+pub carried_run : (p : Program) (trace : List Entry) (i j : ℕ) → received i j (events_of p (fresh_net p) trace) ++ (net_after p trace).links i j ≡ sent i j (events_of p (fresh_net p) trace)
 carried_run p [] i j = refl
 carried_run p (x ∷ xs) i j = carried_one p (net_after p xs) x i j (received i j (events_of p (fresh_net p) xs)) (sent i j (events_of p (fresh_net p) xs)) (carried_run p xs i j)
 
@@ -74,7 +74,7 @@ net_joined p base before (x ∷ kept) = ap (λ net. cluster.net_after p net (eve
 
 -- ## Stamps
 
-pub later_all : (c d : ℕ) → c ≤ d → (lines : List Entry) → NoneLater c lines → NoneLater d lines
+pub later_all : (c d : ℕ) → c ≤ d → (trace : List Entry) → NoneLater c trace → NoneLater d trace
 later_all c d l [] h = tt
 later_all c d l (x ∷ xs) h = (omega (arith, l, h.0), later_all c d l xs h.1)
 
@@ -82,7 +82,7 @@ pub later_front : (c : ℕ) (xs ys : List Entry) → NoneLater c (xs ++ ys) → 
 later_front c [] ys h = tt
 later_front c (x ∷ xs) ys h = (h.0, later_front c xs ys h.1)
 
-pub above : (c : ℕ) (e : Entry) → c < e.stamp → (lines : List Entry) → NoneLater c lines → IsEntryAbove e lines
+pub above : (c : ℕ) (e : Entry) → c < e.stamp → (trace : List Entry) → NoneLater c trace → IsEntryAbove e trace
 above c e l [] h = tt
 above c e l (x ∷ xs) h = (inl (omega (arith, l, h.0)), above c e l xs h.1)
 
@@ -117,7 +117,7 @@ either c true xs ys h k = h
 either c false xs ys h k = k
 
 -- what is under way has a stamp of the trace
-pub links_within : (p : Program) (c : ℕ) (lines : List Entry) → NoneLater c lines → (i j : ℕ) → AllWithin c ((net_after p lines).links i j)
+pub links_within : (p : Program) (c : ℕ) (trace : List Entry) → NoneLater c trace → (i j : ℕ) → AllWithin c ((net_after p trace).links i j)
 links_within p c [] h i j = tt
 links_within p c (x ∷ xs) h i j =
     let net : Net = net_after p xs in
@@ -136,7 +136,7 @@ own_below : (e : Entry) (n : ℕ) → e.node ≡ n → (xs : List Entry) → IsE
 own_below e n s [] h = tt
 own_below e n s (x ∷ xs) h = (λ f. elim h.0 as (λ z. x.stamp < e.stamp) [ inl l ↦ l | inr k ↦ absurd (omega (arith, k.1, f, s)) ], own_below e n s xs h.1)
 
-own_few : (n k : ℕ) (lines : List Entry) → IsInOrder lines → OwnBelow k n lines → length (own_entries n lines) ≤ k
+own_few : (n k : ℕ) (trace : List Entry) → IsInOrder trace → OwnBelow k n trace → length (own_entries n trace) ≤ k
 own_few n k [] o b = omega arith
 own_few n k (x ∷ xs) o b = by (eqb x.node n) refl (λ m h. own_few n m xs o.1 h)
   where
@@ -148,12 +148,12 @@ own_few n k (x ∷ xs) o b = by (eqb x.node n) refl (λ m h. own_few n m xs o.1 
         omega (arith, less, fewer)
     by false e few = few k b.1
 
-all_below : (k n : ℕ) (lines : List Entry) → NoneLater k lines → OwnBelow (suc k) n lines
+all_below : (k n : ℕ) (trace : List Entry) → NoneLater k trace → OwnBelow (suc k) n trace
 all_below k n [] h = tt
 all_below k n (x ∷ xs) h = (λ e. omega (arith, h.0), all_below k n xs h.1)
 
-pub few_own : (n clock : ℕ) (lines : List Entry) → IsInOrder lines → NoneLater clock lines → length (own_entries n lines) ≤ suc clock
-few_own n clock lines o h = own_few n (suc clock) lines o (all_below clock n lines h)
+pub few_own : (n clock : ℕ) (trace : List Entry) → IsInOrder trace → NoneLater clock trace → length (own_entries n trace) ≤ suc clock
+few_own n clock trace o h = own_few n (suc clock) trace o (all_below clock n trace h)
 
 -- ## All entries of the nodes together
 
@@ -206,6 +206,6 @@ few_turns (x ∷ xs) = omega (arith, few_turns xs, at_most_one x.act)
 
 -- ## Rounds
 
-pub higher : (round more : ℕ) → round ≤ more → (lines : List Entry) → NoneAbove round lines → NoneAbove more lines
+pub higher : (round more : ℕ) → round ≤ more → (trace : List Entry) → NoneAbove round trace → NoneAbove more trace
 higher round more l [] h = tt
 higher round more l (x ∷ xs) h = (omega (arith, l, h.0), higher round more l xs h.1)

@@ -47,8 +47,8 @@ module _ (c : ClusterView) (before kept : List Entry) (s : StandsFor c before ke
   abbrev p : Program
   p = c.program
 
-  abbrev lines : List Entry
-  lines = kept ++ before
+  abbrev trace : List Entry
+  trace = kept ++ before
 
   abbrev top : ℕ
   top = greatest_clock c.nodes
@@ -62,8 +62,8 @@ module _ (c : ClusterView) (before kept : List Entry) (s : StandsFor c before ke
   abbrev entries : List Entry
   entries = entries_in turns
 
-  a : AreGathered p lines turns
-  a = law p lines top (next_round (round_in c)) (λ n. top) turns (side.gather c before kept s nodes h)
+  a : AreGathered p trace turns
+  a = law p trace top (next_round (round_in c)) (λ n. top) turns (side.gather c before kept s nodes h)
 
   stands : StandsFor (view_of p (c.turns + length entries) nodes c.rest) before (entries ++ kept)
   stands = standing.stands c before kept s room nodes h wired a

@@ -7,13 +7,13 @@ use Rattle.slot_space.specs.Sets.{run}
 use Rattle.run_trace.specs.declared.entry.Act.{Act}
 use Rattle.run_trace.specs.declared.entry.Act.TheVariants.{Boot, Run, Take, Move}
 use Rattle.run_trace.specs.declared.entry.Entry.{Entry}
-use Rattle.run_trace.specs.declared.node.Row.{Row}
+use Rattle.run_trace.specs.declared.node.ReadyRow.{ReadyRow}
 use Rattle.run_trace.specs.Cluster as net_specs
 use Rattle.run_trace.specs.Cluster.{Net, Runs, fresh_net, next_packet, state}
 use Rattle.run_trace.specs.Histories.{IsHistory, IsStamped, Turn, clock, seen, turn_state}
 use Rattle.run_trace.specs.Local.{Local}
 use Rattle.run_trace.specs.Machine.{local_event, is_range, acts, run_picked, run_found}
-use Rattle.run_trace.specs.Places.{best_on}
+use Rattle.run_trace.specs.RunLists.{best_on}
 use Rattle.run_trace.specs.Program.{Program, nodes_of, processors_of, quantum_limit, tree_of}
 use Rattle.run_trace.specs.Rules.{spots_of}
 use Rattle.run_trace.specs.Spots.{Spots, at_first}
@@ -23,7 +23,7 @@ use Rattle.run_trace.specs.Trace.{IsRun}
 use Rattle.run_trace.specs.World.{World}
 use Rattle.trace_laws.specs.Obeys.{world_at}
 use Rattle.trace_laws.specs.Gathers.{Gathers, events_in, own_turns}
-use Rattle.trace_laws.proofs.Lemmas.{gathered, gathers_state, own_events, determined, node_is, run_inside, some_pick, picked_there, starts, run_whole, told_after}
+use Rattle.trace_laws.proofs.Lemmas.{gathered, gathers_state, own_events, determined, node_is, run_inside, some_pick, picked_there, starts, told_after, stands_after}
 use Rattle.basics.proofs.Lemmas.{by_less}
 use Rattle.node_loop.specs.Passes.{HasTake, IsRound, Moment, acts_in, first_pass, ready_after}
 use Rattle.node_loop.specs.Rounds.{AreInRound, can_run, moments_in}
@@ -44,7 +44,7 @@ use Rattle.cluster.proofs.SideRuns as side
 -- ## A thread can run where one is on the run list
 
 picks : (p : Program) (n : ℕ) (s : Local) → n < nodes_of p → s.booted ≡ true → 0 < p.setup.quantum → p.setup.quantum ≤ quantum_limit
-    → local_event p n s (Run 0 p.setup.quantum) None ≡ run_picked p n 0 p.setup.quantum (best_on (tree_of p) 0 s.places.rows) s
+    → local_event p n s (Run 0 p.setup.quantum) None ≡ run_picked p n 0 p.setup.quantum (best_on (tree_of p) 0 s.run_lists.rows) s
 unfolding local_event is_range
 picks p n s l b q m =
     let range : (nat_lt n (nodes_of p) && (s.booted && (nat_lt 0 (processors_of p) && (nat_lt 0 p.setup.quantum && nat_le p.setup.quantum quantum_limit)))) ≡ true =
@@ -53,7 +53,7 @@ picks p n s l b q m =
 
 pub runs_listed : (p : Program) (xs : List Entry) → IsRun p (fresh_net p) xs → (n : ℕ) → n < nodes_of p → ((net_after p xs).nodes n).booted ≡ true → 0 < p.setup.quantum → p.setup.quantum ≤ quantum_limit
     → can_run p n ((net_after p xs).nodes n) ≡ has_pick (net_after p xs) n
-runs_listed p xs r n l b q m = by s.places.rows refl
+runs_listed p xs r n l b q m = by s.run_lists.rows refl
   where
     net : Net
     net = net_after p xs
@@ -65,18 +65,18 @@ runs_listed p xs r n l b q m = by s.places.rows refl
     w = spots_of p (at_first p) xs
 
     stands : Stands p (spots_of p (at_first p) xs) (net_after p xs)
-    stands = (run_whole p (at_first p) (fresh_net p) (starts p) xs r).stands
+    stands = stands_after p xs r
 
-    picked : local_event p n s (Run 0 p.setup.quantum) None ≡ run_picked p n 0 p.setup.quantum (best_on (tree_of p) 0 s.places.rows) s
+    picked : local_event p n s (Run 0 p.setup.quantum) None ≡ run_picked p n 0 p.setup.quantum (best_on (tree_of p) 0 s.run_lists.rows) s
     picked = picks p n s l b q m
 
-    by : (rows : List Row) → s.places.rows ≡ rows → can_run p n s ≡ nat_lt 0 (length s.places.rows)
-    by [] e = ap is_some (picked ∙ ap (λ rs. run_picked p n 0 p.setup.quantum (best_on (tree_of p) 0 rs) s) e) ∙ ap (λ (rs : List Row). nat_lt 0 (length rs)) (sym e)
+    by : (rows : List ReadyRow) → s.run_lists.rows ≡ rows → can_run p n s ≡ nat_lt 0 (length s.run_lists.rows)
+    by [] e = ap is_some (picked ∙ ap (λ rs. run_picked p n 0 p.setup.quantum (best_on (tree_of p) 0 rs) s) e) ∙ ap (λ (rs : List ReadyRow). nat_lt 0 (length rs)) (sym e)
     by (row ∷ rows) e =
         let pick = some_pick p (spots_of p (at_first p) xs) (net_after p xs) stands n 0 (λ none. (let bad : row ∷ rows ≡ [] = sym e ∙ none in cc bad)) in
         let there = picked_there p (spots_of p (at_first p) xs) (net_after p xs) stands n 0 pick.0 pick.1 in
         ap is_some (picked ∙ ap (λ o. run_picked p n 0 p.setup.quantum o s) pick.1 ∙ ap (λ o. run_found p n 0 p.setup.quantum pick.0.tid o s) there.1)
-        ∙ sym (lt-ltb 0 (length (row ∷ rows)) (omega arith)) ∙ ap (λ (rs : List Row). nat_lt 0 (length rs)) (sym e)
+        ∙ sym (lt-ltb 0 (length (row ∷ rows)) (omega arith)) ∙ ap (λ (rs : List ReadyRow). nat_lt 0 (length rs)) (sym e)
 
 -- a node that has begun stays so
 begun_more : (p : Program) (w : World) (old new : List Entry) (n : ℕ) → (world_of p w old).begun n ≡ true → (world_of p w (new ++ old)).begun n ≡ true
@@ -109,11 +109,11 @@ module _ (c : ClusterView) (before kept : List Entry) (s : StandsFor c before ke
   abbrev p : Program
   p = c.program
 
-  abbrev lines : List Entry
-  lines = kept ++ before
+  abbrev trace : List Entry
+  trace = kept ++ before
 
   abbrev net : Net
-  net = net_after p lines
+  net = net_after p trace
 
   abbrev top : ℕ
   top = greatest_clock c.nodes
@@ -128,7 +128,7 @@ module _ (c : ClusterView) (before kept : List Entry) (s : StandsFor c before ke
   each = side.each c before kept s nodes h
 
   g : Gathers p net top (λ n. top) turns
-  g = gathers p lines top round (λ n. top) turns (side.gather c before kept s nodes h)
+  g = gathers p trace top round (λ n. top) turns (side.gather c before kept s nodes h)
 
   -- ## At each place of the round
 
@@ -136,7 +136,7 @@ module _ (c : ClusterView) (before kept : List Entry) (s : StandsFor c before ke
   runs_front [] ts r = r
   runs_front (x ∷ later) ts r = runs_front later ts r.0
 
-  run_front : (later ts : List Turn) → IsRun p (fresh_net p) (entries_in (later ++ ts) ++ lines) → IsRun p (fresh_net p) (entries_in ts ++ lines)
+  run_front : (later ts : List Turn) → IsRun p (fresh_net p) (entries_in (later ++ ts) ++ trace) → IsRun p (fresh_net p) (entries_in ts ++ trace)
   run_front [] ts r = r
   run_front (x ∷ later) ts r = run_front later ts r.0
 
@@ -152,58 +152,58 @@ module _ (c : ClusterView) (before kept : List Entry) (s : StandsFor c before ke
     runs_here : Runs p net (events_in ts)
     runs_here = runs_front later ts (subst (λ xs. Runs p net (events_in xs)) part (gathered p net top (λ n. top) turns g))
 
-    run_here : IsRun p (fresh_net p) (entries_in ts ++ lines)
-    run_here = run_front later ts (subst (λ xs. IsRun p (fresh_net p) (entries_in xs ++ lines)) part a.legal.runs)
+    run_here : IsRun p (fresh_net p) (entries_in ts ++ trace)
+    run_here = run_front later ts (subst (λ xs. IsRun p (fresh_net p) (entries_in xs ++ trace)) part a.legal.runs)
 
-    net_here : net_after p (entries_in ts ++ lines) ≡ net_specs.net_of p net (events_in ts)
-    net_here = sym (net_joined p (fresh_net p) lines (entries_in ts)) ∙ ap (net_specs.net_of p net) (determined p net (events_in ts) runs_here)
+    net_here : net_after p (entries_in ts ++ trace) ≡ net_specs.net_of p net (events_in ts)
+    net_here = sym (net_joined p (fresh_net p) trace (entries_in ts)) ∙ ap (net_specs.net_of p net) (determined p net (events_in ts) runs_here)
 
     history_here : (n : ℕ) → IsHistory p n top (net.nodes n) (own_turns n ts)
     history_here n = history_front n later ts (subst (λ xs. IsHistory p n top (net.nodes n) (own_turns n xs)) part (g.local n))
 
-    state_here : (n : ℕ) → (net_after p (entries_in ts ++ lines)).nodes n ≡ turn_state p n (net.nodes n) (own_turns n ts)
+    state_here : (n : ℕ) → (net_after p (entries_in ts ++ trace)).nodes n ≡ turn_state p n (net.nodes n) (own_turns n ts)
     state_here n =
         ap (λ (z : Net). z.nodes n) net_here ∙ node_is p net (events_in ts) n ∙ ap (state p n (net.nodes n)) (own_events n ts)
         ∙ sym (gathers_state p net top (λ k. top) turns g later ts part n)
 
-    ready_here : (n : ℕ) → n < nodes_of p → has_pick (net_after p (entries_in ts ++ lines)) n ≡ can_run p n (turn_state p n (net.nodes n) (own_turns n ts))
+    ready_here : (n : ℕ) → n < nodes_of p → has_pick (net_after p (entries_in ts ++ trace)) n ≡ can_run p n (turn_state p n (net.nodes n) (own_turns n ts))
     ready_here n l =
         let o = (side.at_node c before kept s nodes h n).here l in
-        let i : IsNodeOf c lines n o.v = s.agrees.node n o.v o.was in
+        let i : IsNodeOf c trace n o.v = s.agrees.node n o.v o.was in
         let begun : (net.nodes n).booted ≡ true = ap (λ (z : Local). z.booted) i.state ∙ i.booted in
-        let here : ((net_after p (entries_in ts ++ lines)).nodes n).booted ≡ true = booted_after p lines (entries_in ts) n s.agrees.legal.runs run_here begun in
-        sym (runs_listed p (entries_in ts ++ lines) run_here n l here s.agrees.some_quantum s.agrees.bounded_quantum) ∙ ap (can_run p n) (state_here n)
+        let here : ((net_after p (entries_in ts ++ trace)).nodes n).booted ≡ true = booted_after p trace (entries_in ts) n s.agrees.legal.runs run_here begun in
+        sym (runs_listed p (entries_in ts ++ trace) run_here n l here s.agrees.some_quantum s.agrees.bounded_quantum) ∙ ap (can_run p n) (state_here n)
 
   more : (later : List Turn) (t : Turn) (ts : List Turn) → turns ≡ later ++ (t ∷ ts) → turns ≡ (later ++ t ∷ []) ++ ts
   more later t ts e = e ∙ sym (append_assoc later (t ∷ []) ts)
 
-  moments_are : (n : ℕ) → n < nodes_of p → (later ts : List Turn) → turns ≡ later ++ ts → moments_of p n lines (entries_in ts) ≡ moments_in p n (net.nodes n) (own_turns n ts)
+  moments_are : (n : ℕ) → n < nodes_of p → (later ts : List Turn) → turns ≡ later ++ ts → moments_of p n trace (entries_in ts) ≡ moments_in p n (net.nodes n) (own_turns n ts)
   moments_are n l later [] part = refl
   moments_are n l later (t ∷ ts) part = by (eqb t.event.node n) refl (moments_are n l (later ++ t ∷ []) ts (more later t ts part))
     where
-      ready : has_pick (net_after p (entries_in (t ∷ ts) ++ lines)) n ≡ can_run p n (turn_state p n (net.nodes n) (own_turns n (t ∷ ts)))
+      ready : has_pick (net_after p (entries_in (t ∷ ts) ++ trace)) n ≡ can_run p n (turn_state p n (net.nodes n) (own_turns n (t ∷ ts)))
       ready = ready_here later (t ∷ ts) part n l
 
-      by : (b : Bool) → eqb t.event.node n ≡ b → moments_of p n lines (entries_in ts) ≡ moments_in p n (net.nodes n) (own_turns n ts)
-          → cond b ((record { act = t.event.act; ready = has_pick (net_after p (entries_in (t ∷ ts) ++ lines)) n }) ∷ moments_of p n lines (entries_in ts)) (moments_of p n lines (entries_in ts))
+      by : (b : Bool) → eqb t.event.node n ≡ b → moments_of p n trace (entries_in ts) ≡ moments_in p n (net.nodes n) (own_turns n ts)
+          → cond b ((record { act = t.event.act; ready = has_pick (net_after p (entries_in (t ∷ ts) ++ trace)) n }) ∷ moments_of p n trace (entries_in ts)) (moments_of p n trace (entries_in ts))
           ≡ moments_in p n (net.nodes n) (cond b (t ∷ own_turns n ts) (own_turns n ts))
       by true e rest =
-          ap (λ z. (record { act = t.event.act; ready = z }) ∷ moments_of p n lines (entries_in ts)) (ready ∙ ap (λ z. can_run p n (turn_state p n (net.nodes n) (cond z (t ∷ own_turns n ts) (own_turns n ts)))) e)
+          ap (λ z. (record { act = t.event.act; ready = z }) ∷ moments_of p n trace (entries_in ts)) (ready ∙ ap (λ z. can_run p n (turn_state p n (net.nodes n) (cond z (t ∷ own_turns n ts) (own_turns n ts)))) e)
           ∙ ap (λ ms. (record { act = t.event.act; ready = can_run p n (turn_state p n (net.nodes n) (t ∷ own_turns n ts)) }) ∷ ms) rest
       by false e rest = rest
 
-  pub goes_in_passes : (n : ℕ) → n < nodes_of p → GoesInPasses p n lines (entries_in turns)
+  pub goes_in_passes : (n : ℕ) → n < nodes_of p → GoesInPasses p n trace (entries_in turns)
   goes_in_passes n l =
       let o = (side.at_node c before kept s nodes h n).here l in
-      let i : IsNodeOf c lines n o.v = s.agrees.node n o.v o.was in
-      let own : moments_of p n lines (entries_in turns) ≡ moments_in p n (net.nodes n) (each n) = moments_are n l [] turns refl ∙ ap (moments_in p n (net.nodes n)) (side.own_is c before kept s nodes h n) in
-      let acts_are : moments_in o.v.program o.v.me o.v.state (each n) ≡ moments_of p n lines (entries_in turns) =
+      let i : IsNodeOf c trace n o.v = s.agrees.node n o.v o.was in
+      let own : moments_of p n trace (entries_in turns) ≡ moments_in p n (net.nodes n) (each n) = moments_are n l [] turns refl ∙ ap (moments_in p n (net.nodes n)) (side.own_is c before kept s nodes h n) in
+      let acts_are : moments_in o.v.program o.v.me o.v.state (each n) ≡ moments_of p n trace (entries_in turns) =
       ap (λ (q : Program). moments_in q o.v.me o.v.state (each n)) i.program ∙ ap (λ m. moments_in p m o.v.state (each n)) i.me ∙ ap (λ (z : Local). moments_in p n z (each n)) (sym i.state) ∙ sym own in
       let begun : (net.nodes n).booted ≡ true = ap (λ (z : Local). z.booted) i.state ∙ i.booted in
       let ready : can_run o.v.program o.v.me o.v.state ≡ has_pick net n =
       ap (λ (q : Program). can_run q o.v.me o.v.state) i.program ∙ ap (λ m. can_run p m o.v.state) i.me ∙ ap (λ (z : Local). can_run p n z) (sym i.state)
-      ∙ runs_listed p lines s.agrees.legal.runs n l begun s.agrees.some_quantum s.agrees.bounded_quantum in
-      let r : IsRound (nodes_of p) p.setup.quantum acts_in_round (has_pick net n) (λ k. can o.v (Take k)) (moments_of p n lines (entries_in turns)) =
+      ∙ runs_listed p trace s.agrees.legal.runs n l begun s.agrees.some_quantum s.agrees.bounded_quantum in
+      let r : IsRound (nodes_of p) p.setup.quantum acts_in_round (has_pick net n) (λ k. can o.v (Take k)) (moments_of p n trace (entries_in turns)) =
       subst (λ ms. IsRound (nodes_of p) p.setup.quantum acts_in_round (has_pick net n) (λ k. can o.v (Take k)) ms) acts_are
       (subst (λ b. IsRound (nodes_of p) p.setup.quantum acts_in_round b (λ k. can o.v (Take k)) (moments_in o.v.program o.v.me o.v.state (each n))) ready
       (subst (λ (q : Program). IsRound (nodes_of q) q.setup.quantum acts_in_round (can_run o.v.program o.v.me o.v.state) (λ k. can o.v (Take k)) (moments_in o.v.program o.v.me o.v.state (each n))) i.program o.passes)) in
@@ -232,7 +232,7 @@ module _ (c : ClusterView) (before kept : List Entry) (s : StandsFor c before ke
       by (Take from) m e = same e
       by (Move u to) m e = same e
 
-  pub stamped : (later ts : List Turn) → turns ≡ later ++ ts → AreOfRound top round ts → AreStamped p top round lines (entries_in ts)
+  pub stamped : (later ts : List Turn) → turns ≡ later ++ ts → AreOfRound top round ts → AreStamped p top round trace (entries_in ts)
   stamped later [] part o = tt
   stamped later (t ∷ ts) part o =
       let n : ℕ = t.event.node in
@@ -241,14 +241,14 @@ module _ (c : ClusterView) (before kept : List Entry) (s : StandsFor c before ke
       let k : IsHistory p n top (net.nodes n) (t ∷ own_turns n ts) = subst (λ xs. IsHistory p n top (net.nodes n) xs) own (history_here later (t ∷ ts) part n) in
       let r : AreInRound p n top round (t ∷ own_turns n ts) = subst (λ xs. AreInRound p n top round xs) own (side.round_front c before kept s nodes h later (t ∷ ts) part n) in
       let low : top ≤ clock top (own_turns n ts) = clock_low n top p (net.nodes n) (own_turns n ts) k.0 (side.ranges p n top round (own_turns n ts) r.1) in
-      let took : t.event.took ≡ next_packet (net_after p (entries_in ts ++ lines)) n t.event.act = (runs_here later (t ∷ ts) part).1.first ∙ ap (λ (z : Net). next_packet z n t.event.act) (sym (net_here (later ++ t ∷ []) ts front)) in
+      let took : t.event.took ≡ next_packet (net_after p (entries_in ts ++ trace)) n t.event.act = (runs_here later (t ∷ ts) part).1.first ∙ ap (λ (z : Net). next_packet z n t.event.act) (sym (net_here (later ++ t ∷ []) ts front)) in
       let stamp : t.event.stamp ≡ suc (max (clock top (own_turns n ts)) (seen t.event.took)) = restamped t (clock top (own_turns n ts)) t.event.act r.0.3 o.0.0 low k.1.stamp in (
         o.0.1,
         stamp ∙ ap (λ m. suc (max m (seen t.event.took))) (sym (clocks_same n top ts)) ∙ ap (λ q. suc (max (clock_of n top (entries_in ts)) (seen q))) took,
         stamped (later ++ t ∷ []) ts front o.1,
       )
 
-  pub is_round : AreOfOneRound p top round lines (entries_in turns)
+  pub is_round : AreOfOneRound p top round trace (entries_in turns)
   is_round = record { passes = goes_in_passes; stamped = stamped [] turns refl (side.all_of_round c before kept s nodes h) }
 
   -- ## Something was done where something was to be done
@@ -259,9 +259,9 @@ module _ (c : ClusterView) (before kept : List Entry) (s : StandsFor c before ke
 
   nothing_here : entries_in turns ≡ [] → (n : ℕ) → n < nodes_of p → (has_pick net n ≡ false) × ((i : ℕ) → i < nodes_of p → holds (net.links i n) ≡ false)
   nothing_here none n l =
-      let r : GoesInPasses p n lines (entries_in turns) = goes_in_passes n l in
-      let empty : moments_of p n lines (entries_in turns) ≡ [] = ap (moments_of p n lines) none in
-      let long : length (moments_of p n lines (entries_in turns)) ≡ 0 = ap length empty in (
+      let r : GoesInPasses p n trace (entries_in turns) = goes_in_passes n l in
+      let empty : moments_of p n trace (entries_in turns) ≡ [] = ap (moments_of p n trace) none in
+      let long : length (moments_of p n trace (entries_in turns)) ≡ 0 = ap length empty in (
         elim r.ends as (λ z. has_pick net n ≡ false) [ inl e ↦ absurd (omega (arith, e, long)) | inr e ↦ ap (ready_after (has_pick net n)) (sym empty) ∙ e.1 ],
         λ i m. by_test (holds (net.links i n)) (λ held. elim (r.first i m held) as (λ z. ⊥) [
           | inl t ↦ none_taken i (first_pass r.last r.passes) (first_none r.last r.passes (sym r.whole ∙ empty)) t
@@ -284,8 +284,8 @@ module _ (c : ClusterView) (before kept : List Entry) (s : StandsFor c before ke
   -- by what is outside the nodes, nothing can be done anywhere
   no_acts : entries_in turns ≡ [] → (n : ℕ) → acts_of false p net n ≡ []
   no_acts none n = by_less n (nodes_of p)
-      (λ l. (let k = nothing_here none n l in idle n k.0 (λ i. by_less i (nodes_of p) (λ m. k.1 i m) (λ past. ap holds ((run_inside p lines s.agrees.legal.runs).links i n (inl past))))))
-      (λ past. idle n (ap (λ (z : Local). nat_lt 0 (length z.places.rows)) ((run_inside p lines s.agrees.legal.runs).nodes n past)) (λ i. ap holds ((run_inside p lines s.agrees.legal.runs).links i n (inr past))))
+      (λ l. (let k = nothing_here none n l in idle n k.0 (λ i. by_less i (nodes_of p) (λ m. k.1 i m) (λ past. ap holds ((run_inside p trace s.agrees.legal.runs).links i n (inl past))))))
+      (λ past. idle n (ap (λ (z : Local). nat_lt 0 (length z.run_lists.rows)) ((run_inside p trace s.agrees.legal.runs).nodes n past)) (λ i. ap holds ((run_inside p trace s.agrees.legal.runs).links i n (inr past))))
     where
       no_take : (n : ℕ) (xs : List ℕ) → ((i : ℕ) → holds (net.links i n) ≡ false) → map {B = ℕ × Act} (λ i. (n, Take i)) (filter (λ i. holds (net.links i n)) xs) ≡ []
       no_take n [] k = refl
@@ -294,7 +294,7 @@ module _ (c : ClusterView) (before kept : List Entry) (s : StandsFor c before ke
       idle : (n : ℕ) → has_pick net n ≡ false → ((i : ℕ) → holds (net.links i n) ≡ false) → acts_of false p net n ≡ []
       idle n r k = ap (λ b. cond b (map {B = ℕ × Act} (λ vp. (n, Run vp p.setup.quantum)) (run 0 (processors_of p))) [] ++ (takes_of p net n ++ [])) r ∙ ap (λ xs. xs ++ []) (no_take n (run 0 (nodes_of p)) k)
 
-  pub goes_on : GoesOn p lines → 0 < length (entries_in turns)
+  pub goes_on : GoesOn p trace → 0 < length (entries_in turns)
   goes_on go = by (entries_in turns) refl
     where
       none : ((n : ℕ) → acts_of false p net n ≡ []) → (xs : List ℕ) → flat_map (λ n. acts_of false p net n) xs ≡ []

@@ -19,7 +19,7 @@ use Rattle.trace_laws.specs.Gathers.{events_in, own_turns}
 use Rattle.trace_laws.proofs.Lemmas.{own_events, received_own, sent_own}
 use Rattle.wires.specs.declared.ends.Ends.{Ends}
 use Rattle.wires.specs.Ends as ends
-use Rattle.wires.specs.Ends.{of_link, received_from, width}
+use Rattle.wires.specs.Ends.{of_link, width}
 use Rattle.wires.specs.Link.{link_known, link_received, link_sent, link_waiting, IsSettled}
 use Rattle.wires.specs.Wires.{row_link, received_on, sent_on}
 use Rattle.wires.proofs.Lemmas.{received_on-node, sent_on-node}
@@ -140,11 +140,11 @@ module _ (c : ClusterView) (before kept : List Entry) (s : StandsFor c before ke
   abbrev pub p : Program
   p = c.program
 
-  abbrev pub lines : List Entry
-  lines = kept ++ before
+  abbrev pub trace : List Entry
+  trace = kept ++ before
 
   abbrev pub net : Net
-  net = net_after p lines
+  net = net_after p trace
 
   -- the clock and the number of the round
   abbrev pub top : ℕ
@@ -214,7 +214,7 @@ module _ (c : ClusterView) (before kept : List Entry) (s : StandsFor c before ke
   abbrev pub each : ℕ → List Turn
   each n = (at_node n).turns
 
-  is_node : (n : ℕ) (l : n < many) → IsNodeOf c lines n ((at_node n).here l).v
+  is_node : (n : ℕ) (l : n < many) → IsNodeOf c trace n ((at_node n).here l).v
   is_node n l = let a = (at_node n).here l in s.agrees.node n a.v a.was
 
   pub clock_was : (n : ℕ) (l : n < many) → (raised top ((at_node n).here l).v).clock ≡ top
@@ -252,13 +252,13 @@ module _ (c : ClusterView) (before kept : List Entry) (s : StandsFor c before ke
   pub own_is : (n : ℕ) → own_turns n turns ≡ each n
   own_is n = by_less n many (λ l. woven_own each all_rise many n l) (λ past. woven_past each all_rise many n past ∙ sym ((at_node n).past past))
 
-  few_each : (n : ℕ) → length (each n) ≤ 64
+  few_each : (n : ℕ) → length (each n) ≤ acts_in_round
   few_each n = by_less n many
       (λ l. (let a = (at_node n).here l in omega (arith, a.passes.few, moments_length a.v.program a.v.me a.v.state (each n))))
       (λ past. (let none : length (each n) ≡ 0 = ap length ((at_node n).past past) in omega (arith, none)))
 
   pub few_turns : length turns ≤ 512
-  few_turns = omega (arith, woven_length each 64 many few_each, c.program.setup.geometry.few_nodes)
+  few_turns = omega (arith, woven_length each acts_in_round many few_each, c.program.setup.geometry.few_nodes)
 
   pub all_of_round : AreOfRound top round turns
   all_of_round = woven_round each top round many
@@ -320,7 +320,7 @@ module _ (c : ClusterView) (before kept : List Entry) (s : StandsFor c before ke
 
   -- ## They gather
 
-  begun : lines ≢ []
+  begun : trace ≢ []
   begun none =
       let a = (at_node 0).here (omega (arith, c.program.setup.geometry.some_node)) in
       let i = s.agrees.node 0 a.v a.was in
@@ -331,7 +331,7 @@ module _ (c : ClusterView) (before kept : List Entry) (s : StandsFor c before ke
   unfolding stamp_limit
   low = omega (arith, greatest_within c before kept s.agrees, few_entries c before kept s.agrees, few_turns)
 
-  pub gather : GathersAfter p lines top round (λ n. top) turns
+  pub gather : GathersAfter p trace top round (λ n. top) turns
   gather = record {
     legal = s.agrees.legal;
     begun = begun;
@@ -341,7 +341,7 @@ module _ (c : ClusterView) (before kept : List Entry) (s : StandsFor c before ke
     links = all_fit;
     one_round = all_of_round;
     stamps = s.agrees.stamps;
-    rounds = higher (round_in c) round (next_not_below (round_in c)) lines s.agrees.rounds;
+    rounds = higher (round_in c) round (next_not_below (round_in c)) trace s.agrees.rounds;
     clocks_within = λ n. omega arith;
     few = low;
   }
@@ -372,8 +372,8 @@ module _ (c : ClusterView) (before kept : List Entry) (s : StandsFor c before ke
   pub round_at_was : (n : ℕ) (o : NodeRound n (each n)) → (raised top o.v).round ≡ round
   round_at_was n o = ap next_round (s.agrees.one_round n o.v o.was)
 
-  pub rounds_low : NoneAbove round lines
-  rounds_low = higher (round_in c) round (next_not_below (round_in c)) lines s.agrees.rounds
+  pub rounds_low : NoneAbove round trace
+  rounds_low = higher (round_in c) round (next_not_below (round_in c)) trace s.agrees.rounds
 
   pub few_entries_now : (room : HasRoomForRound c) (n : ℕ) (o : NodeRound n (each n)) → length o.w.entries ≤ entry_limit
   few_entries_now room n o =

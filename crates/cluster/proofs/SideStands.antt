@@ -21,7 +21,7 @@ use Rattle.run_trace.specs.Spots.{at_first}
 use Rattle.run_trace.specs.Telling.{world_of, first_world}
 use Rattle.run_trace.specs.Trace.{IsRun, entry_of, event_of, events_of, net_after_trace}
 use Rattle.trace_laws.specs.Gathers.{Gathers, events_in, own_turns}
-use Rattle.trace_laws.proofs.Lemmas.{IsAtMost, gathered, own_events, gathers_bounded, gathers_state, determined, run_inside, starts, run_whole}
+use Rattle.trace_laws.proofs.Lemmas.{IsAtMost, gathered, own_events, gathers_bounded, gathers_state, determined, run_inside, console_after}
 use Rattle.wires.specs.declared.ends.Ends.{Ends}
 use Rattle.wires.specs.Wires.{AreWired, received_on, sent_on}
 use Rattle.basics.proofs.Lemmas.{by_less, some_at}
@@ -134,11 +134,11 @@ module _ (c : ClusterView) (before kept : List Entry) (s : StandsFor c before ke
   abbrev p : Program
   p = c.program
 
-  abbrev lines : List Entry
-  lines = kept ++ before
+  abbrev trace : List Entry
+  trace = kept ++ before
 
   abbrev net : Net
-  net = net_after p lines
+  net = net_after p trace
 
   abbrev top : ℕ
   top = greatest_clock c.nodes
@@ -171,7 +171,7 @@ module _ (c : ClusterView) (before kept : List Entry) (s : StandsFor c before ke
   mid = view_of p made h.ran c.rest
 
   g : Gathers p net top (λ n. top) turns
-  g = gathers p lines top round (λ n. top) turns (side.gather c before kept s nodes h)
+  g = gathers p trace top round (λ n. top) turns (side.gather c before kept s nodes h)
 
   runs : Runs p net (events_in turns)
   runs = gathered p net top (λ n. top) turns g
@@ -193,11 +193,11 @@ module _ (c : ClusterView) (before kept : List Entry) (s : StandsFor c before ke
 
   outside : (i j : ℕ) → nodes_of p ≤ j → sent_to j (events_in (each i)) ≡ []
   outside i j l =
-      let none_new : (net_after p (entries ++ lines)).links i j ≡ [] = (run_inside p (entries ++ lines) a.legal.runs).links i j (inr l) in
-      let none_old : net.links i j ≡ [] = (run_inside p lines s.agrees.legal.runs).links i j (inr l) in
+      let none_new : (net_after p (entries ++ trace)).links i j ≡ [] = (run_inside p (entries ++ trace) a.legal.runs).links i j (inr l) in
+      let none_old : net.links i j ≡ [] = (run_inside p trace s.agrees.legal.runs).links i j (inr l) in
       let none_taken : received i j (events_in turns) ≡ [] = side.taken_is c before kept s nodes h i j ∙ ap (λ ts. taken_from i (events_in ts)) (past j l) in
       sym (side.given_is c before kept s nodes h i j)
-      ∙ ap (λ ps. ps ++ sent i j (events_in turns)) (sym none_old) ∙ sym (a.links i j) ∙ ap (λ ps. ps ++ (net_after p (entries ++ lines)).links i j) none_taken ∙ none_new
+      ∙ ap (λ ps. ps ++ sent i j (events_in turns)) (sym none_old) ∙ sym (a.links i j) ∙ ap (λ ps. ps ++ (net_after p (entries ++ trace)).links i j) none_taken ∙ none_new
 
   abbrev es : List (Ends Packet)
   es = wires_of c
@@ -219,10 +219,10 @@ module _ (c : ClusterView) (before kept : List Entry) (s : StandsFor c before ke
     takes = λ i j. received_now i j ∙ ap (λ ps. ps ++ received i j (events_in turns)) (s.agrees.carried.takes i j) ∙ sym (received_joined i j (events_of p (net_after p before) kept) (events_in turns)) ∙ ap (received i j) (sym events_now);
   }
 
-  under_way : HoldUnderWay p (entries ++ lines) fs
+  under_way : HoldUnderWay p (entries ++ trace) fs
   under_way i j =
-      ap (λ ps. ps ++ (net_after p (entries ++ lines)).links i j) (received_now i j)
-      ∙ append_assoc (received_on es i j) (received i j (events_in turns)) ((net_after p (entries ++ lines)).links i j)
+      ap (λ ps. ps ++ (net_after p (entries ++ trace)).links i j) (received_now i j)
+      ∙ append_assoc (received_on es i j) (received i j (events_in turns)) ((net_after p (entries ++ trace)).links i j)
       ∙ ap (λ ps. received_on es i j ++ ps) (a.links i j) ∙ sym (append_assoc (received_on es i j) (net.links i j) (sent i j (events_in turns)))
       ∙ ap (λ ps. ps ++ sent i j (events_in turns)) (s.agrees.under_way i j) ∙ sym (sent_now i j)
 
@@ -247,12 +247,12 @@ module _ (c : ClusterView) (before kept : List Entry) (s : StandsFor c before ke
       ap (λ ts. entries_in ts ++ own_entries n kept) (past n l) ∙ s.agrees.trace.entries n
       ∙ ap (λ x. reverse (entries_at x)) (slice_get_past c.nodes n (omega (arith, l, s.agrees.count)) ∙ sym (slice_get_past h.ran n (omega (arith, l, side.ran_count c before kept s nodes h)))))
 
-  trace : HasTrace mid (entries ++ kept)
-  trace = record { order = order_front (entries ++ kept) before legal.order; entries = entries_are; wired = wired }
+  has_trace : HasTrace mid (entries ++ kept)
+  has_trace = record { order = order_front (entries ++ kept) before legal.order; entries = entries_are; wired = wired }
 
-  state_is : (n : ℕ) (o : At n) → n < nodes_of p → (net_after p (entries ++ lines)).nodes n ≡ o.w.state
+  state_is : (n : ℕ) (o : At n) → n < nodes_of p → (net_after p (entries ++ trace)).nodes n ≡ o.w.state
   state_is n o l =
-      let i : IsNodeOf c lines n o.v = s.agrees.node n o.v o.was in
+      let i : IsNodeOf c trace n o.v = s.agrees.node n o.v o.was in
       let own : own_turns n turns ≡ each n = side.own_is c before kept s nodes h n in
       a.nodes n ∙ sym (gathers_state p net top (λ k. top) turns g [] turns refl n) ∙ ap (turn_state p n (net.nodes n)) own
       ∙ ap (λ (z : Local). turn_state p n z (each n)) i.state
@@ -264,8 +264,8 @@ module _ (c : ClusterView) (before kept : List Entry) (s : StandsFor c before ke
   node_now n w e =
       let l = ran_at n w e in
       let o : At n = at n l in
-      let i : IsNodeOf c lines n o.v = s.agrees.node n o.v o.was in
-      subst (λ xs. IsNodeOf mid xs n w) (sym (append_assoc entries kept before)) (subst (λ z. IsNodeOf mid (entries ++ lines) n z) (is_at n w e) (record {
+      let i : IsNodeOf c trace n o.v = s.agrees.node n o.v o.was in
+      subst (λ xs. IsNodeOf mid xs n w) (sym (append_assoc entries kept before)) (subst (λ z. IsNodeOf mid (entries ++ trace) n z) (is_at n w e) (record {
         program = o.done.history.program ∙ i.program;
         me = o.done.history.me ∙ i.me;
         state = state_is n o l;
@@ -293,32 +293,32 @@ module _ (c : ClusterView) (before kept : List Entry) (s : StandsFor c before ke
 
   -- ## The console
 
-  run_now : IsRun p (fresh_net p) (entries ++ lines)
+  run_now : IsRun p (fresh_net p) (entries ++ trace)
   run_now = a.legal.runs
 
   -- no other node than the first shows a line
-  shows : (ts : List Turn) → IsRun p (fresh_net p) (entries_in ts ++ lines) → KeepsRules p (first_world p) (entries_in ts ++ lines) → console_of p (at_first p) (entries_in ts ++ lines) ≡ console_of p (at_first p) lines ++ printed (own 0 (events_of p net (entries_in ts)))
-  shows [] r k = sym (append-nil (console_of p (at_first p) lines))
+  shows : (ts : List Turn) → IsRun p (fresh_net p) (entries_in ts ++ trace) → KeepsRules p (first_world p) (entries_in ts ++ trace) → console_of p (at_first p) (entries_in ts ++ trace) ≡ console_of p (at_first p) trace ++ printed (own 0 (events_of p net (entries_in ts)))
+  shows [] r k = sym (append-nil (console_of p (at_first p) trace))
   shows (t ∷ ts) r k = by (eqb t.event.node 0) refl (shows ts r.0 k.0)
     where
       x : Entry
       x = entry_of t.event
 
       xs : List Entry
-      xs = entries_in ts ++ lines
+      xs = entries_in ts ++ trace
 
       -- what the entry shows is what its event prints
       prints : (event_of p (net_after p xs) x).prints ≡ shown_by_all p x.node x.labels (spots_of p (at_first p) xs)
       prints = same_end (console_of p (at_first p) xs) _ _
-          (ap (λ bs. bs ++ (event_of p (net_after p xs) x).prints) (sym ((run_whole p (at_first p) (fresh_net p) (starts p) xs r.0).console)) ∙ (run_whole p (at_first p) (fresh_net p) (starts p) (x ∷ xs) r).console)
+          (ap (λ bs. bs ++ (event_of p (net_after p xs) x).prints) (sym (console_after p xs r.0)) ∙ console_after p (x ∷ xs) r)
 
       here : (event_of p (net_after_trace p net (entries_in ts)) x).prints ≡ shown_by_all p x.node x.labels (spots_of p (at_first p) xs)
-      here = ap (λ (z : Net). (event_of p z x).prints) (net_joined p (fresh_net p) lines (entries_in ts)) ∙ prints
+      here = ap (λ (z : Net). (event_of p z x).prints) (net_joined p (fresh_net p) trace (entries_in ts)) ∙ prints
 
-      by : (b : Bool) → eqb t.event.node 0 ≡ b → console_of p (at_first p) xs ≡ console_of p (at_first p) lines ++ printed (own 0 (events_of p net (entries_in ts))) → console_of p (at_first p) xs ++ shown_by_all p x.node x.labels (spots_of p (at_first p) xs)
-          ≡ console_of p (at_first p) lines ++ printed (cond b (event_of p (net_after_trace p net (entries_in ts)) x ∷ own 0 (events_of p net (entries_in ts))) (own 0 (events_of p net (entries_in ts))))
-      by true e before_it = ap (λ bs. bs ++ shown_by_all p x.node x.labels (spots_of p (at_first p) xs)) before_it ∙ append_assoc (console_of p (at_first p) lines) (printed (own 0 (events_of p net (entries_in ts)))) _
-          ∙ ap (λ bs. console_of p (at_first p) lines ++ (printed (own 0 (events_of p net (entries_in ts))) ++ bs)) (sym here)
+      by : (b : Bool) → eqb t.event.node 0 ≡ b → console_of p (at_first p) xs ≡ console_of p (at_first p) trace ++ printed (own 0 (events_of p net (entries_in ts))) → console_of p (at_first p) xs ++ shown_by_all p x.node x.labels (spots_of p (at_first p) xs)
+          ≡ console_of p (at_first p) trace ++ printed (cond b (event_of p (net_after_trace p net (entries_in ts)) x ∷ own 0 (events_of p net (entries_in ts))) (own 0 (events_of p net (entries_in ts))))
+      by true e before_it = ap (λ bs. bs ++ shown_by_all p x.node x.labels (spots_of p (at_first p) xs)) before_it ∙ append_assoc (console_of p (at_first p) trace) (printed (own 0 (events_of p net (entries_in ts)))) _
+          ∙ ap (λ bs. console_of p (at_first p) trace ++ (printed (own 0 (events_of p net (entries_in ts))) ++ bs)) (sym here)
       by false e before_it =
           let none : shown_by_all p x.node x.labels (spots_of p (at_first p) xs) ≡ [] =
           subst (λ w. shown_by_all p x.node x.labels w ≡ []) (told_spots p (first_world p) xs) (silent p _ x.node x.labels (world_of p (first_world p) xs) k.1.to_do (λ z. absurd (cc (e, eq-eqb t.event.node 0 z))) k.1.goes) in
@@ -331,7 +331,7 @@ module _ (c : ClusterView) (before kept : List Entry) (s : StandsFor c before ke
       let own_0 : own 0 (events_of p net entries) ≡ events_in (each 0) = ap (own 0) same ∙ own_events 0 turns ∙ ap events_in (side.own_is c before kept s nodes h 0) in
       ap (console_of p (at_first p)) (append_assoc entries kept before)
       ∙ shows turns run_now a.legal.rules
-      ∙ ap (λ es. console_of p (at_first p) lines ++ printed es) own_0
+      ∙ ap (λ es. console_of p (at_first p) trace ++ printed es) own_0
       ∙ ap (λ bs. bs ++ printed (events_in (each 0))) (s.agrees.console ∙ ap (λ x. console_of p (at_first p) before ++ console_at x) o.was)
       ∙ append_assoc (console_of p (at_first p) before) o.v.console (printed (events_in (each 0)))
       ∙ ap (λ bs. console_of p (at_first p) before ++ bs) (sym o.done.console ∙ ap console_at (sym o.ran))
@@ -339,13 +339,13 @@ module _ (c : ClusterView) (before kept : List Entry) (s : StandsFor c before ke
   agrees : AgreesWith mid before (entries ++ kept)
   agrees = record {
     legal = legal;
-    trace = trace;
+    trace = has_trace;
     count = side.ran_count c before kept s nodes h;
     turns = omega (arith, turns_joined kept entries, s.agrees.turns, all_turns top round turns (side.all_of_round c before kept s nodes h), entries_length turns);
     node = node_now;
     one_round = λ n w e. round_each n w e ∙ sym round_now;
-    rounds = subst (λ r. NoneAbove r ((entries ++ kept) ++ before)) (sym round_now) (subst (λ xs. NoneAbove round xs) (sym (append_assoc entries kept before)) (none_above top round turns lines (side.all_of_round c before kept s nodes h) (side.rounds_low c before kept s nodes h)));
-    stamps = subst (λ k. NoneLater k ((entries ++ kept) ++ before)) (sym greatest_now) (subst (λ xs. NoneLater (last_stamp top entries) xs) (sym (append_assoc entries kept before)) (later_new top entries lines s.agrees.stamps));
+    rounds = subst (λ r. NoneAbove r ((entries ++ kept) ++ before)) (sym round_now) (subst (λ xs. NoneAbove round xs) (sym (append_assoc entries kept before)) (none_above top round turns trace (side.all_of_round c before kept s nodes h) (side.rounds_low c before kept s nodes h)));
+    stamps = subst (λ k. NoneLater k ((entries ++ kept) ++ before)) (sym greatest_now) (subst (λ xs. NoneLater (last_stamp top entries) xs) (sym (append_assoc entries kept before)) (later_new top entries trace s.agrees.stamps));
     clocks = λ n w e. omega (arith, clock_within h.ran n w e, greatest_now, last_bound top (top + length turns) turns (omega arith) bounded, greatest_within c before kept s.agrees, length-append entries kept, entries_length turns);
     carried = carried;
     under_way = subst (λ xs. HoldUnderWay p xs fs) (sym (append_assoc entries kept before)) under_way;

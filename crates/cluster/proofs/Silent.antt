@@ -25,6 +25,6 @@ silent p o n (l ∷ ls) w to_do ne h =
     ap (λ xs. xs ++ shown_by_all p n ls (after_label p n l w.spots)) (no_line p o n l w ne h.1.life)
     ∙ silent p (saying l o) n ls (world_after p n l w) (to_do_after p n l w.spots (past_sends to_do)) ne h.2
 
-pub told_spots : (p : Program) (old : World) (lines : List Entry) → (world_of p old lines).spots ≡ spots_of p old.spots lines
+pub told_spots : (p : Program) (old : World) (trace : List Entry) → (world_of p old trace).spots ≡ spots_of p old.spots trace
 told_spots p old [] = refl
 told_spots p old (x ∷ xs) = ap (λ w. after_labels p x.node x.labels w) (told_spots p old xs)

@@ -2,10 +2,13 @@
 use Rattle.std.proofs.Common.{◌≡◌, ℕ, zero, suc, ◌<◌, ◌≤◌, List, [], ◌∷◌, ◌++◌, length, drop, Some, refl, sym, ap, ◌∙◌, subst, arith, length-append}
 use Rattle.std.specs.Prelude.{slice_get}
 use Rattle.std.proofs.lemmas.Option.{slice_get_within, same_Some}
+use Rattle.rv_inst.specs.declared.image.Image.{Image}
+use Rattle.run_trace.specs.declared.entry.Setup.{Setup}
 use Rattle.run_trace.specs.Program.{Program}
 use Rattle.run_trace.specs.declared.packet.Packet.{Packet}
 use Rattle.wires.specs.declared.ends.Ends.{Ends}
 use Rattle.basics.proofs.Lemmas.{by_eq, get_last, get_before}
+use Rattle.node_state.specs.Events.{program}
 use Rattle.node_loop.specs.View.{NodeView}
 use Rattle.cluster.specs.Between.{HasBegun, HaveBegun}
 
@@ -20,6 +23,10 @@ drop_more [] e zero l = refl
 drop_more [] e (suc k) l = absurd (omega arith)
 drop_more (x ∷ xs) e zero l = refl
 drop_more (x ∷ xs) e (suc k) l = drop_more xs e k (omega arith)
+
+-- a program is its setup and its image
+pub of_parts : (p : Program) (setup : Setup) (image : Image) → setup ≡ p.setup → image ≡ p.image → program setup image ≡ p
+of_parts p setup image e f = ap (λ s. program s image) e ∙ ap (program p.setup) f
 
 pub one_begins : (p : Program) (count : ℕ) (es : List (Ends Packet)) (vs : List NodeView) (rest : List (Ends Packet)) (e : Ends Packet) (v : NodeView) (vs' : List NodeView) (n : ℕ)
     → length vs < count → vs' ≡ vs ++ v ∷ [] → n ≡ length vs → HasBegun p n e v → HaveBegun p count es vs rest → HaveBegun p count (es ++ e ∷ []) vs' rest

@@ -15,7 +15,7 @@ use Rattle.cluster.specs.Gathering.{AreGathered, GathersAfter, entries_in}
 use Rattle.cluster.specs.Rounds.{AddsRound, HasRoomForRound, LosesRound, round_limit}
 use Rattle.cluster.specs.SideBySide.{HaveRounded, HaveStopped, MayRound, entries_together}
 use Rattle.cluster.specs.Standing.{StandsFor, IsStanding}
-use Rattle.cluster.specs.View.{ClusterView, greatest_clock, view_of}
+use Rattle.cluster.specs.View.{ClusterView, greatest_clock, last_clock, view_of}
 use Rattle.cluster.proofs.Acting.{all_still, get_raised, raised_length, read_some}
 use Rattle.cluster.proofs.Clocks.{few_entries}
 use Rattle.cluster.proofs.Runs.{few_turns}
@@ -111,7 +111,7 @@ module _ (p : Program) (turns : ℕ) (vs : List NodeView) (rest : List (Ends Pac
   asks_wired us rs e f s room = by_parts (λ o. AreWired (wires_in us rs))
       (λ before kept st r. subst (λ zs. AreWired (wires_in zs rs)) (sym e) (subst (λ es. AreWired (wires_in vs es)) (sym f) st.agrees.trace.wired)) s.0 s.1 s.2 room
 
-  module _ (us : List NodeView) (rs : List (Ends Packet)) (ws ys : List NodeView) (clock : ℕ) (ue : us ≡ vs) (re : rs ≡ rest) (ye : ys ≡ vs) (k : clock ≡ min (greatest_clock ys) (2 ^ 62 - 1)) where
+  module _ (us : List NodeView) (rs : List (Ends Packet)) (ws ys : List NodeView) (clock : ℕ) (ue : us ≡ vs) (re : rs ≡ rest) (ye : ys ≡ vs) (k : clock ≡ min (greatest_clock ys) last_clock) where
     pub right_err : HaveStopped clock us ws → (items : List NodeView) → items ≡ ws → (before kept : List Entry) → StandsFor now before kept → HasRoomForRound now → LosesRound now (view_of p turns items rest) kept
     right_err h items same before kept s room = by_kept (λ st. subst (λ zs. LosesRound parts (view_of p turns zs rest) kept) (sym same)
         (loses parts before kept st ws (subst (λ n. HaveStopped n vs ws) (raised_to parts before kept st ys clock ye k) (subst (λ zs. HaveStopped clock zs ws) ue h))))

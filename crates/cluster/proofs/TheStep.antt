@@ -17,7 +17,7 @@ use Rattle.node_loop.specs.declared.node.Turned.TheVariants.{Did, Idle}
 use Rattle.cluster.specs.Acts.{is_possible}
 use Rattle.cluster.specs.Between.{AllOf, AreNumbered, HasActed, HasFailed, IsReady, raised_but, wires_in}
 use Rattle.cluster.specs.Standing.{StandsFor, AgreesWith, IsStanding, HasRoom, HasTrace, Loses, Steps, entries_at, net_after}
-use Rattle.cluster.specs.View.{ClusterView, greatest_clock, view_of}
+use Rattle.cluster.specs.View.{ClusterView, greatest_clock, last_clock, view_of}
 use Rattle.cluster.proofs.Acting.{get_raised, raised_length, mid_wired, mid_all, all_still, turn_keeps, lost_keeps, read_some}
 use Rattle.cluster.proofs.Linking.{can_is}
 use Rattle.cluster.proofs.OneMore.{adds}
@@ -53,10 +53,10 @@ module _ (c : ClusterView) (before kept : List Entry) (s : StandsFor c before ke
   did_exact Idle h = absurd (never_idle c before kept s n inside h.node h.was (greatest_clock c.nodes) act h.new range (able h.node h.was) h.turns)
 
 -- a cluster that stands raises to the greatest clock itself
-pub raised_to : (c : ClusterView) (before kept : List Entry) → StandsFor c before kept → (us : List NodeView) (clock : ℕ) → us ≡ c.nodes → clock ≡ min (greatest_clock us) (2 ^ 62 - 1) → clock ≡ greatest_clock c.nodes
+pub raised_to : (c : ClusterView) (before kept : List Entry) → StandsFor c before kept → (us : List NodeView) (clock : ℕ) → us ≡ c.nodes → clock ≡ min (greatest_clock us) last_clock → clock ≡ greatest_clock c.nodes
 raised_to c before kept st us clock e k =
-    k ∙ ap (λ ys. min (greatest_clock ys) (2 ^ 62 - 1)) e
-    ∙ min-eq_left {n = greatest_clock c.nodes} {m = 2 ^ 62 - 1} (let low : greatest_clock c.nodes < 2 ^ 62 - 1 = clocks_low c before kept st.agrees in omega (arith, low))
+    k ∙ ap (λ ys. min (greatest_clock ys) last_clock) e
+    ∙ min-eq_left {n = greatest_clock c.nodes} {m = last_clock} (let low : greatest_clock c.nodes < last_clock = clocks_low c before kept st.agrees in omega (arith, low))
 
 -- what isn't done isn't possible
 pub idle_exact : (c : ClusterView) (before kept : List Entry) → StandsFor c before kept → (n : ℕ) → n < nodes_of c.program → (v : NodeView) → slice_get c.nodes n ≡ Some v
@@ -150,7 +150,7 @@ module _ (p : Program) (turns : ℕ) (vs : List NodeView) (rest : List (Ends Pac
   able : (b : Bool) → b ≡ can read act → b ≡ true → (v : NodeView) → slice_get vs n ≡ Some v → can v act ≡ true
   able b e could v h = ap (λ z. can z act) (sym (read_is v h)) ∙ sym e ∙ could
 
-  raises : (before kept : List Entry) → StandsFor parts before kept → (us : List NodeView) (clock : ℕ) → us ≡ vs → clock ≡ min (greatest_clock us) (2 ^ 62 - 1) → clock ≡ greatest_clock vs
+  raises : (before kept : List Entry) → StandsFor parts before kept → (us : List NodeView) (clock : ℕ) → us ≡ vs → clock ≡ min (greatest_clock us) last_clock → clock ≡ greatest_clock vs
   raises before kept st us clock e k = raised_to parts before kept st us clock e k
 
   as_acted : (us : List NodeView) (rs : List (Ends Packet)) (ws : List NodeView) (t : Turned) (clock : ℕ) → us ≡ vs → rs ≡ rest → clock ≡ greatest_clock vs
@@ -160,7 +160,7 @@ module _ (p : Program) (turns : ℕ) (vs : List NodeView) (rest : List (Ends Pac
       (subst (λ z. HasActed clock at act z vs ws t) g (subst (λ z. HasActed clock at act rs z ws t) e h)))
 
   pub right_steps : (b : Bool) → b ≡ can read act → b ≡ true → (us : List NodeView) (rs : List (Ends Packet)) (ws items : List NodeView) (t : Turned) (ys : List NodeView) (clock : ℕ)
-      → us ≡ vs → rs ≡ rest → ys ≡ vs → clock ≡ min (greatest_clock ys) (2 ^ 62 - 1) → HasActed clock at act rs us ws t → items ≡ ws
+      → us ≡ vs → rs ≡ rest → ys ≡ vs → clock ≡ min (greatest_clock ys) last_clock → HasActed clock at act rs us ws t → items ≡ ws
       → (before kept : List Entry) → StandsFor now before kept → Steps now before kept n act (view_of p (turns + 1) items rest) t
   right_steps b e could us rs ws items t ys clock ue re ye k h same before kept s = by_parts (λ o. StandsFor o before kept → Steps o before kept n act (view_of p (turns + 1) items rest) t)
       (λ i r few st.
@@ -170,7 +170,7 @@ module _ (p : Program) (turns : ℕ) (vs : List NodeView) (rest : List (Ends Pac
       (stepped parts before kept st n i few act r (able b e could) ws t (as_acted us rs ws t clock ue re (raises before kept st ys clock ye k) h)))) s
 
   pub right_exact : (b : Bool) → b ≡ can read act → b ≡ true → (us : List NodeView) (rs : List (Ends Packet)) (ws : List NodeView) (t : Turned) (ys : List NodeView) (clock : ℕ)
-      → us ≡ vs → rs ≡ rest → ys ≡ vs → clock ≡ min (greatest_clock ys) (2 ^ 62 - 1) → HasActed clock at act rs us ws t
+      → us ≡ vs → rs ≡ rest → ys ≡ vs → clock ≡ min (greatest_clock ys) last_clock → HasActed clock at act rs us ws t
       → (before kept : List Entry) → StandsFor now before kept → (t ≡ Idle) ↔ (is_possible (net_after now.program (kept ++ before)) n act ≡ false)
   right_exact b e could us rs ws t ys clock ue re ye k h before kept s = by_parts (λ o. StandsFor o before kept → (t ≡ Idle) ↔ (is_possible (net_after o.program (kept ++ before)) n act ≡ false))
       (λ i r few st. did_exact parts before kept st n i few act r (able b e could) ws t (as_acted us rs ws t clock ue re (raises before kept st ys clock ye k) h)) s

@@ -8,13 +8,13 @@ use Rattle.run_trace.specs.declared.entry.Act.TheVariants.{Boot, Run, Take, Move
 use Rattle.run_trace.specs.declared.packet.Packet.{Packet}
 use Rattle.run_trace.specs.Program.{Program, nodes_of, processors_of}
 use Rattle.run_trace.specs.Local.{Local}
-use Rattle.run_trace.specs.Places.{is_listed}
+use Rattle.run_trace.specs.RunLists.{is_listed}
 use Rattle.run_trace.specs.Cluster.{Net}
 use Rattle.run_trace.specs.Links.{first_of}
 
 -- a thread is on the node's run list
 abbrev pub has_pick : Net → ℕ → Bool
-has_pick net n = nat_lt 0 (length (net.nodes n).places.rows)
+has_pick net n = nat_lt 0 (length (net.nodes n).run_lists.rows)
 
 abbrev pub holds : List Packet → Bool
 holds packets = is_some (first_of packets)
@@ -27,7 +27,7 @@ takes_of p net n = map (λ i. (n, Take i)) (filter (λ i. holds (net.links i n))
 
 -- the names of the threads of a node that are on its run list, ascending
 abbrev pub ready_on : Local → List Tid
-ready_on s = filter (λ t. is_listed t s.places.rows) (map (λ e. e.0) s.threads)
+ready_on s = filter (λ t. is_listed t s.run_lists.rows) (map (λ e. e.0) s.threads)
 
 abbrev pub moves_to : Program → ℕ → Tid → List (ℕ × Act)
 moves_to p n t = map (λ to. (n, Move t to)) (filter (λ to. not (to == n)) (run 0 (nodes_of p)))
@@ -46,4 +46,4 @@ abbrev pub is_possible : Net → ℕ → Act → Bool
 is_possible net n Boot = false
 is_possible net n (Run vp quantum) = has_pick net n
 is_possible net n (Take i) = holds (net.links i n)
-is_possible net n (Move t to) = is_listed t (net.nodes n).places.rows
+is_possible net n (Move t to) = is_listed t (net.nodes n).run_lists.rows

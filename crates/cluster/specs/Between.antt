@@ -7,6 +7,7 @@ use Rattle.run_trace.specs.declared.entry.Act.TheVariants.{Boot, Run, Take, Move
 use Rattle.run_trace.specs.declared.entry.Entry.{Entry}
 use Rattle.run_trace.specs.declared.packet.Packet.{Packet}
 use Rattle.run_trace.specs.Guests.{unwaiting}
+use Rattle.run_trace.specs.Legality.{boot_entries}
 use Rattle.run_trace.specs.Program.{Program, nodes_of}
 use Rattle.wires.specs.declared.ends.Ends.{Ends}
 use Rattle.wires.specs.declared.link.Link.{Link}
@@ -15,7 +16,8 @@ use Rattle.wires.specs.Wires.{link_at, AreWired, CarriedNoMore}
 use Rattle.node_loop.specs.View.{NodeView, raised, unbooted, with_ends}
 use Rattle.node_loop.specs.Turns.{Does, IsInRange, IsLost, Turns, can, entry_limit}
 use Rattle.node_loop.specs.declared.node.Turned.{Turned}
-use Rattle.cluster.specs.View.{ends_of}
+use Rattle.cluster.specs.Standing.{StandsFor}
+use Rattle.cluster.specs.View.{ends_of, greatest_clock, round_in, view_of}
 use Rattle.cluster.specs.declared.deciding.State.{State}
 use Rattle.cluster.specs.declared.deciding.State.TheVariants.{Going, Done, Stalled}
 
@@ -44,7 +46,7 @@ abbrev pub has_thread : NodeView → Bool
 has_thread v = nat_lt 0 (length v.state.threads)
 
 abbrev pub has_row : NodeView → Bool
-has_row v = nat_lt 0 (length v.state.places.rows)
+has_row v = nat_lt 0 (length v.state.run_lists.rows)
 
 -- a packet is known of one of these senders
 abbrev pub knows_of : NodeView → List ℕ → Bool
@@ -148,6 +150,14 @@ pub record AreReady (p : Program) (count : ℕ) (wires : List (Ends Packet)) (no
   pub first : List NodeView
   pub begun : HaveBegun p count wires first rest
   pub settled : SettlesAll rest first nodes
+
+-- the nodes on these wires stand for the beginnings alone, with clock 1 in round 0
+pub record HaveBooted (p : Program) (given : List (Ends Packet)) (nodes : List NodeView) (rest : List (Ends Packet)) : Type 0 where
+  pub programs : AllOf p nodes
+  pub stands : StandsFor (view_of p 0 nodes rest) [] (boot_entries p (nodes_of p))
+  pub clock : greatest_clock nodes ≡ 1
+  pub round : round_in (view_of p 0 nodes rest) ≡ 0
+  pub wide : length (wires_in nodes rest) ≡ length given
 
 -- ## The end
 

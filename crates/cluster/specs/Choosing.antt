@@ -8,7 +8,7 @@ use Rattle.node_loop.specs.View.{NodeView}
 use Rattle.cluster.specs.Between.{run_by, takes_from, moves_among}
 
 abbrev pub moves_in : NodeView → List (ℕ × Act)
-moves_in v = flat_map (λ t. moves_among v.me t (run 0 (nodes_of v.program))) (names_of v.state.places.rows)
+moves_in v = flat_map (λ t. moves_among v.me t (run 0 (nodes_of v.program))) (names_of v.state.run_lists.rows)
 
 abbrev pub listed_moves : Bool → NodeView → List (ℕ × Act)
 listed_moves moves v = if moves then moves_in v else []

@@ -40,14 +40,14 @@ pub record AreGathered (p : Program) (old : List Entry) (turns : List Turn) : Ty
   pub links : (i j : ℕ) → received i j (events_in turns) ++ (net_after p (entries_in turns ++ old)).links i j ≡ (net_after p old).links i j ++ sent i j (events_in turns)
 
 -- the same of local runs that are known to fit
-pub record JoinsAfter (p : Program) (old lines : List Entry) (histories : ℕ → List Event) : Type 0 where
+pub record JoinsAfter (p : Program) (old trace : List Entry) (histories : ℕ → List Event) : Type 0 where
   pub legal : Legal p old
   pub begun : old ≢ []
-  pub order : IsInOrder (lines ++ old)
-  pub rounds : AreRising (lines ++ old)
-  pub joins : Joins p (net_after p old) lines histories
+  pub order : IsInOrder (trace ++ old)
+  pub rounds : AreRising (trace ++ old)
+  pub joins : Joins p (net_after p old) trace histories
 
-pub record AreJoined (p : Program) (old lines : List Entry) (histories : ℕ → List Event) : Type 0 where
-  pub legal : Legal p (lines ++ old)
-  pub nodes : (n : ℕ) → (net_after p (lines ++ old)).nodes n ≡ state p n ((net_after p old).nodes n) (histories n)
-  pub links : (i j : ℕ) → taken_from i (histories j) ++ (net_after p (lines ++ old)).links i j ≡ (net_after p old).links i j ++ sent_to j (histories i)
+pub record AreJoined (p : Program) (old trace : List Entry) (histories : ℕ → List Event) : Type 0 where
+  pub legal : Legal p (trace ++ old)
+  pub nodes : (n : ℕ) → (net_after p (trace ++ old)).nodes n ≡ state p n ((net_after p old).nodes n) (histories n)
+  pub links : (i j : ℕ) → taken_from i (histories j) ++ (net_after p (trace ++ old)).links i j ≡ (net_after p old).links i j ++ sent_to j (histories i)

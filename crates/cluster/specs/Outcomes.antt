@@ -13,19 +13,19 @@ use Rattle.cluster.specs.declared.deciding.State.TheVariants.{Going, Done, Stall
 
 -- a thread has called halt, or no thread lives and nothing is under way
 abbrev pub IsDoneAt : Program → List Entry → Type 0
-IsDoneAt p lines = IsDone (spots_of p (at_first p) lines) (net_after_trace p (fresh_net p) lines)
+IsDoneAt p trace = IsDone (spots_of p (at_first p) trace) (net_after_trace p (fresh_net p) trace)
 
 -- it isn't done, a thread lives, none can run, nothing is under way, and each waits by its own rule
 abbrev pub IsStuckAt : Program → List Entry → Type 0
-IsStuckAt p lines = IsStuck (spots_of p (at_first p) lines) (net_after_trace p (fresh_net p) lines)
+IsStuckAt p trace = IsStuck (spots_of p (at_first p) trace) (net_after_trace p (fresh_net p) trace)
 
 -- it is neither, and an act is possible
-pub record GoesOn (p : Program) (lines : List Entry) : Type 0 where
-  pub not_done : IsDoneAt p lines → ⊥
-  pub not_stuck : IsStuckAt p lines → ⊥
-  pub possible : (moves : Bool) → possible_acts moves p (net_after_trace p (fresh_net p) lines) ≢ []
+pub record GoesOn (p : Program) (trace : List Entry) : Type 0 where
+  pub not_done : IsDoneAt p trace → ⊥
+  pub not_stuck : IsStuckAt p trace → ⊥
+  pub possible : (moves : Bool) → possible_acts moves p (net_after_trace p (fresh_net p) trace) ≢ []
 
 abbrev pub IsAt : Program → List Entry → State → Type 0
-IsAt p lines Going = GoesOn p lines
-IsAt p lines Done = IsDoneAt p lines
-IsAt p lines Stalled = IsStuckAt p lines
+IsAt p trace Going = GoesOn p trace
+IsAt p trace Done = IsDoneAt p trace
+IsAt p trace Stalled = IsStuckAt p trace

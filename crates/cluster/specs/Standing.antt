@@ -24,7 +24,7 @@ use Rattle.cluster.specs.View.{ClusterView, wires_of, console_in, greatest_clock
 
 -- what a trace, newest entry first, leaves of the nodes and links
 abbrev pub net_after : Program → List Entry → Net
-net_after p lines = net_after_trace p (fresh_net p) lines
+net_after p trace = net_after_trace p (fresh_net p) trace
 
 -- ## The links
 
@@ -35,12 +35,12 @@ pub record HaveCarriedSince (p : Program) (before kept : List Entry) (wires : Li
 
 -- on each link was sent what the entries of the whole trace send, and received what they take
 abbrev pub HaveCarried : Program → List Entry → List (Ends Packet) → Type 0
-HaveCarried p lines wires = HaveCarriedSince p [] lines wires
+HaveCarried p trace wires = HaveCarriedSince p [] trace wires
 
 -- what was received on a link, and then what is under way on it after the trace, is what was sent: the link with its outbox holds
 -- exactly what is under way
 abbrev pub HoldUnderWay : Program → List Entry → List (Ends Packet) → Type 0
-HoldUnderWay p lines wires = (i j : ℕ) → received_on wires i j ++ (net_after p lines).links i j ≡ sent_on wires i j
+HoldUnderWay p trace wires = (i j : ℕ) → received_on wires i j ++ (net_after p trace).links i j ≡ sent_on wires i j
 
 -- all links between the first so many nodes are settled; nothing is sent on others
 abbrev pub AreSettledBelow : ℕ → List (Ends Packet) → Type 0
@@ -55,7 +55,7 @@ NoneLater clock (x ∷ xs) = (x.stamp ≤ clock) × NoneLater clock xs
 
 -- the greatest clock is not below any stamp of the trace
 abbrev pub CoversStamps : ClusterView → List Entry → Type 0
-CoversStamps c lines = NoneLater (greatest_clock c.nodes) lines
+CoversStamps c trace = NoneLater (greatest_clock c.nodes) trace
 
 -- all nodes are in one round
 abbrev pub IsInOneRound : ClusterView → Type 0
@@ -63,7 +63,7 @@ IsInOneRound c = (n : ℕ) (v : NodeView) → slice_get c.nodes n ≡ Some v →
 
 -- that round is not below any round of the trace
 abbrev pub CoversRounds : ClusterView → List Entry → Type 0
-CoversRounds c lines = NoneAbove (round_in c) lines
+CoversRounds c trace = NoneAbove (round_in c) trace
 
 -- each clock is below this
 abbrev pub AreClocksBelow : ℕ → List NodeView → Type 0
@@ -76,10 +76,10 @@ clock_limit kept = 2 ^ 61 + kept
 -- ## The nodes
 
 -- node n is what the trace leaves of it, and keeps no more entries than a node may
-pub record IsNodeOf (c : ClusterView) (lines : List Entry) (n : ℕ) (v : NodeView) : Type 0 where
+pub record IsNodeOf (c : ClusterView) (trace : List Entry) (n : ℕ) (v : NodeView) : Type 0 where
   pub program : v.program ≡ c.program
   pub me : v.me ≡ n
-  pub state : (net_after c.program lines).nodes n ≡ v.state
+  pub state : (net_after c.program trace).nodes n ≡ v.state
   pub booted : v.state.booted ≡ true
   pub few : length v.entries ≤ entry_limit
 

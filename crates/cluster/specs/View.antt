@@ -1,5 +1,5 @@
 -- All nodes as their callers see them.
-use Rattle.std.specs.Prelude.{ℕ, max, List, [], ◌∷◌, ◌++◌, map, Option, Some, None, slice_get}
+use Rattle.std.specs.Prelude.{ℕ, ◌-◌, ◌^◌, max, List, [], ◌∷◌, ◌++◌, map, Option, Some, None, slice_get}
 use Rattle.run_trace.specs.declared.packet.Packet.{Packet}
 use Rattle.run_trace.specs.Program.{Program}
 use Rattle.wires.specs.declared.ends.Ends.{Ends}
@@ -33,6 +33,10 @@ console_in c = console_at (slice_get c.nodes 0)
 abbrev pub greatest_clock : List NodeView → ℕ
 greatest_clock [] = 0
 greatest_clock (v ∷ vs) = max v.clock (greatest_clock vs)
+
+-- the greatest clock to which a node is raised; above it come the stamps of strays
+abbrev pub last_clock : ℕ
+last_clock = 2 ^ 62 - 1
 
 abbrev pub round_at : Option NodeView → ℕ
 round_at None = 0

@@ -9,7 +9,7 @@ ghost use Rattle.cluster.specs.Between.{takes_from};
 ghost use Rattle.cluster.specs.Choosing.{IsCapped, acts_in, listed_moves, later_acts, other_at};
 
 use node_loop::Node;
-use run_trace::{Act, Setup};
+use run_trace::{Act, Program};
 use slot_space::NodeNo;
 
 // How many acts the nodes have together.
@@ -68,19 +68,19 @@ fn known_senders(node: &Node, count: u8) -> usize
 // The act at this place, counted through all nodes.
 pub(crate) fn act_at(
     nodes: &[Node],
-    setup: &Setup,
+    program: &Program,
     moves: bool,
     place: usize,
 ) -> Option<(NodeNo, Act)>
-    requires programs { (n : ℕ) (v : NodeView) → slice_get nodes.now n ≡ Some v → v.program.setup ≡ setup.now }
+    requires programs { (n : ℕ) (v : NodeView) → slice_get nodes.now n ≡ Some v → v.program ≡ program.now }
     requires place { place < 2 ^ 32 }
     ensures { result ≡ slice_get (flat_map (acts_in moves) nodes.now) place }
 {
     let mut left = place;
     for node in nodes {
-        let count = count_of(node, setup.geometry.nodes(), moves);
+        let count = count_of(node, program.nodes(), moves);
         if left < count {
-            return act_of(node, setup, moves, left);
+            return act_of(node, program, moves, left);
         }
         left -= count;
     }
@@ -88,16 +88,16 @@ pub(crate) fn act_at(
 }
 
 // The act of a node at this place.
-fn act_of(node: &Node, setup: &Setup, moves: bool, place: usize) -> Option<(NodeNo, Act)>
-    requires { node.now.program.setup ≡ setup.now }
+fn act_of(node: &Node, program: &Program, moves: bool, place: usize) -> Option<(NodeNo, Act)>
+    requires { node.now.program ≡ program.now }
     ensures { result ≡ slice_get (acts_in moves node.now) place }
 {
-    let count = setup.geometry.nodes();
+    let count = program.nodes();
     if node.ready() == 0 {
         return later_act(node, count, moves, place);
     }
     if place == 0 {
-        return Some((node.me(), Act::Run(0, setup.quantum)));
+        return Some((node.me(), Act::Run(0, program.setup().quantum)));
     }
     later_act(node, count, moves, place - 1)
 }

@@ -26,7 +26,7 @@ use crate::side_by_side::{entries_together, round_all};
 use crate::stepping::{carry_out, next_clock, settle_all};
 use basics::{Items, NoMemory};
 use node_loop::{Gate, Node, Turned};
-use run_trace::{Act, Entry, Packet, Setup};
+use run_trace::{Act, Entry, Packet, Program, Setup};
 use rv_inst::Image;
 use slot_space::NodeNo;
 use std::alloc::Global;
@@ -39,8 +39,7 @@ use wires::{Ends, Wires};
 #[derive(Drop)]
 pub struct Cluster {
     alloc: Global,
-    setup: Setup,
-    image: Image,
+    program: Program,
     turns: u64,
     nodes: Vec<Node>,
     // The ends of the wires' further nodes.
@@ -48,16 +47,15 @@ pub struct Cluster {
 }
 
 impl Model for Cluster {
-    ghost use Rattle.node_state.specs.Events.{program};
     ghost use Rattle.cluster.specs.View.{ClusterView, view_of};
     ghost use Rattle.cluster.specs.Between.{AllOf};
 
     ghost Value = { ClusterView };
 
-    ghost view = { λ c. view_of (program c.setup c.image) c.turns c.nodes.items c.rest.items };
+    ghost view = { λ c. view_of c.program c.turns c.nodes.items c.rest.items };
 
-    // Each node has the cluster's setup and image.
-    ghost invariant = { λ c. AllOf (program c.setup c.image) c.nodes.items };
+    // Each node is of the cluster's program.
+    ghost invariant = { λ c. AllOf c.program c.nodes.items };
 }
 
 impl Cluster {
@@ -77,11 +75,11 @@ impl Cluster {
         ensures program { IfOk result (λ c. c.program ≡ program setup.now image) }
         ensures wires { IfOk result (λ c. length (wires_of c) ≡ length wires) }
     {
-        let (nodes, rest) = begun(alloc, setup, &image, wires.ends()?)?;
+        let program = Program::of(alloc, setup, &image)?;
+        let (nodes, rest) = begun(alloc, &program, wires.ends()?)?;
         Ok(Cluster {
             alloc,
-            setup: *setup,
-            image,
+            program,
             turns: 0,
             nodes,
             rest,
@@ -145,7 +143,7 @@ impl Cluster {
     {
         let mut acts = Vec::new(self.alloc);
         for node in &self.nodes {
-            push_acts(&mut acts, &self.setup, moves, node)?;
+            push_acts(&mut acts, &self.program, moves, node)?;
         }
         Ok(acts)
     }
@@ -155,19 +153,19 @@ impl Cluster {
     pub fn choose(&self, moves: bool, word: u32) -> Option<(NodeNo, Act)>
         ensures { (before kept : List Entry) → StandsFor self.now before kept → (let acts = possible_acts moves self.now.program (net_after self.now.program (kept ++ before)) in result ≡ slice_get acts (word % length acts)) }
     {
-        let count = self.setup.geometry.nodes();
+        let count = self.program.nodes();
         let total = count_all(&self.nodes, count, moves);
         if total == 0 {
             return None;
         }
-        act_at(&self.nodes, &self.setup, moves, word as usize % total)
+        act_at(&self.nodes, &self.program, moves, word as usize % total)
     }
 
     /// Whether the program goes on.
     pub fn verdict(&self) -> State
         ensures { (before kept : List Entry) → StandsFor self.now before kept → IsAt self.now.program (kept ++ before) result }
     {
-        let count = self.setup.geometry.nodes();
+        let count = self.program.nodes();
         decided(
             any_halted(&self.nodes),
             any_packet(&self.nodes, count),

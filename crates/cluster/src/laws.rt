@@ -31,7 +31,7 @@ pub fn rounds_gather()
 
 /// Local runs that fit on the links go on with a legal trace.
 pub fn runs_join()
-    ensures { (p : Program) (old lines : List Entry) (histories : ℕ → List Event) → JoinsAfter p old lines histories → AreJoined p old lines histories }
+    ensures { (p : Program) (old trace : List Entry) (histories : ℕ → List Event) → JoinsAfter p old trace histories → AreJoined p old trace histories }
 {
     joined();
 }

@@ -7,21 +7,21 @@ ghost use Rattle.cluster.specs.Between.{acts_by, moves_by, moves_among, run_by, 
 
 use basics::NoMemory;
 use node_loop::Node;
-use run_trace::{Act, Setup};
+use run_trace::{Act, Program};
 use slot_space::{NodeNo, Tid};
 
 // The acts of a node; moves only where they are asked for.
 pub(crate) fn push_acts(
     acts: &mut Vec<(NodeNo, Act)>,
-    setup: &Setup,
+    program: &Program,
     moves: bool,
     node: &Node,
 ) -> Result<(), NoMemory>
-    requires { node.now.program.setup ≡ setup.now }
+    requires { node.now.program ≡ program.now }
     ensures { OnOk result (acts.new.items ≡ acts.old.items ++ acts_by moves node.now) }
 {
-    push_run(acts, setup, node)?;
-    let count = setup.geometry.nodes();
+    push_run(acts, program, node)?;
+    let count = program.nodes();
     push_takes(acts, count, node)?;
     if moves {
         push_moves(acts, count, node)?;
@@ -30,12 +30,12 @@ pub(crate) fn push_acts(
 }
 
 // A run, if a thread can be picked.
-fn push_run(acts: &mut Vec<(NodeNo, Act)>, setup: &Setup, node: &Node) -> Result<(), NoMemory>
-    requires { node.now.program.setup ≡ setup.now }
+fn push_run(acts: &mut Vec<(NodeNo, Act)>, program: &Program, node: &Node) -> Result<(), NoMemory>
+    requires { node.now.program ≡ program.now }
     ensures { OnOk result (acts.new.items ≡ acts.old.items ++ run_by node.now) }
 {
     if node.ready() > 0 {
-        acts.push((node.me(), Act::Run(0, setup.quantum)))?;
+        acts.push((node.me(), Act::Run(0, program.setup().quantum)))?;
     }
     Ok(())
 }

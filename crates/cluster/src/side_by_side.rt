@@ -1,10 +1,11 @@
 //! A round of all nodes, which run side by side.
 
-ghost use Rattle.std.specs.Prelude.{◌≡◌, ◌<◌, ◌^◌, All, IfOk, OnErr, OnOk, map};
+ghost use Rattle.std.specs.Prelude.{◌≡◌, ◌<◌, ◌≤◌, ◌^◌, All, IfOk, OnErr, OnOk, map};
 ghost use Rattle.wires.specs.Wires.{AreWired};
 ghost use Rattle.node_loop.specs.View.{raised};
 ghost use Rattle.cluster.specs.Between.{AreNumbered, wires_in};
 ghost use Rattle.cluster.specs.SideBySide.{EachHasRun, HasRun, HaveRounded, HaveStopped, MayRound, all_stand, entries_together};
+ghost use Rattle.cluster.specs.View.{last_clock};
 
 use crate::stepping::{raise_all, settle_all};
 use basics::NoMemory;
@@ -28,7 +29,7 @@ pub(crate) fn round_all<R: Threads + Sync, G: Gate>(
     clock: u64,
     gate: &G,
 ) -> Result<(), NoMemory>
-    requires clock { clock < 2 ^ 62 }
+    requires clock { clock ≤ last_clock }
     requires ready { All MayRound (map (raised clock) nodes.old) }
     requires numbered { AreNumbered nodes.old }
     requires wired { AreWired (wires_in nodes.old rest.now) }

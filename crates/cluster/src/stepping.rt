@@ -1,12 +1,12 @@
 //! The parts of a step.
 
-ghost use Rattle.std.specs.Prelude.{◌≡◌, ◌<◌, ◌^◌, ◌-◌, Some, IfOk, IsOk, OnErr, length, map, min, slice_get};
+ghost use Rattle.std.specs.Prelude.{◌≡◌, ◌<◌, ◌≤◌, Some, IfOk, IsOk, OnErr, length, map, min, slice_get};
 ghost use Rattle.wires.specs.Link.{IsSettled, BothBecome, OwnBecomes};
 ghost use Rattle.wires.specs.Pairs.{PairChanged, SelfChanged};
 ghost use Rattle.wires.specs.Wires.{AreWired};
 ghost use Rattle.node_loop.specs.View.{NodeView, raised};
 ghost use Rattle.cluster.specs.Between.{AreNumbered, HasActed, HasFailed, IsReady, KeepNodes, SettlesAll, SettlesOf, wires_in};
-ghost use Rattle.cluster.specs.View.{greatest_clock};
+ghost use Rattle.cluster.specs.View.{greatest_clock, last_clock};
 
 use basics::NoMemory;
 use node_loop::{Node, Turned};
@@ -18,8 +18,8 @@ const LAST_CLOCK: u64 = (1 << 62) - 1;
 
 // The clock to which all are raised: the greatest.
 pub(crate) fn next_clock(nodes: &[Node]) -> u64
-    ensures value { result ≡ min (greatest_clock nodes.now) (2 ^ 62 - 1) }
-    ensures below { result < 2 ^ 62 }
+    ensures value { result ≡ min (greatest_clock nodes.now) last_clock }
+    ensures below { result ≤ last_clock }
 {
     let mut greatest = 0;
     for node in nodes {
@@ -37,7 +37,7 @@ pub(crate) fn carry_out(
     act: Act,
 ) -> Result<Turned, NoMemory>
     requires place { at < length nodes.old }
-    requires clock { clock < 2 ^ 62 }
+    requires clock { clock ≤ last_clock }
     requires ready { (v : NodeView) → slice_get nodes.old at ≡ Some v → IsReady v act }
     requires numbered { AreNumbered nodes.old }
     requires wired { AreWired (wires_in nodes.old rest.now) }
@@ -52,7 +52,7 @@ pub(crate) fn carry_out(
 
 // Each node's clock is at least this, and its next round begins.
 pub(crate) fn raise_all(nodes: &mut [Node], clock: u64)
-    requires { clock < 2 ^ 62 }
+    requires { clock ≤ last_clock }
     ensures { nodes.new ≡ map (raised clock) nodes.old }
 {
     for node in nodes.iter_mut() {
@@ -105,8 +105,7 @@ fn settle_pair(
     requires numbered { AreNumbered nodes.old }
     requires wired { AreWired (wires_in nodes.old rest.now) }
     ensures ok { IsOk result }
-    ensures same { KeepNodes nodes.old nodes.new }
-    ensures settled { PairChanged i j (BothBecome IsSettled) (wires_in nodes.old rest.now) (wires_in nodes.new rest.now) }
+    ensures settled { KeepNodes nodes.old nodes.new × PairChanged i j (BothBecome IsSettled) (wires_in nodes.old rest.now) (wires_in nodes.new rest.now) }
 {
     let (front, back) = nodes.split_at_mut(j);
     front[i].settle_with(&mut back[0])
@@ -117,8 +116,7 @@ fn settle_self(nodes: &mut [Node], rest: &[Ends<Packet>], i: usize) -> Result<()
     requires numbered { AreNumbered nodes.old }
     requires wired { AreWired (wires_in nodes.old rest.now) }
     ensures ok { IsOk result }
-    ensures same { KeepNodes nodes.old nodes.new }
-    ensures settled { SelfChanged i (OwnBecomes IsSettled) (wires_in nodes.old rest.now) (wires_in nodes.new rest.now) }
+    ensures settled { KeepNodes nodes.old nodes.new × SelfChanged i (OwnBecomes IsSettled) (wires_in nodes.old rest.now) (wires_in nodes.new rest.now) }
 {
     nodes[i].settle_own()
 }

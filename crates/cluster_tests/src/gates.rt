@@ -1,19 +1,18 @@
 //! Two nodes that make rounds side by side, at gates that hold a node up until the other is as far as is told.
 
-ghost use Rattle.std.specs.Prelude.{IfOk, OnOk};
+ghost use Rattle.std.specs.Prelude.{OnOk};
 ghost use Rattle.cluster_tests.specs.Rounds.{IsInRounds};
 
-use crate::traces::image;
+use crate::booting::booted;
 use basics::Items;
 use cluster::Cluster;
 use node_loop::Gate;
-use run_trace::{Act, Entry, Setup};
-use slot_space::{Geometry, NodeNo};
+use run_trace::{Act, Entry};
+use slot_space::NodeNo;
 use std::alloc::Global;
 use std::sync::atomic::{AtomicU64, Ordering};
 use std::test::Fail;
 use std::thread::Threads;
-use wires::Wires;
 
 /// How often a node looks before it gives up.
 const LOOKS: u64 = 1_000_000_000;
@@ -84,20 +83,6 @@ fn reaches(word: &AtomicU64, least: u64) -> bool {
         }
     }
     false
-}
-
-/// Two nodes with the program of these words.
-fn booted(alloc: Global, words: &[u32]) -> Result<Cluster, Fail>
-    ensures { IfOk result IsInRounds }
-{
-    let geometry = Geometry::new(2, 8).ok_or("within the limits")?;
-    let setup = Setup {
-        geometry,
-        quantum: 1000,
-    };
-    let image = image(alloc, words)?;
-    let wires = Wires::new(alloc, 2)?;
-    Ok(Cluster::boot(alloc, &setup, image, wires)?)
 }
 
 /// A round at this gate.

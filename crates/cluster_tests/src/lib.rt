@@ -2,6 +2,8 @@
 #![tactic(auto)]
 
 #[cfg(test)]
+mod booting;
+#[cfg(test)]
 mod gates;
 #[cfg(test)]
 mod links;

@@ -1,20 +1,20 @@
 //! Acts of a program that prints hi and returns, moved to the other of two nodes before it runs, by hand after what the scheduler,
 //! the calls and the packets are said to do.
 
-ghost use Rattle.std.specs.Prelude.{◌≡◌, ◌<◌, true, IfOk, OnOk};
+ghost use Rattle.std.specs.Prelude.{◌≡◌, ◌<◌, true, OnOk};
 ghost use Rattle.run_trace.specs.Program.{Program, nodes_of};
 ghost use Rattle.node_loop.specs.Turns.{IsActInRange};
 ghost use Rattle.cluster_tests.specs.Walks.{IsWalked};
 
-use crate::traces::{HI, image};
+use crate::booting::booted;
+use crate::traces::HI;
 use basics::NoMemory;
 use cluster::{Cluster, State};
 use node_loop::Turned;
-use run_trace::{Act, Setup};
-use slot_space::{Geometry, NodeNo, Tid};
+use run_trace::Act;
+use slot_space::{NodeNo, Tid};
 use std::alloc::Global;
 use std::test::Fail;
-use wires::Wires;
 
 /// An act, what is answered, and then the possible acts, moves among them.
 struct Row {
@@ -40,113 +40,51 @@ const MAIN: Tid = Tid {
     seq: 0,
 };
 
-const ROWS: [Row; 13] = [
-    Row {
-        node: NodeNo(0),
-        act: Act::Take(NodeNo(0)),
-        turned: Turned::Idle,
-        state: State::Going,
-        after: Possible::Ready(NodeNo(0), NodeNo(1)),
-    },
-    Row {
-        node: NodeNo(1),
-        act: Act::Run(0, 1000),
-        turned: Turned::Idle,
-        state: State::Going,
-        after: Possible::Ready(NodeNo(0), NodeNo(1)),
-    },
-    Row {
-        node: NodeNo(1),
-        act: Act::Move(MAIN, NodeNo(0)),
-        turned: Turned::Idle,
-        state: State::Going,
-        after: Possible::Ready(NodeNo(0), NodeNo(1)),
-    },
-    Row {
-        node: NodeNo(0),
-        act: Act::Move(MAIN, NodeNo(1)),
-        turned: Turned::Did,
-        state: State::Going,
-        after: Possible::Packet(NodeNo(1), NodeNo(0)),
-    },
-    Row {
-        node: NodeNo(0),
-        act: Act::Run(0, 1000),
-        turned: Turned::Idle,
-        state: State::Going,
-        after: Possible::Packet(NodeNo(1), NodeNo(0)),
-    },
-    Row {
-        node: NodeNo(1),
-        act: Act::Take(NodeNo(1)),
-        turned: Turned::Idle,
-        state: State::Going,
-        after: Possible::Packet(NodeNo(1), NodeNo(0)),
-    },
-    Row {
-        node: NodeNo(1),
-        act: Act::Take(NodeNo(0)),
-        turned: Turned::Did,
-        state: State::Going,
-        after: Possible::Ready(NodeNo(1), NodeNo(0)),
-    },
-    Row {
-        node: NodeNo(1),
-        act: Act::Run(0, 1000),
-        turned: Turned::Did,
-        state: State::Going,
-        after: Possible::Packet(NodeNo(0), NodeNo(1)),
-    },
-    Row {
-        node: NodeNo(0),
-        act: Act::Take(NodeNo(1)),
-        turned: Turned::Did,
-        state: State::Going,
-        after: Possible::Packet(NodeNo(1), NodeNo(0)),
-    },
-    Row {
-        node: NodeNo(1),
-        act: Act::Take(NodeNo(0)),
-        turned: Turned::Did,
-        state: State::Going,
-        after: Possible::Ready(NodeNo(1), NodeNo(0)),
-    },
-    Row {
-        node: NodeNo(1),
-        act: Act::Run(0, 1000),
-        turned: Turned::Did,
-        state: State::Going,
-        after: Possible::Packet(NodeNo(0), NodeNo(1)),
-    },
-    Row {
-        node: NodeNo(0),
-        act: Act::Take(NodeNo(1)),
-        turned: Turned::Did,
-        state: State::Done,
-        after: Possible::Nothing,
-    },
-    Row {
-        node: NodeNo(0),
-        act: Act::Take(NodeNo(1)),
-        turned: Turned::Idle,
-        state: State::Done,
-        after: Possible::Nothing,
-    },
-];
-
-/// Two nodes with the program.
-fn booted(alloc: Global) -> Result<Cluster, Fail>
-    ensures { IfOk result IsWalked }
-{
-    let geometry = Geometry::new(2, 8).ok_or("within the limits")?;
-    let setup = Setup {
-        geometry,
-        quantum: 1000,
+/// One row: a node's act, what is answered, whether the program goes on, and what is possible then.
+macro_rules! row {
+    ($node:literal, $act:expr, $turned:ident, $state:ident, $after:expr) => {
+        Row {
+            node: NodeNo($node),
+            act: $act,
+            turned: Turned::$turned,
+            state: State::$state,
+            after: $after,
+        }
     };
-    let image = image(alloc, &HI)?;
-    let wires = Wires::new(alloc, 2)?;
-    Ok(Cluster::boot(alloc, &setup, image, wires)?)
 }
+
+/// The main thread can run on node 0, or on node 1.
+const ON_0: Possible = Possible::Ready(NodeNo(0), NodeNo(1));
+
+const ON_1: Possible = Possible::Ready(NodeNo(1), NodeNo(0));
+
+/// Node 0 can take a packet of node 1, or node 1 one of node 0.
+const TO_0: Possible = Possible::Packet(NodeNo(0), NodeNo(1));
+
+const TO_1: Possible = Possible::Packet(NodeNo(1), NodeNo(0));
+
+/// A run of the pick, and a take of a node's first packet.
+const RUN: Act = Act::Run(0, 1000);
+
+const TAKE_0: Act = Act::Take(NodeNo(0));
+
+const TAKE_1: Act = Act::Take(NodeNo(1));
+
+const ROWS: [Row; 13] = [
+    row!(0, TAKE_0, Idle, Going, ON_0),
+    row!(1, RUN, Idle, Going, ON_0),
+    row!(1, Act::Move(MAIN, NodeNo(0)), Idle, Going, ON_0),
+    row!(0, Act::Move(MAIN, NodeNo(1)), Did, Going, TO_1),
+    row!(0, RUN, Idle, Going, TO_1),
+    row!(1, TAKE_1, Idle, Going, TO_1),
+    row!(1, TAKE_0, Did, Going, ON_1),
+    row!(1, RUN, Did, Going, TO_0),
+    row!(0, TAKE_1, Did, Going, TO_1),
+    row!(1, TAKE_0, Did, Going, ON_1),
+    row!(1, RUN, Did, Going, TO_0),
+    row!(0, TAKE_1, Did, Done, Possible::Nothing),
+    row!(0, TAKE_1, Idle, Done, Possible::Nothing),
+];
 
 // Whether the numbers of an act are in range on two nodes.
 fn is_in_range(node: NodeNo, act: &Act) -> bool
@@ -157,7 +95,7 @@ fn is_in_range(node: NodeNo, act: &Act) -> bool
     }
     match act {
         Act::Boot => false,
-        Act::Run(processor, quantum) => *processor == 0 && *quantum >= 1 && *quantum <= 65536,
+        Act::Run(processor, quantum) => *processor == 0 && *quantum == 1000,
         Act::Take(from) => from.0 < 2,
         Act::Move(_, to) => to.0 < 2 && to.0 != node.0,
     }
@@ -193,7 +131,7 @@ fn holds(cluster: &mut Cluster, row: &Row) -> Result<bool, NoMemory>
 }
 
 fn all_hold(alloc: Global) -> Result<bool, Fail> {
-    let mut cluster = booted(alloc)?;
+    let mut cluster = booted(alloc, &HI)?;
     for row in &ROWS {
         if !holds(&mut cluster, row)? {
             return Ok(false);

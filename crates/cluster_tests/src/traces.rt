@@ -1,14 +1,10 @@
 //! Whole traces that are known from outside, and each with one thing wrong, before the judge.
 //! What the judge finds legal the machine does exactly, and so does a node (the clause `turned` of its turns).
 
-ghost use Rattle.std.specs.Prelude.{IfOk};
-ghost use Rattle.node_state.specs.Events.{StartsAligned};
-
-use basics::{Items, NoMemory};
+use crate::booting::{image, setup};
+use basics::Items;
 use run_judge::judge;
-use run_trace::{Entry, Setup};
-use rv_inst::Image;
-use slot_space::Geometry;
+use run_trace::Entry;
 use std::alloc::Global;
 use std::test::Fail;
 use trace_text::read_trace;
@@ -249,23 +245,6 @@ ran 0.0 0 1000 quantum
     },
 ];
 
-/// The stub and the words.
-pub(crate) fn image(alloc: Global, words: &[u32]) -> Result<Image, NoMemory>
-    ensures { IfOk result StartsAligned }
-{
-    let mut bytes = Vec::new(alloc);
-    bytes.extend_from_slice(&0x0010_0893u32.to_le_bytes())?;
-    bytes.extend_from_slice(&0x0000_0073u32.to_le_bytes())?;
-    for word in words {
-        bytes.extend_from_slice(&word.to_le_bytes())?;
-    }
-    Ok(Image {
-        bytes: Items::new(bytes),
-        main: 0x10008,
-        services: Items::new(Vec::new(alloc)),
-    })
-}
-
 /// The entries of a trace text.
 #[tactic(auto, using(trace_text::proofs::Lemmas::few_lines))]
 fn entries(alloc: Global, text: &str) -> Result<Items<Entry>, Fail> {
@@ -278,11 +257,7 @@ fn entries(alloc: Global, text: &str) -> Result<Items<Entry>, Fail> {
 
 /// What the judge says of these entries.
 fn fault(alloc: Global, known: &Known, entries: &[Entry]) -> Result<Option<usize>, Fail> {
-    let geometry = Geometry::new(1, known.slots).ok_or("within the limits")?;
-    let setup = Setup {
-        geometry,
-        quantum: 1000,
-    };
+    let setup = setup(1, known.slots)?;
     let image = image(alloc, known.words)?;
     Ok(judge(alloc, &setup, &image, entries)?)
 }

@@ -78,7 +78,7 @@ StandApart-cut low from end (h ∷ holes) some aligned s free =
 length-hole : (from end : ℕ) (holes : List (ℕ × ℕ)) → length (hole from end ++ holes) ≤ length holes + 1
 length-hole from end holes = ⊎_elim (λ i. rw (lt-ltb from end i) (omega arith)) (λ i. rw (le-ltb from end i) (omega arith)) (cases_lt from end)
 
--- a cut leaves at most one hole more
+-- a cut leaves at most one more hole
 pub length-cut : (from end : ℕ) (holes : List (ℕ × ℕ)) → length (cut from end holes) ≤ length holes + 1
 length-cut from end [] = omega arith
 length-cut from end (h ∷ holes) =
@@ -147,7 +147,7 @@ length-merged : (from end : ℕ) (holes : List (ℕ × ℕ)) → length (merged 
 length-merged from end [] = omega arith
 length-merged from end (h ∷ holes) = ⊎_elim (λ e. rw e (omega arith)) (λ e. rw e (omega arith)) (cases_Bool (eqb end h.0))
 
--- a join leaves at most one hole more
+-- a join leaves at most one more hole
 pub length-join : (from end : ℕ) (holes : List (ℕ × ℕ)) → length (join from end holes) ≤ length holes + 1
 length-join from end [] = omega arith
 length-join from end (h ∷ holes) =

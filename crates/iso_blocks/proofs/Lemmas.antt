@@ -3,6 +3,7 @@ use Rattle.std.proofs.Common.{List, None, Some, false, true, ℕ, ◌+◌, ◌<�
 use Rattle.iso_blocks.specs.Bytes.{in_blocks, in_slots, is_met, lies_in}
 use Rattle.iso_blocks.specs.Heap.{Fits, Heap, place, with_block}
 use Rattle.slot_space.specs.Addresses.{HoldsAddress, slot_base}
+use Rattle.slot_space.specs.Limits.{slot_limit}
 use Rattle.slot_space.specs.Sets.{IsSlotSet, has}
 use Rattle.iso_blocks.proofs.Fit
 use Rattle.iso_blocks.proofs.KeptBy
@@ -19,7 +20,7 @@ lies_in-true = Fit.lies_in-true
 -- ## Bytes in slots
 
 -- bytes in slots lie within the memory of all slots
-pub slots_within : (slots : List ℕ) (a n : ℕ) → IsSlotSet slots → 0 < n → ((x : ℕ) → a ≤ x → x < a + n → in_slots slots x ≡ true) → (slot_base 0 ≤ a) × (a + n ≤ slot_base 4096)
+pub slots_within : (slots : List ℕ) (a n : ℕ) → IsSlotSet slots → 0 < n → ((x : ℕ) → a ≤ x → x < a + n → in_slots slots x ≡ true) → (slot_base 0 ≤ a) × (a + n ≤ slot_base slot_limit)
 slots_within = KeptBy.slots_within
 
 -- ## Live blocks
@@ -35,7 +36,7 @@ pub place_fits : (h : Heap) (size : ℕ) → (a : ℕ) → place h size ≡ Some
 place_fits = Place.place_fits
 
 -- a block that has no place fits nowhere
-pub place_none : (h : Heap) (size : ℕ) → (a : ℕ) → place h size ≡ None → a < slot_base 4096 → Fits h size a → ⊥
+pub place_none : (h : Heap) (size : ℕ) → (a : ℕ) → place h size ≡ None → a < slot_base slot_limit → Fits h size a → ⊥
 place_none = Place.place_none
 
 -- ## Slots of bytes

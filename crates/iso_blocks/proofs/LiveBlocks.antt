@@ -1,4 +1,4 @@
--- The row of live blocks: kept in order, read at a place, with one block more or less.
+-- The row of live blocks: kept in order, read at a place, with one more block or one less.
 use Rattle.std.proofs.Common.{◌⊎◌, refl, subst, sym, ◌∙◌, ap, ◌≡◌, ℕ, ◌+◌, ◌<◌, ◌≤◌, Bool, true, false, List, [], ◌∷◌, length, get_or, arith, ⊎_elim, leb, eqb, not, zero, suc, inl, inr, ◌||◌, ◌&&◌}
 use Rattle.std.specs.List.{AllWithin, insert, remove}
 use Rattle.std.specs.List.Sorted.{IsNonDecreasingBy}

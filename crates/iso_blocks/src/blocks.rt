@@ -2,7 +2,7 @@
 
 ghost use Rattle.std.specs.Prelude.{◌≡◌, ℕ, ◌+◌, ◌≤◌, ◌^◌, [], OnOk, OnErr, IfOk, OnSome, IfNone, IsTrue};
 ghost use Rattle.std.specs.Option.{SomeIff};
-ghost use Rattle.slot_space.specs.Limits.{slot_limit};
+ghost use Rattle.slot_space.specs.Limits.{slot_limit, slots_len};
 ghost use Rattle.slot_space.specs.Sets.{IsSlotSet};
 ghost use Rattle.iso_blocks.specs.Heap.{Heap, rounded, IsLowestFit, place, placed, with_slots, starts_at, emptied, freed, IsSound};
 
@@ -44,7 +44,7 @@ impl Blocks {
     #[tactic(auto, using(crate::proofs::Place::place_is))]
     pub fn place_of(&self, n: u64) -> Option<u64>
         requires some { 1 ≤ n }
-        requires few { n ≤ 2 ^ 28 }
+        requires few { n ≤ slots_len }
         ensures { result ≡ place self.now (rounded n) }
     {
         self.layout.lowest(space::rounded(n))
@@ -54,7 +54,7 @@ impl Blocks {
     #[tactic(auto, using(crate::proofs::Place::place_result))]
     pub fn place(&mut self, n: u64) -> Result<Option<u64>, NoMemory>
         requires some { 1 ≤ n }
-        requires few { n ≤ 2 ^ 28 }
+        requires few { n ≤ slots_len }
         ensures lowest { IfOk result (IsLowestFit self.old (rounded n)) }
         ensures place { IfOk result (λ address. address ≡ place self.old (rounded n)) }
         ensures ok { IfOk result (λ address. self.new ≡ placed self.old (rounded n) address) }

@@ -1,7 +1,7 @@
 //! Where slots stand in the guest's memory, and the size of a block.
 
 ghost use Rattle.std.specs.Prelude.{◌≡◌, ℕ, ◌+◌, ◌-◌, ◌<◌, ◌≤◌, ◌^◌};
-ghost use Rattle.slot_space.specs.Limits.{slots_start, slots_end, slot_limit};
+ghost use Rattle.slot_space.specs.Limits.{slots_start, slots_end, slots_len, slot_limit};
 ghost use Rattle.slot_space.specs.Addresses.{slot_base, HoldsAddress};
 ghost use Rattle.iso_blocks.specs.Heap.{rounded as rounded_size};
 ghost use Rattle.iso_blocks.specs.Neighbours.{Owns};
@@ -58,7 +58,7 @@ pub fn own_slots(first: u16, count: u16, before: u64, after: u64) -> (u16, u16)
 
 /// The size rounded up to a multiple of 16.
 pub fn rounded(size: u64) -> u64
-    requires { size ≤ 2 ^ 28 }
+    requires { size ≤ slots_len }
     ensures { result ≡ rounded_size size }
 {
     (size + 15) / 16 * 16

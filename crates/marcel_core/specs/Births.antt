@@ -1,9 +1,13 @@
 -- What a home is: a node, and the births there.
-use Rattle.std.specs.Prelude.{ℕ, List, [], ◌∷◌, ◌++◌, length}
+use Rattle.std.specs.Prelude.{ℕ, ◌-◌, ◌^◌, List, [], ◌∷◌, ◌++◌, length}
 use Rattle.slot_space.specs.declared.names.Tid.{Tid}
 use Rattle.marcel_core.specs.declared.birth.Birth.{Birth}
 use Rattle.marcel_core.specs.declared.birth.Birth.TheVariants.{Lives}
 use Rattle.marcel_core.specs.Homes.{with_birth}
+
+-- the most births that a home numbers
+abbrev pub birth_limit : ℕ
+birth_limit = 2 ^ 32 - 1
 
 pub record Births : Type 0 where
   pub node : ℕ

@@ -4,7 +4,7 @@ use crate::end::End;
 use slot_space::{NodeNo, Tid};
 
 /// A birth, as its home knows it.
-#[derive(Clone, Copy, PartialEq, Eq)]
+#[derive(Clone, Copy)]
 pub enum Birth {
     /// Its end isn't known here, and no thread waits for it.
     Lives,
@@ -19,7 +19,7 @@ pub enum Birth {
 }
 
 /// What a join is answered.
-#[derive(Clone, Copy, PartialEq, Eq)]
+#[derive(Clone, Copy)]
 pub enum Verdict {
     /// The end is known.
     Now(End),

@@ -1,8 +1,8 @@
 //! The births of one node: their names, joins of them, and their ends.
 
-ghost use Rattle.std.specs.Prelude.{◌≡◌, ◌<◌, ◌≤◌, ◌-◌, ◌^◌, [], length, true, slice_get, IfOk, OnErr};
+ghost use Rattle.std.specs.Prelude.{◌≡◌, ◌<◌, ◌≤◌, [], length, true, slice_get, IfOk, OnErr};
 ghost use Rattle.marcel_core.specs.Homes.{verdict, joined, ended, joiner, is_open};
-ghost use Rattle.marcel_core.specs.Births.{next_name, with_birth_more, changed};
+ghost use Rattle.marcel_core.specs.Births.{birth_limit, next_name, with_birth_more, changed};
 
 use crate::birth::{Birth, Verdict};
 use crate::end::End;
@@ -10,6 +10,9 @@ use basics::NoMemory;
 use slot_space::{NodeNo, Tid};
 use std::alloc::Global;
 use std::marker::Model;
+
+/// The most births that a home numbers.
+pub const BIRTH_LIMIT: usize = 0xffff_ffff;
 
 /// The threads that were born on one node, by their numbers. Contracts see the node and the births.
 #[derive(Drop)]
@@ -19,15 +22,15 @@ pub struct Homes {
 }
 
 impl Model for Homes {
-    ghost use Rattle.std.specs.Prelude.{◌≤◌, ◌-◌, ◌^◌, length};
-    ghost use Rattle.marcel_core.specs.Births.{Births};
+    ghost use Rattle.std.specs.Prelude.{◌≤◌, length};
+    ghost use Rattle.marcel_core.specs.Births.{Births, birth_limit};
 
     ghost Value = { Births };
 
     ghost view = { λ h. record { node = h.node; births = h.known.items } };
 
     // Each of them has a number.
-    ghost invariant = { λ h. length h.known.items ≤ 2 ^ 32 - 1 };
+    ghost invariant = { λ h. length h.known.items ≤ birth_limit };
 }
 
 // What a join of this birth is answered.
@@ -93,7 +96,7 @@ impl Homes {
 
     /// The home of these births.
     pub fn from_births(node: NodeNo, births: Vec<Birth>) -> Homes
-        requires { length births.items ≤ 2 ^ 32 - 1 }
+        requires { length births.items ≤ birth_limit }
         ensures { result ≡ record { node = node; births = births.items } }
     {
         Homes {
@@ -105,7 +108,7 @@ impl Homes {
     /// The births, by their numbers.
     pub fn births(&self) -> &[Birth]
         ensures births { result.now ≡ self.now.births }
-        ensures few { length self.now.births ≤ 2 ^ 32 - 1 }
+        ensures few { length self.now.births ≤ birth_limit }
     {
         &self.known
     }
@@ -132,7 +135,7 @@ impl Homes {
 
     /// A thread is born here, and this is its name. Want of memory changes nothing.
     pub fn born(&mut self) -> Result<Tid, NoMemory>
-        requires { length self.old.births < 2 ^ 32 - 1 }
+        requires { length self.old.births < birth_limit }
         ensures name { IfOk result (λ t. t ≡ next_name self.old) }
         ensures more { IfOk result (λ _. self.new ≡ with_birth_more self.old) }
         ensures refused { OnErr result (self.new ≡ self.old) }

@@ -8,4 +8,4 @@ mod homes;
 
 pub use birth::{Birth, Verdict};
 pub use end::End;
-pub use homes::Homes;
+pub use homes::{BIRTH_LIMIT, Homes};

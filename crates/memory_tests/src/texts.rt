@@ -4,7 +4,7 @@ use basics::NoMemory;
 use lrpc::{CallNo, Duty};
 use pack_thread::{Baggage, Packed, UnpackError, pack, unpack};
 use raw_slots::Pool;
-use slot_space::{NodeNo, SlotNo, SlotSet, Tid};
+use slot_space::{NodeNo, SLOT_SIZE, SlotNo, SlotSet, Tid};
 use std::alloc::Global;
 use std::test::Fail;
 
@@ -50,7 +50,7 @@ fn whole_text(alloc: Global) -> Result<Vec<u8>, Fail> {
     let mut text = front(alloc)?;
     text.extend_from_slice(&BACK)?;
     for slot in 5..9 {
-        for place in 0..65536 {
+        for place in 0..SLOT_SIZE as u32 {
             text.push(byte_of(slot, place))?;
         }
     }
@@ -61,7 +61,7 @@ fn whole_text(alloc: Global) -> Result<Vec<u8>, Fail> {
 fn small_text(alloc: Global) -> Result<Vec<u8>, Fail> {
     let mut text = front(alloc)?;
     text.extend_from_slice(&[0x10, 0, 1, 0, 0, 0, 0, 0, 6, 0, 0, 0, 0, 0, 0, 0])?;
-    for place in 0..65536 {
+    for place in 0..SLOT_SIZE as u32 {
         text.push(byte_of(6, place))?;
     }
     Ok(text)
@@ -90,7 +90,7 @@ fn refused_at(alloc: Global, text: &[u8], pool: &mut Pool) -> Option<u64> {
 
 fn has_bytes(thread: &Baggage, held: u16, slot: u32) -> bool {
     match thread.hart.mem.slot_bytes(SlotNo(held)) {
-        Some(bytes) => (0..65536)
+        Some(bytes) => (0..SLOT_SIZE as u32)
             .zip(bytes)
             .all(|(place, byte)| *byte == byte_of(slot, place)),
         None => false,

@@ -23,65 +23,65 @@ use Rattle.run_trace.specs.declared.label.Why.TheVariants as why
 use Rattle.run_trace.specs.declared.packet.Body.{Body}
 use Rattle.run_trace.specs.declared.packet.Body.TheVariants.{Mover, Show, ShowDone, JoinAsk, Answer, EndNote}
 use Rattle.run_trace.specs.declared.packet.Packet.{Packet}
-use Rattle.run_trace.specs.declared.node.Row.{Row}
+use Rattle.run_trace.specs.declared.node.ReadyRow.{ReadyRow}
 use Rattle.run_trace.specs.Names.{is_tid, tid_of}
 use Rattle.run_trace.specs.Program.{Program, nodes_of, code_of, main_priority, tree_of}
 use Rattle.run_trace.specs.Guests.{Guest, Thread, Run, run_of, heap_of, with_placed, without_block, slots_for}
 use Rattle.run_trace.specs.Calls.{call_of, refusal, bytes_of, place_code}
-use Rattle.run_trace.specs.Places.{best_on, is_listed}
+use Rattle.run_trace.specs.RunLists.{best_on, is_listed}
 use Rattle.pack_thread.specs.Threads.{PackedThread as Packed}
-use Rattle.run_trace.specs.Local.{Local, Doing, nothing, with_booted}
-use Rattle.run_trace.specs.Steps.{say, put, print, arrive, take_off, thread_at, at_thread, at_found, keep, thread_in, thread_out, slots_out, slots_in, name_in, change_name, halt, next_name, birth, ran, asks, asks_show, asks_join, halts, judge, tell_found, tell, settle, reply_by_link, takes_run, returns, gives, ends, leaves, comes, shows, acknowledges, hears, knows}
-use Rattle.run_trace.specs.Machine.{answer, end_thread, free_slot, creates_in, creates, settles, places, run_for, allocates_with, allocates, returns_any, frees_block, frees, goes, migrates, moves_found, does, calls, boots_in, boots, stopped, run_thread, run_found, run_picked, judges_join, tells_joiner, accepts, is_stray, takes, is_range, acts, local_event, turn_event, is_beyond}
+use Rattle.run_trace.specs.Local.{Local, EventSoFar, nothing, with_booted}
+use Rattle.run_trace.specs.Steps.{say, put, print, arrive, take_off, thread_at, at_thread, at_found, keep, thread_in, thread_out, slots_out, slots_in, birth_in, change_birth, halt, next_name, birth, ran, asks, asks_show, asks_join, halts, judge, tell_found, tell, judge_as, reply_by_link, takes_run, returns, gives, ends, leaves, comes, shows, acknowledges, hears, knows}
+use Rattle.run_trace.specs.Machine.{answer, end_thread, free_slot, creates_in, creates, judge_and_tell, places, run_for, allocates_with, allocates, returns_any, frees_block, frees, goes, migrates, moves_found, does, calls, boots_in, boots, stopped, run_thread, run_found, run_picked, judges_join, tells_joiner, accepts, is_stray, takes, is_range, acts, local_event, turn_event, is_beyond}
 
 -- ## Steps
 
-record Kept (old new : Doing) : Type 0 where
+record Kept (old new : EventSoFar) : Type 0 where
   is : new.node.booted ≡ old.node.booted
 
-kept : {old new : Doing} → new.node.booted ≡ old.node.booted → Kept old new
+kept : {old new : EventSoFar} → new.node.booted ≡ old.node.booted → Kept old new
 kept e = record { is = e }
 
-then : {a b c : Doing} → Kept a b → Kept b c → Kept a c
+then : {a b c : EventSoFar} → Kept a b → Kept b c → Kept a c
 then h k = record { is = k.is ∙ h.is }
 
 -- a step of a thread that may be here
-at_keeps : (t : Tid) (step : Thread → Doing → Doing) (d : Doing) → ((x : Thread) → Kept d (step x d)) → Kept d (at_thread t step d)
+at_keeps : (t : Tid) (step : Thread → EventSoFar → EventSoFar) (d : EventSoFar) → ((x : Thread) → Kept d (step x d)) → Kept d (at_thread t step d)
 at_keeps t step d h = by (thread_at t d)
   where
     by : (o : Option Thread) → Kept d (at_found o step d)
     by None = kept refl
     by (Some x) = h x
 
-birth_keeps : (me : ℕ) (w : Why) (entry a0 priority slot : ℕ) (d : Doing) → Kept d (birth me w entry a0 priority slot d)
-unfolding birth arrive thread_in name_in slots_out say
+birth_keeps : (me : ℕ) (w : Why) (entry a0 priority slot : ℕ) (d : EventSoFar) → Kept d (birth me w entry a0 priority slot d)
+unfolding birth arrive thread_in birth_in slots_out say
 birth_keeps me w entry a0 priority slot d = kept refl
 
-ran_keeps : (t : Tid) (vp : ℕ) (r : Run) (x : Thread) (d : Doing) → Kept d (ran t vp r x d)
+ran_keeps : (t : Tid) (vp : ℕ) (r : Run) (x : Thread) (d : EventSoFar) → Kept d (ran t vp r x d)
 unfolding ran take_off keep say
 ran_keeps t vp r x d = kept refl
 
-arrive_keeps : (t : Tid) (priority : ℕ) (d : Doing) → Kept d (arrive t priority d)
+arrive_keeps : (t : Tid) (priority : ℕ) (d : EventSoFar) → Kept d (arrive t priority d)
 unfolding arrive
 arrive_keeps t priority d = kept refl
 
-asks_keeps : (t : Tid) (c : Call) (d : Doing) → Kept d (asks t c d)
+asks_keeps : (t : Tid) (c : Call) (d : EventSoFar) → Kept d (asks t c d)
 unfolding asks say
 asks_keeps t c d = kept refl
 
-asks_show_keeps : (t : Tid) (c : Call) (bytes : List ℕ) (x : Thread) (d : Doing) → Kept d (asks_show t c bytes x d)
+asks_show_keeps : (t : Tid) (c : Call) (bytes : List ℕ) (x : Thread) (d : EventSoFar) → Kept d (asks_show t c bytes x d)
 unfolding asks_show put keep say
 asks_show_keeps t c bytes x d = kept refl
 
-asks_join_keeps : (t : Tid) (c : Call) (u : Tid) (x : Thread) (d : Doing) → Kept d (asks_join t c u x d)
+asks_join_keeps : (t : Tid) (c : Call) (u : Tid) (x : Thread) (d : EventSoFar) → Kept d (asks_join t c u x d)
 unfolding asks_join asks put keep say
 asks_join_keeps t c u x d = kept refl
 
-halts_keeps : (t : Tid) (x : Thread) (d : Doing) → Kept d (halts t x d)
+halts_keeps : (t : Tid) (x : Thread) (d : EventSoFar) → Kept d (halts t x d)
 unfolding halts halt keep say
 halts_keeps t x d = kept refl
 
-tell_keeps : (t : Tid) (code : ℕ) (second : Option ℕ) (d : Doing) → Kept d (tell t code second d)
+tell_keeps : (t : Tid) (code : ℕ) (second : Option ℕ) (d : EventSoFar) → Kept d (tell t code second d)
 unfolding tell arrive keep say
 tell_keeps t code second d = by (thread_at t d)
   where
@@ -89,89 +89,89 @@ tell_keeps t code second d = by (thread_at t d)
     by None = kept refl
     by (Some x) = kept refl
 
-answer_keeps : (t : Tid) (code : ℕ) (d : Doing) → Kept d (answer t code d)
+answer_keeps : (t : Tid) (code : ℕ) (d : EventSoFar) → Kept d (answer t code d)
 unfolding judge say
 answer_keeps t code d = then {b = judge t code None d} (kept refl) (tell_keeps t code None (judge t code None d))
 
-settles_keeps : (t : Tid) (code : ℕ) (g : Guest) (d : Doing) → Kept d (settles t code g d)
-unfolding settle keep say
-settles_keeps t code g d = then {b = settle t code g d} (kept refl) (tell_keeps t code None (settle t code g d))
+judge_and_tell_keeps : (t : Tid) (code : ℕ) (g : Guest) (d : EventSoFar) → Kept d (judge_and_tell t code g d)
+unfolding judge_as keep say
+judge_and_tell_keeps t code g d = then {b = judge_as t code g d} (kept refl) (tell_keeps t code None (judge_as t code g d))
 
-reply_keeps : (t : Tid) (at : ℕ) (reply : Reply) (second : Option ℕ) (d : Doing) → Kept d (reply_by_link t at reply second d)
+reply_keeps : (t : Tid) (at : ℕ) (reply : Reply) (second : Option ℕ) (d : EventSoFar) → Kept d (reply_by_link t at reply second d)
 unfolding reply_by_link put say
 reply_keeps t at reply second d = kept refl
 
-takes_keep : (t : Tid) (first count : ℕ) (g : Guest) (d : Doing) → Kept d (takes_run t first count g d)
+takes_keep : (t : Tid) (first count : ℕ) (g : Guest) (d : EventSoFar) → Kept d (takes_run t first count g d)
 unfolding takes_run slots_out keep say
 takes_keep t first count g d = kept refl
 
-returns_keep : (t : Tid) (slots : List ℕ) (g : Guest) (d : Doing) → Kept d (returns t slots g d)
+returns_keep : (t : Tid) (slots : List ℕ) (g : Guest) (d : EventSoFar) → Kept d (returns t slots g d)
 unfolding returns slots_in keep say
 returns_keep t slots g d = kept refl
 
-end_keeps : (t : Tid) (x : Thread) (end : End) (d : Doing) → Kept d (end_thread t x end d)
+end_keeps : (t : Tid) (x : Thread) (end : End) (d : EventSoFar) → Kept d (end_thread t x end d)
 unfolding ends gives put thread_out slots_in say
 end_keeps t x end d = kept refl
 
-leaves_keeps : (t : Tid) (to : ℕ) (x : Thread) (d : Doing) → Kept d (leaves t to x d)
+leaves_keeps : (t : Tid) (to : ℕ) (x : Thread) (d : EventSoFar) → Kept d (leaves t to x d)
 unfolding leaves put thread_out take_off say
 leaves_keeps t to x d = kept refl
 
-comes_keeps : (x : Packed) (d : Doing) → Kept d (comes x d)
+comes_keeps : (x : Packed) (d : EventSoFar) → Kept d (comes x d)
 unfolding comes arrive thread_in say
 comes_keeps x d = kept refl
 
-shows_keeps : (t : Tid) (from : ℕ) (bytes : List ℕ) (d : Doing) → Kept d (acknowledges t from (shows t bytes d))
+shows_keeps : (t : Tid) (from : ℕ) (bytes : List ℕ) (d : EventSoFar) → Kept d (acknowledges t from (shows t bytes d))
 unfolding acknowledges shows put print say
 shows_keeps t from bytes d = kept refl
 
-hears_keeps : (by : Tid) (seq at : ℕ) (d : Doing) → Kept d (hears by seq at d)
-unfolding hears change_name say
+hears_keeps : (by : Tid) (seq at : ℕ) (d : EventSoFar) → Kept d (hears by seq at d)
+unfolding hears change_birth say
 hears_keeps by seq at d = kept refl
 
-knows_keeps : (me seq : ℕ) (end : End) (d : Doing) → Kept d (knows me seq end d)
-unfolding knows change_name say
+knows_keeps : (me seq : ℕ) (end : End) (d : EventSoFar) → Kept d (knows me seq end d)
+unfolding knows change_birth say
 knows_keeps me seq end d = kept refl
 
 -- ## Compositions
 
-creates_keeps : (me : ℕ) (t : Tid) (entry argument priority : ℕ) (d : Doing) → Kept d (creates me t entry argument priority d)
-creates_keeps me t entry argument priority d = by (free_slot d.node.slots.own)
+creates_keeps : (me : ℕ) (t : Tid) (entry argument priority : ℕ) (d : EventSoFar) → Kept d (creates me t entry argument priority d)
+creates_keeps me t entry argument priority d = by (free_slot d.node.slots.free)
   where
     by : (o : Option ℕ) → Kept d (creates_in me t entry argument priority o d)
     by None = answer_keeps t (reply_code replies.Full) d
     by (Some slot) = then (birth_keeps me (why.Create t) entry argument priority slot d) (answer_keeps t (tid_value (next_name me d)) _)
 
-places_keep : (t : Tid) (size : ℕ) (x : Thread) (d : Doing) → Kept d (places t size x d)
+places_keep : (t : Tid) (size : ℕ) (x : Thread) (d : EventSoFar) → Kept d (places t size x d)
 places_keep t size x d =
-    let address : Option ℕ = place (heap_of x.guest.solo) size in settles_keeps t (place_code address) (with_placed size address x.guest) d
+    let address : Option ℕ = place (heap_of x.guest.solo) size in judge_and_tell_keeps t (place_code address) (with_placed size address x.guest) d
 
-allocates_keeps : (t : Tid) (size : ℕ) (x : Thread) (d : Doing) → Kept d (allocates t size x d)
-allocates_keeps t size x d = by (run_for size x.guest d.node.slots.own)
+allocates_keeps : (t : Tid) (size : ℕ) (x : Thread) (d : EventSoFar) → Kept d (allocates t size x d)
+allocates_keeps t size x d = by (run_for size x.guest d.node.slots.free)
   where
     by : (o : Option ℕ) → Kept d (allocates_with t size o x d)
     by None = places_keep t size x d
     by (Some first) =
-        let e : Doing = takes_run t first (slots_for size) x.guest d in
+        let e : EventSoFar = takes_run t first (slots_for size) x.guest d in
         then (takes_keep t first (slots_for size) x.guest d) (at_keeps t (places t size) e (λ y. places_keep t size y e))
 
-frees_keep : (t : Tid) (address : ℕ) (x : Thread) (d : Doing) → Kept d (frees t address x d)
+frees_keep : (t : Tid) (address : ℕ) (x : Thread) (d : EventSoFar) → Kept d (frees t address x d)
 frees_keep t address x d =
-    let e : Doing = returns_any t (emptied (heap_of x.guest.solo) address) x.guest d in
-    then {b = e} (by (emptied (heap_of x.guest.solo) address)) (at_keeps t (frees_block t address) e (λ y. settles_keeps t 0 (without_block address y.guest) e))
+    let e : EventSoFar = returns_any t (emptied (heap_of x.guest.solo) address) x.guest d in
+    then {b = e} (by (emptied (heap_of x.guest.solo) address)) (at_keeps t (frees_block t address) e (λ y. judge_and_tell_keeps t 0 (without_block address y.guest) e))
   where
     by : (slots : List ℕ) → Kept d (returns_any t slots x.guest d)
     by [] = kept refl
     by (s ∷ slots) = returns_keep t (s ∷ slots) x.guest d
 
-goes_keeps : (p : Program) (t : Tid) (to : ℕ) (x : Thread) (d : Doing) → Kept d (goes p t to x d)
+goes_keeps : (p : Program) (t : Tid) (to : ℕ) (x : Thread) (d : EventSoFar) → Kept d (goes p t to x d)
 goes_keeps p t to x d = by (nat_lt t.home (nodes_of p))
   where
     by : (b : Bool) → Kept d (cond b (leaves t to x d) d)
     by true = leaves_keeps t to x d
     by false = kept refl
 
-migrates_keeps : (p : Program) (me to : ℕ) (t : Tid) (d : Doing) → Kept d (migrates p me to t d)
+migrates_keeps : (p : Program) (me to : ℕ) (t : Tid) (d : EventSoFar) → Kept d (migrates p me to t d)
 migrates_keeps p me to t d = by (eqb to me)
   where
     by : (b : Bool) → Kept d (cond b d (at_thread t (goes p t to) d))
@@ -179,7 +179,7 @@ migrates_keeps p me to t d = by (eqb to me)
     by false = at_keeps t (goes p t to) d (λ x. goes_keeps p t to x d)
 
 -- one case a call
-does_keeps : (p : Program) (me : ℕ) (t : Tid) (c : Call) (bytes : List ℕ) (d : Doing) → Kept d (does p me t c bytes d)
+does_keeps : (p : Program) (me : ℕ) (t : Tid) (c : Call) (bytes : List ℕ) (d : EventSoFar) → Kept d (does p me t c bytes d)
 does_keeps p me t (Exit value) bytes d = then (asks_keeps t (Exit value) d) (at_keeps t (λ x. end_thread t x (end_of.Exit value)) _ (λ x. end_keeps t x (end_of.Exit value) _))
 does_keeps p me t Name bytes d = then (asks_keeps t Name d) (answer_keeps t (tid_value t) _)
 does_keeps p me t Node bytes d = then (asks_keeps t Node d) (answer_keeps t me _)
@@ -194,16 +194,16 @@ does_keeps p me t (Print address len) bytes d = at_keeps t (asks_show t (Print a
 does_keeps p me t Halt bytes d = then (asks_keeps t Halt d) (at_keeps t (halts t) _ (λ x. halts_keeps t x _))
 does_keeps p me t (Unknown number) bytes d = then (asks_keeps t (Unknown number) d) (answer_keeps t (reply_code replies.BadArgument) _)
 
-calls_keeps : (p : Program) (me : ℕ) (t : Tid) (c : Call) (o : Option Reply) (bytes : List ℕ) (d : Doing) → Kept d (calls p me t c o bytes d)
+calls_keeps : (p : Program) (me : ℕ) (t : Tid) (c : Call) (o : Option Reply) (bytes : List ℕ) (d : EventSoFar) → Kept d (calls p me t c o bytes d)
 calls_keeps p me t c None bytes d = does_keeps p me t c bytes d
 calls_keeps p me t c (Some reply) bytes d = then (asks_keeps t c d) (answer_keeps t (reply_code reply) _)
 
-stops_keeps : (p : Program) (me : ℕ) (t : Tid) (stop : Stop) (x : Thread) (d : Doing) → Kept d (stopped p me t stop x d)
+stops_keeps : (p : Program) (me : ℕ) (t : Tid) (stop : Stop) (x : Thread) (d : EventSoFar) → Kept d (stopped p me t stop x d)
 stops_keeps p me t stops.Quantum x d = arrive_keeps t x.guest.priority d
 stops_keeps p me t stops.Call x d = calls_keeps p me t (call_of x.guest.solo.state) (refusal p t x.guest.solo (call_of x.guest.solo.state)) (bytes_of p x.guest.solo.state (call_of x.guest.solo.state)) d
 stops_keeps p me t (stops.Fault kind) x d = end_keeps t x (end_of.Fault kind x.guest.solo.state.pc) d
 
-run_keeps : (p : Program) (me vp quantum : ℕ) (t : Tid) (x : Thread) (d : Doing) → Kept d (run_thread p me vp quantum t x d)
+run_keeps : (p : Program) (me vp quantum : ℕ) (t : Tid) (x : Thread) (d : EventSoFar) → Kept d (run_thread p me vp quantum t x d)
 run_keeps p me vp quantum t x d =
     let r : Run = run_of (code_of p) quantum x.guest.solo.state in
     then (ran_keeps t vp r x d) (at_keeps t (stopped p me t r.stop) _ (λ y. stops_keeps p me t r.stop y _))
@@ -211,11 +211,11 @@ run_keeps p me vp quantum t x d =
 -- ## Events
 
 -- the event leaves a node that has begun
-abbrev pub StaysBooted : Bool → Option Doing → Type 0
+abbrev pub StaysBooted : Bool → Option EventSoFar → Type 0
 StaysBooted b None = ⊤
 StaysBooted b (Some d) = d.node.booted ≡ b
 
-picked_keeps : (p : Program) (me vp quantum : ℕ) (o : Option Row) (s : Local) → StaysBooted s.booted (run_picked p me vp quantum o s)
+picked_keeps : (p : Program) (me vp quantum : ℕ) (o : Option ReadyRow) (s : Local) → StaysBooted s.booted (run_picked p me vp quantum o s)
 picked_keeps p me vp quantum None s = tt
 picked_keeps p me vp quantum (Some r) s = by (lookup (is_tid r.tid) s.threads)
   where
@@ -227,17 +227,17 @@ accepts_keeps : (p : Program) (me from : ℕ) (body : Body) (s : Local) → Kept
 accepts_keeps p me from (Mover x) s = comes_keeps x (nothing s)
 accepts_keeps p me from (Show t bytes) s = shows_keeps t from bytes (nothing s)
 accepts_keeps p me from (ShowDone t) s = tell_keeps t 0 None (nothing s)
-accepts_keeps p me from (JoinAsk by seq) s = then (hears_keeps by seq from (nothing s)) (judges (verdict (slice_get s.names seq)) _)
+accepts_keeps p me from (JoinAsk by seq) s = then (hears_keeps by seq from (nothing s)) (judges (verdict (slice_get s.births seq)) _)
   where
-    judges : (v : Verdict) (d : Doing) → Kept d (judges_join by from v d)
+    judges : (v : Verdict) (d : EventSoFar) → Kept d (judges_join by from v d)
     judges (Now end) d = reply_keeps by from _ _ d
     judges Later d = kept refl
     judges NoSuch d = reply_keeps by from replies.NoSuch None d
     judges Taken d = reply_keeps by from replies.Taken None d
 accepts_keeps p me from (Answer t reply second) s = tell_keeps t (reply_code reply) second (nothing s)
-accepts_keeps p me from (EndNote seq end) s = then (knows_keeps me seq end (nothing s)) (tells (joiner (slice_get s.names seq)) _)
+accepts_keeps p me from (EndNote seq end) s = then (knows_keeps me seq end (nothing s)) (tells (joiner (slice_get s.births seq)) _)
   where
-    tells : (o : Option (Tid × ℕ)) (d : Doing) → Kept d (tells_joiner end o d)
+    tells : (o : Option (Tid × ℕ)) (d : EventSoFar) → Kept d (tells_joiner end o d)
     tells None d = kept refl
     tells (Some by) d = reply_keeps by.0 by.1 _ _ d
 
@@ -255,18 +255,18 @@ boots_true p me s = by (eqb me 0)
     born None = refl
     born (Some slot) = (birth_keeps me why.Main p.image.main 0 main_priority slot (with_booted (nothing s))).is
 
-    by : (b : Bool) → (cond b (boots_in p me (free_slot s.slots.own) (with_booted (nothing s))) (with_booted (nothing s))).node.booted ≡ true
-    by true = born (free_slot s.slots.own)
+    by : (b : Bool) → (cond b (boots_in p me (free_slot s.slots.free) (with_booted (nothing s))) (with_booted (nothing s))).node.booted ≡ true
+    by true = born (free_slot s.slots.free)
     by false = refl
 
-abbrev pub IsBootedAfter : Option Doing → Type 0
+abbrev pub IsBootedAfter : Option EventSoFar → Type 0
 IsBootedAfter o = StaysBooted true o
 
 acts_booted : (p : Program) (me : ℕ) (s : Local) (act : Act) (took : Option Packet) → s.booted ≡ true → IsBootedAfter (acts p me s act took)
 acts_booted p me s Boot None b = boots_true p me s
-acts_booted p me s (RunThread vp quantum) None b = subst (λ z. StaysBooted z (run_picked p me vp quantum (best_on (tree_of p) vp s.places.rows) s)) b (picked_keeps p me vp quantum (best_on (tree_of p) vp s.places.rows) s)
+acts_booted p me s (RunThread vp quantum) None b = subst (λ z. StaysBooted z (run_picked p me vp quantum (best_on (tree_of p) vp s.run_lists.rows) s)) b (picked_keeps p me vp quantum (best_on (tree_of p) vp s.run_lists.rows) s)
 acts_booted p me s (Take from) (Some packet) b = (takes_keeps p me from packet.body s).is ∙ b
-acts_booted p me s (Move t to) None b = listed (is_listed t s.places.rows)
+acts_booted p me s (Move t to) None b = listed (is_listed t s.run_lists.rows)
   where
     found : (o : Option Thread) → IsBootedAfter (moves_found p t to o s)
     found None = tt

@@ -352,6 +352,18 @@ no_takes_none : (s : ℕ) (xs : List Moment) → length xs ≡ 0 → HasTake s x
 no_takes_none s [] e h = h
 no_takes_none s (x ∷ xs) e h = absurd (omega (arith, e))
 
+-- a round whose last pass isn't cut off
+only_whole : (events : ℕ) (old new : NodeView) (passes : List (List Moment)) → DoesMore (acts_in passes) old new
+    → ArePasses (nodes_of old.program) old.program.setup.quantum (can_run old.program old.me old.state) passes → length (acts_in passes) ≤ events
+    → (length (acts_in passes) ≡ events) ⊎ ((no_acts ≡ no_acts) × (ready_after (can_run old.program old.me old.state) (acts_in passes) ≡ false))
+    → ((s : ℕ) → s < nodes_of old.program → can old (Take s) ≡ true → HasTake s (first_pass [] passes) ⊎ (length (first_pass [] passes) ≡ events))
+    → DoesPasses events old new
+only_whole events old new passes does each few ends first = record {
+  acts = acts_in passes;
+  does = does;
+  passes = record { passes = passes; last = []; whole = refl; each = each; cut = tt; few = few; ends = ends; first = first };
+}
+
 module _ (events passed left count : ℕ) (old now new : NodeView) (h : PassesSoFar events passed left old now) (p : DoesPass left count now new) where
   abbrev q : Program
   q = old.program
@@ -385,20 +397,9 @@ module _ (events passed left count : ℕ) (old now new : NodeView) (h : PassesSo
 
   -- nothing was to be done in it
   pub passes_idle : count ≡ 0 → DoesPasses events old new
-  passes_idle none = record {
-    acts = acts_in h.passes;
-    does = subst (λ xs. DoesMore (xs ++ acts_in h.passes) old new) (empty p.acts (p.many ∙ none)) acts_are;
-    passes = record {
-      passes = h.passes;
-      last = [];
-      whole = refl;
-      each = h.each;
-      cut = tt;
-      few = omega (arith, h.many);
-      ends = ends;
-      first = first h.passes refl;
-    };
-  }
+  passes_idle none =
+      only_whole events old new h.passes (subst (λ xs. DoesMore (xs ++ acts_in h.passes) old new) (empty p.acts (p.many ∙ none)) acts_are)
+      h.each (omega (arith, h.many)) ends (first h.passes refl)
     where
       empty : (xs : List Moment) → length xs ≡ 0 → xs ≡ []
       empty [] e = refl
@@ -433,20 +434,8 @@ module _ (events passed left count : ℕ) (old now new : NodeView) (h : PassesSo
   -- as many are done as may be
   pub passes_full : count ≡ left → DoesPasses events old new
   passes_full full = elim p.cut as (λ z. DoesPasses events old new) [
-    | inl w ↦ record {
-      acts = p.acts ++ acts_in h.passes;
-      does = acts_are;
-      passes = record {
-        passes = p.acts ∷ h.passes;
-        last = [];
-        whole = refl;
-        each = (whole_pass w, h.each);
-        cut = tt;
-        few = omega (arith, all_many, full);
-        ends = inl (omega (arith, all_many, full));
-        first = firsts_later h.passes refl;
-      };
-    }
+    | inl w ↦ only_whole events old new (p.acts ∷ h.passes) acts_are (whole_pass w, h.each) (omega (arith, all_many, full)) (inl (omega (arith, all_many, full)))
+        (firsts_later h.passes refl)
     | inr c ↦ record {
       acts = p.acts ++ acts_in h.passes;
       does = acts_are;
@@ -478,20 +467,8 @@ module _ (events passed left count : ℕ) (old now new : NodeView) (h : PassesSo
   ]
 
 pub passes_over : (events passed left : ℕ) (old now : NodeView) → events ≤ passed → PassesSoFar events passed left old now → DoesPasses events old now
-passes_over events passed left old now l h = record {
-  acts = acts_in h.passes;
-  does = h.does;
-  passes = record {
-    passes = h.passes;
-    last = [];
-    whole = refl;
-    each = h.each;
-    cut = tt;
-    few = omega (arith, h.many);
-    ends = inl (omega (arith, h.many, h.turns, l));
-    first = first h.passes refl;
-  };
-}
+passes_over events passed left old now l h =
+    only_whole events old now h.passes h.does h.each (omega (arith, h.many)) (inl (omega (arith, h.many, h.turns, l))) (first h.passes refl)
   where
     first : (ps : List (List Moment)) → ps ≡ h.passes → (s : ℕ) → s < nodes_of old.program → can old (Take s) ≡ true → HasTake s (first_pass [] ps) ⊎ (length (first_pass [] ps) ≡ events)
     first [] e s m k = inr (omega (arith, h.many, h.turns, l, ap (λ ps. length (acts_in ps)) e))

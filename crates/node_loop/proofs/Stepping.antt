@@ -1,5 +1,5 @@
 -- What a step in code comes to, in the words of a turn.
-use Rattle.std.proofs.Common.{◌≡◌, ◌≢◌, ℕ, suc, ◌+◌, ◌^◌, ◌<◌, ◌≤◌, List, [], ◌∷◌, ◌++◌, max, Option, Some, None, Bool, true, false, Ok, Err, cond, ltb, refl, sym, ap, ◌∙◌, subst, arith}
+use Rattle.std.proofs.Common.{◌≡◌, ◌≢◌, ℕ, suc, ◌+◌, ◌<◌, ◌≤◌, List, [], ◌∷◌, ◌++◌, max, Option, Some, None, Bool, true, false, Ok, Err, cond, ltb, refl, sym, ap, ◌∙◌, subst, arith}
 use Rattle.std.specs.Prelude.{nat_lt, ◌&&◌, Result, OnErr}
 use Rattle.std.proofs.lemmas.Bool.{lt-ltb}
 use Rattle.std.proofs.lemmas.Bool.Decides.{nat_tests}
@@ -11,7 +11,7 @@ use Rattle.run_trace.specs.declared.entry.Entry.{Entry}
 use Rattle.run_trace.specs.declared.packet.Packet.{Packet}
 use Rattle.run_trace.specs.declared.packet.Send.{Send}
 use Rattle.run_trace.specs.Program.{Program, nodes_of}
-use Rattle.run_trace.specs.Local.{Local, Doing, fresh, nothing}
+use Rattle.run_trace.specs.Local.{Local, EventSoFar, fresh, nothing}
 use Rattle.run_trace.specs.Machine.{local_event, turn_event, is_beyond, is_range, acts, boots, stamp_limit}
 use Rattle.run_trace.specs.Cluster.{taken_of}
 use Rattle.run_trace.specs.Histories.{IsShape, seen}
@@ -19,9 +19,9 @@ use Rattle.wires.specs.declared.ends.Ends.{Ends}
 use Rattle.wires.specs.Ends.{received_from, known_from}
 use Rattle.basics.proofs.Lemmas.{by_eq}
 use Rattle.wires.proofs.Lemmas.{stays_trans}
-use Rattle.node_state.specs.declared.done.Done.{Done}
+use Rattle.node_state.specs.declared.output.EventOutput.{EventOutput}
 use Rattle.node_state.specs.Events.{Answers, event_of}
-use Rattle.node_loop.specs.View.{NodeView, unbooted}
+use Rattle.node_loop.specs.View.{NodeView, clock_limit, unbooted}
 use Rattle.node_loop.specs.Turns.{StaysKnown, TakesKnown, Carries, CarriesNothing, IsImpossible, IsInRange, IsLost, Turns}
 use Rattle.node_loop.specs.Links.{TakesFirst, Took, Reserved, Sent, Rests, Records}
 use Rattle.node_loop.specs.declared.node.Turned.{Turned}
@@ -31,26 +31,26 @@ use Rattle.node_loop.proofs.Wiring.{boot_takes, nothing_carried}
 use Rattle.run_trace.specs.Links.{packets_to}
 
 -- a packet counts for less than the limit
-seen_small : (o : Option Packet) → seen o < 2 ^ 62
+seen_small : (o : Option Packet) → seen o < clock_limit
 unfolding stamp_limit
 seen_small None = omega arith
-seen_small (Some packet) = by (ltb packet.stamp (2 ^ 62)) refl
+seen_small (Some packet) = by (ltb packet.stamp clock_limit) refl
   where
-    by : (b : Bool) → ltb packet.stamp (2 ^ 62) ≡ b → cond b packet.stamp 0 < 2 ^ 62
+    by : (b : Bool) → ltb packet.stamp clock_limit ≡ b → cond b packet.stamp 0 < clock_limit
     by true e = grind (arith, nat_tests)
     by false e = omega arith
 
 -- the next stamp stays within what a node may count to
-pub stamp_within : (clock k : ℕ) (o : Option Packet) → clock ≤ 2 ^ 62 + k → suc (max clock (seen o)) ≤ 2 ^ 62 + k + 1
+pub stamp_within : (clock k : ℕ) (o : Option Packet) → clock ≤ clock_limit + k → suc (max clock (seen o)) ≤ clock_limit + k + 1
 stamp_within clock k o h =
-    let most : max clock (seen o) ≤ 2 ^ 62 + k = max-le {a = clock} {b = seen o} {k = 2 ^ 62 + k} h (omega (arith, seen_small o)) in omega (arith, most)
+    let most : max clock (seen o) ≤ clock_limit + k = max-le {a = clock} {b = seen o} {k = clock_limit + k} h (omega (arith, seen_small o)) in omega (arith, most)
 
 -- a Take without a packet has no event
 takes_nothing : (p : Program) (me : ℕ) (s : Local) (from : ℕ) → local_event p me s (Take from) None ≡ None
 unfolding local_event
 takes_nothing p me s from = by (is_range p me s (Take from))
   where
-    by : (b : Bool) → cond {A = Option Doing} b None None ≡ None
+    by : (b : Bool) → cond {A = Option EventSoFar} b None None ≡ None
     by true = refl
     by false = refl
 
@@ -68,7 +68,7 @@ takes_some p me s from packet m b f e = by (is_beyond (Some packet)) e
     by false h = let some : cond (is_range p me s (Take from)) (acts p me s (Take from) (Some packet)) None ≡ acts p me s (Take from) (Some packet) = ap (λ z. cond z (acts p me s (Take from) (Some packet)) None) range in cc (h, some)
 
 -- where there is an event, the act has taken what it takes
-shape_of : (p : Program) (me : ℕ) (s : Local) (act : Act) (o : Option Packet) (d : Doing) (ends : Ends Packet) → TakesFirst ends act o → turn_event p me s act o ≡ Some d → IsShape act o
+shape_of : (p : Program) (me : ℕ) (s : Local) (act : Act) (o : Option Packet) (d : EventSoFar) (ends : Ends Packet) → TakesFirst ends act o → turn_event p me s act o ≡ Some d → IsShape act o
 shape_of p me s Boot o d ends f e = f
 shape_of p me s (Run vp quantum) o d ends f e = f
 shape_of p me s (Move t to) o d ends f e = f
@@ -136,7 +136,7 @@ pub rests : (v : NodeView) → Rests v v
 rests v = record { same = refl; links = nothing_carried v.ends }
 
 -- there was room for all, and then the entry was written and its packets sent
-pub records : (v w new : NodeView) (stamp : ℕ) (act : Act) (done : Done) (b c : Ends Packet) (sends : List Send) (entries : List Entry) (console : List ℕ) → v ≡ w
+pub records : (v w new : NodeView) (stamp : ℕ) (act : Act) (done : EventOutput) (b c : Ends Packet) (sends : List Send) (entries : List Entry) (console : List ℕ) → v ≡ w
     → new ≡ record v { clock = stamp; entries = entries; console = console; ends = c }
     → entries ≡ v.entries ++ (record { stamp = stamp; node = v.me; round = v.round; act = act; labels = done.labels }) ∷ []
     → console ≡ v.console ++ done.prints → sends ≡ done.sends → Reserved v.ends b → Sent stamp sends b c → Records stamp act done w new
@@ -167,7 +167,7 @@ records v w new stamp act done b c sends entries console e n xs bytes same r s =
     }
 
 -- no event, and nothing has changed
-pub idles : (v w new : NodeView) (act : Act) (state : Local) (ends : Ends Packet) (packet : Option Packet) (o : Option Done) → v ≡ w → new ≡ record v { state = state; ends = ends }
+pub idles : (v w new : NodeView) (act : Act) (state : Local) (ends : Ends Packet) (packet : Option Packet) (o : Option EventOutput) → v ≡ w → new ≡ record v { state = state; ends = ends }
     → v.me < nodes_of v.program → w.state.booted ≡ true → IsInRange w act → Took act packet v.ends ends
     → Answers (turn_event v.program v.me v.state act packet) v.state state o → o ≡ None → Turns w act new Idle
 idles v w new act state ends packet o e n m b r t h none =
@@ -179,7 +179,7 @@ idles v w new act state ends packet o e n m b r t h none =
     (subst (λ (x : NodeView). Turns v act x Idle) (sym (n ∙ ap (λ (z : Local). record v { state = z; ends = ends }) same.1))
     (record { impossible = s.impossible; same = refl; links = s.links }))
 
-carries : (act : Act) (o : Option Packet) (stamp : ℕ) (done : Done) (a b c : Ends Packet) → Took act o a b → Sent stamp done.sends b c → Carries act o stamp done.sends a c
+carries : (act : Act) (o : Option Packet) (stamp : ℕ) (done : EventOutput) (a b c : Ends Packet) → Took act o a b → Sent stamp done.sends b c → Carries act o stamp done.sends a c
 carries act o stamp done a b c t s = record {
   node = s.node ∙ t.node;
   wide = s.wide ∙ t.wide;
@@ -190,7 +190,7 @@ carries act o stamp done a b c t s = record {
 }
 
 -- an event, and its entry is written
-pub does : (v w new : NodeView) (act : Act) (state : Local) (ends : Ends Packet) (packet : Option Packet) (o : Option Done) (done : Done) (stamp : ℕ) → v ≡ w
+pub does : (v w new : NodeView) (act : Act) (state : Local) (ends : Ends Packet) (packet : Option Packet) (o : Option EventOutput) (done : EventOutput) (stamp : ℕ) → v ≡ w
     → Records stamp act done (record v { state = state; ends = ends }) new
     → Took act packet v.ends ends → stamp ≡ suc (max v.clock (seen packet))
     → Answers (turn_event v.program v.me v.state act packet) v.state state o → o ≡ Some done → Turns w act new Did
@@ -216,11 +216,11 @@ still_booted old new act b Did h = ap (λ (v : NodeView). v.state.booted) h.afte
 -- ## The beginning
 
 -- what has come of beginning, from a fresh node
-abbrev pub Boots : Program → ℕ → Local → Local → Option Done → Type 0
+abbrev pub Boots : Program → ℕ → Local → Local → Option EventOutput → Type 0
 Boots p n old new o = Answers (local_event p n old Boot None) old new o
 
 -- a node that is to begin can
-pub begins_somehow : (p : Program) (n : ℕ) → n < nodes_of p → (old new : Local) (o : Option Done) → old ≡ fresh p n → Boots p n old new o → o ≡ None → ⊥
+pub begins_somehow : (p : Program) (n : ℕ) → n < nodes_of p → (old new : Local) (o : Option EventOutput) → old ≡ fresh p n → Boots p n old new o → o ≡ None → ⊥
 unfolding local_event is_range
 begins_somehow p n l old new o f h none =
     let nothing_done = subst (λ z. Boots p n (fresh p n) new z) none (subst (λ s. Boots p n s new o) f h) in
@@ -228,7 +228,7 @@ begins_somehow p n l old new o f h none =
     cc (nothing_done.0, some)
 
 -- what it has done is a turn
-pub has_begun : (p : Program) (n : ℕ) (ends : Ends Packet) (old node : Local) (o : Option Done) (done : Done) (before new : NodeView) → old ≡ fresh p n → Boots p n old node o → o ≡ Some done
+pub has_begun : (p : Program) (n : ℕ) (ends : Ends Packet) (old node : Local) (o : Option EventOutput) (done : EventOutput) (before new : NodeView) → old ≡ fresh p n → Boots p n old node o → o ≡ Some done
     → before ≡ record (unbooted p n ends) { state = node } → Records 1 Boot done before new → Turns (unbooted p n ends) Boot new Did
 has_begun p n ends old node o done before new f h some b r =
     let did = subst (λ s. Boots p n s node o) f h in

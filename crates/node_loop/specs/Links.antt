@@ -8,7 +8,7 @@ use Rattle.run_trace.specs.Cluster.{taken_of}
 use Rattle.wires.specs.declared.ends.Ends.{Ends}
 use Rattle.wires.specs.Ends.{node_of, width, sent_to, received_from, known_from, spare_to}
 use Rattle.wires.specs.Wires.{StaysWired}
-use Rattle.node_state.specs.declared.done.Done.{Done}
+use Rattle.node_state.specs.declared.output.EventOutput.{EventOutput}
 use Rattle.node_loop.specs.View.{NodeView, with_ends}
 use Rattle.node_loop.specs.Turns.{CarriesNothing, StaysKnown}
 use Rattle.run_trace.specs.Links.{packets_to}
@@ -66,7 +66,7 @@ pub record Rests (old new : NodeView) : Type 0 where
   pub links : CarriesNothing old.ends new.ends
 
 -- the entry and its lines, with these ends
-abbrev pub recorded : NodeView → ℕ → Act → Done → Ends Packet → NodeView
+abbrev pub recorded : NodeView → ℕ → Act → EventOutput → Ends Packet → NodeView
 recorded v stamp act done ends = record v {
   clock = stamp;
   entries = v.entries ++ (record { stamp = stamp; node = v.me; round = v.round; act = act; labels = done.labels }) ∷ [];
@@ -75,6 +75,6 @@ recorded v stamp act done ends = record v {
 }
 
 -- the entry is written, and its packets are sent
-pub record Records (stamp : ℕ) (act : Act) (done : Done) (old new : NodeView) : Type 0 where
+pub record Records (stamp : ℕ) (act : Act) (done : EventOutput) (old new : NodeView) : Type 0 where
   pub after : new ≡ recorded old stamp act done new.ends
   pub links : Sent stamp done.sends old.ends new.ends

@@ -5,11 +5,11 @@ use Rattle.run_trace.specs.declared.entry.Act.TheVariants.{Boot, Run, Take, Move
 use Rattle.run_trace.specs.declared.packet.Packet.{Packet}
 use Rattle.run_trace.specs.declared.packet.Send.{Send}
 use Rattle.run_trace.specs.Program.{Program, nodes_of, processors_of, quantum_limit}
-use Rattle.run_trace.specs.Local.{Doing}
+use Rattle.run_trace.specs.Local.{EventSoFar}
 use Rattle.run_trace.specs.Machine.{turn_event}
 use Rattle.run_trace.specs.Cluster.{taken_of}
 use Rattle.run_trace.specs.Histories.{IsShape, Turn, seen}
-use Rattle.run_trace.specs.Places.{is_listed}
+use Rattle.run_trace.specs.RunLists.{is_listed}
 use Rattle.wires.specs.declared.ends.Ends.{Ends}
 use Rattle.wires.specs.Ends.{node_of, width, sent_to, received_from, known_from}
 use Rattle.wires.specs.Wires.{StaysWired}
@@ -52,7 +52,7 @@ pub record CarriesNothing (old new : Ends Packet) : Type 0 where
 -- ## A turn
 
 -- the turn, with its entry: its stamp is one above the clock and the packet's stamp
-abbrev pub turn_of : NodeView → Act → Option Packet → Doing → Turn
+abbrev pub turn_of : NodeView → Act → Option Packet → EventSoFar → Turn
 turn_of v act took done = record {
   began = v.clock;
   event = record {
@@ -68,7 +68,7 @@ turn_of v act took done = record {
 }
 
 -- the node after it, with these ends
-abbrev pub after_turn : NodeView → Act → Option Packet → Doing → Ends Packet → NodeView
+abbrev pub after_turn : NodeView → Act → Option Packet → EventSoFar → Ends Packet → NodeView
 after_turn v act took done ends = record v {
   state = done.node;
   clock = suc (max v.clock (seen took));
@@ -80,7 +80,7 @@ after_turn v act took done ends = record v {
 -- the act is done: one step of the machine, on the packet that it took
 pub record Does (old : NodeView) (act : Act) (new : NodeView) : Type 0 where
   pub took : Option Packet
-  pub done : Doing
+  pub done : EventSoFar
   pub shape : IsShape act took
   pub known : TakesKnown old.ends act took
   pub is : turn_event old.program old.me old.state act took ≡ Some done
@@ -115,9 +115,9 @@ IsInRange v act = IsActInRange v.program v.me act
 -- a thread can be picked, a packet of the sender is known, or the thread is on the run list
 abbrev pub can : NodeView → Act → Bool
 can v Boot = false
-can v (Run vp quantum) = nat_lt 0 (length v.state.places.rows)
+can v (Run vp quantum) = nat_lt 0 (length v.state.run_lists.rows)
 can v (Take from) = nat_lt 0 (length (known_from v.ends from))
-can v (Move t to) = is_listed t v.state.places.rows
+can v (Move t to) = is_listed t v.state.run_lists.rows
 
 -- how many entries a node may keep
 abbrev pub entry_limit : ℕ

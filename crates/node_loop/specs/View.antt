@@ -6,6 +6,10 @@ use Rattle.run_trace.specs.Program.{Program}
 use Rattle.run_trace.specs.Local.{Local, fresh}
 use Rattle.wires.specs.declared.ends.Ends.{Ends}
 
+-- no round begins with a clock as great, and no packet with a stamp as great is taken but as a stray
+abbrev pub clock_limit : ℕ
+clock_limit = 2 ^ 62
+
 pub record NodeView : Type 0 where
   pub program : Program
   pub me : ℕ

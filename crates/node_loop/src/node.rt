@@ -1,6 +1,6 @@
 //! The node.
 
-ghost use Rattle.std.specs.Prelude.{◌≡◌, ◌+◌, ◌^◌, ◌<◌, ◌≤◌, [], length, max, min, suc, true, IfOk, OnOk, OnErr, IsOk, slice_get};
+ghost use Rattle.std.specs.Prelude.{◌≡◌, ◌+◌, ◌^◌, ◌<◌, ◌≤◌, length, max, suc, true, IfOk, OnOk, OnErr, IsOk, slice_get};
 ghost use Rattle.run_trace.specs.Guests.{unwaiting};
 ghost use Rattle.run_trace.specs.Histories.{seen};
 ghost use Rattle.run_trace.specs.Machine.{turn_event, is_beyond};
@@ -11,7 +11,7 @@ ghost use Rattle.wires.specs.Wires.{StaysWired};
 ghost use Rattle.run_list.specs.Names.{names_of};
 ghost use Rattle.node_state.specs.Views.{AreInOrder};
 ghost use Rattle.node_state.specs.Events.{program, Answers, StartsAligned};
-ghost use Rattle.node_loop.specs.View.{unbooted, raised, with_ends};
+ghost use Rattle.node_loop.specs.View.{clock_limit, unbooted, raised, with_ends};
 ghost use Rattle.node_loop.specs.Links.{Records, Rests};
 ghost use Rattle.node_loop.specs.Rounds.{DoesPass, DoesPasses, DoesTakes, FailsLater, Rounds};
 ghost use Rattle.node_loop.specs.Turns.{Turns, IsInRange, IsLost, can, entry_limit};
@@ -19,7 +19,7 @@ ghost use Rattle.node_loop.specs.Turns.{Turns, IsInRange, IsLost, can, entry_lim
 use crate::gate::Gate;
 use crate::links;
 use basics::{Items, NoMemory};
-use node_state::{Done, NodeState};
+use node_state::{EventOutput, NodeState};
 use run_trace::{Act, Entry, Labels, Packet, Program, Setup};
 use rv_inst::Image;
 use slot_space::{NodeNo, Tid};
@@ -66,14 +66,14 @@ impl Model for Node {
     ghost use Rattle.std.specs.Prelude.{◌≡◌, ◌<◌, ◌≤◌, ◌+◌, ◌^◌, length};
     ghost use Rattle.wires.specs.Ends.{node_of, width};
     ghost use Rattle.node_state.specs.Events.{StartsAligned};
-    ghost use Rattle.node_loop.specs.View.{NodeView, view_of};
+    ghost use Rattle.node_loop.specs.View.{NodeView, clock_limit, view_of};
 
     ghost Value = { NodeView };
 
     ghost view = { λ n. view_of n.program n.me n.state n.clock n.round n.entries.items n.console.items n.ends };
 
     // It is one of the cluster's nodes, the ends are its own and lead to all nodes, and no stamp reaches the end of its type.
-    ghost invariant = { λ n. (n.clock ≤ 2 ^ 62 + length n.entries.items) × (n.me < n.program.setup.geometry.nodes) × (n.round < 2 ^ 64)
+    ghost invariant = { λ n. (n.clock ≤ clock_limit + length n.entries.items) × (n.me < n.program.setup.geometry.nodes) × (n.round < 2 ^ 64)
         × (node_of n.ends ≡ n.me) × (n.program.setup.geometry.nodes ≤ width n.ends) × StartsAligned n.program.image };
 }
 
@@ -183,12 +183,12 @@ impl Node {
     }
 
     // Adds the entry and sends its packets, which go into the rings as far as these take them. Where there is no memory, neither is done.
-    fn record(&mut self, stamp: u64, act: &Act, done: Done) -> Result<(), NoMemory>
-        requires { stamp ≤ 2 ^ 62 + length self.old.entries + 1 }
+    fn record(&mut self, stamp: u64, act: &Act, done: EventOutput) -> Result<(), NoMemory>
+        requires { stamp ≤ clock_limit + length self.old.entries + 1 }
         ensures ok { OnOk result (Records stamp act.now done self.old self.new) }
         ensures err { OnErr result (Rests self.old self.new) }
     {
-        let Done {
+        let EventOutput {
             labels,
             sends,
             prints,
@@ -322,7 +322,7 @@ impl Node {
 
     /// The node's clock is at least this from now on, and its next round begins.
     pub fn raise(&mut self, clock: u64)
-        requires { clock < 2 ^ 62 }
+        requires { clock < clock_limit }
         ensures { self.new ≡ raised clock self.old }
     {
         self.clock = self.clock.max(clock);
@@ -383,14 +383,14 @@ impl Node {
 
     /// How many threads are on the run list.
     pub fn ready(&self) -> usize
-        ensures { result ≡ length self.now.state.places.rows }
+        ensures { result ≡ length self.now.state.run_lists.rows }
     {
         self.state.ready()
     }
 
     /// The name at this place among those of the threads on the run list, in the order of names.
     pub fn ready_at(&self, place: usize) -> Option<Tid>
-        ensures { result ≡ slice_get (names_of self.now.state.places.rows) place }
+        ensures { result ≡ slice_get (names_of self.now.state.run_lists.rows) place }
     {
         self.state.ready_at(place)
     }
@@ -515,12 +515,12 @@ fn event(
     me: NodeNo,
     act: &Act,
     took: Option<Packet>,
-) -> Result<Option<Done>, NoMemory>
+) -> Result<Option<EventOutput>, NoMemory>
     requires { StartsAligned program.now.image }
     ensures { IfOk result (λ done. Answers (turn_event program.now me state.old act.now took) state.old state.new done) }
 {
     if comes_too_late(&took) {
-        return Ok(Some(Done {
+        return Ok(Some(EventOutput {
             labels: Items::new(Vec::new(alloc)),
             sends: Items::new(Vec::new(alloc)),
             prints: Items::new(Vec::new(alloc)),

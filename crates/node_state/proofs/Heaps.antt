@@ -9,21 +9,21 @@ use Rattle.run_trace.specs.declared.node.Wait.TheVariants as wait
 use Rattle.run_trace.specs.Guests.{Thread, Guest, waits, heap_of, slots_for, gives_slots, without_slots, without_block}
 use Rattle.rv_step.specs.Memory.{Memory}
 use Rattle.run_trace.specs.Names.{is_tid}
-use Rattle.run_trace.specs.Local.{Doing, with_threads}
-use Rattle.run_trace.specs.Steps.{at_found, at_thread, thread_at, say, keep, slots_in, tell, settle, returns, takes_run}
+use Rattle.run_trace.specs.Local.{EventSoFar, with_threads}
+use Rattle.run_trace.specs.Steps.{at_found, at_thread, thread_at, say, keep, slots_in, tell, judge_as, returns, takes_run}
 use Rattle.run_trace.specs.Machine.{places, allocates, allocates_with, returns_any, frees_block, frees}
 use Rattle.node_state.specs.Heaps.{claim_found, takes_at, drops_at, gives_back}
 
 -- ## isomalloc
 
-pub placed_at_once : (t : Tid) (size : ℕ) (d new : Doing) → None ≡ claim_found size d (thread_at t d) → new ≡ at_thread t (places t size) d → new ≡ at_thread t (allocates t size) d
+pub placed_at_once : (t : Tid) (size : ℕ) (d new : EventSoFar) → None ≡ claim_found size d (thread_at t d) → new ≡ at_thread t (places t size) d → new ≡ at_thread t (allocates t size) d
 placed_at_once t size d new = by (thread_at t d)
   where
     by : (o : Option Thread) → None ≡ claim_found size d o → new ≡ at_found o (places t size) d → new ≡ at_found o (allocates t size) d
     by None e n = n
     by (Some x) e n = n ∙ ap (λ o. allocates_with t size o x d) e
 
-pub placed_after : (t : Tid) (size first count : ℕ) (d mid new : Doing) → count ≡ slots_for size → Some first ≡ claim_found size d (thread_at t d) → mid ≡ at_thread t (takes_at t first count) d
+pub placed_after : (t : Tid) (size first count : ℕ) (d mid new : EventSoFar) → count ≡ slots_for size → Some first ≡ claim_found size d (thread_at t d) → mid ≡ at_thread t (takes_at t first count) d
     → new ≡ at_thread t (places t size) mid → new ≡ at_thread t (allocates t size) d
 placed_after t size first count d mid new c = by (thread_at t d)
   where
@@ -34,7 +34,7 @@ placed_after t size first count d mid new c = by (thread_at t d)
 -- ## isofree
 
 -- a thread that gives slots back stays where it is
-pub gave_there : (t u : Tid) (slots : List ℕ) (d : Doing) → thread_at u (gives_back t slots d) ≡ thread_at u d
+pub gave_there : (t u : Tid) (slots : List ℕ) (d : EventSoFar) → thread_at u (gives_back t slots d) ≡ thread_at u d
 unfolding gives_back slots_in say
 gave_there t u [] d = refl
 gave_there t u (s ∷ slots) d = refl
@@ -63,12 +63,12 @@ gives_nothing : (g : Guest) → gives_slots [] g ≡ g
 gives_nothing g = ap (λ (m : Memory). record g { solo = record g.solo { state = record g.solo.state { memory = m } } }) (none_without g.solo.state.memory)
 
 -- what the thread is in the end, and what has happened
-abbrev freed_to : Tid → ℕ → List ℕ → Guest → Doing → Doing
+abbrev freed_to : Tid → ℕ → List ℕ → Guest → EventSoFar → EventSoFar
 freed_to t address slots g d = tell t 0 None (say (Judged t 0 Nothing) (keep t (waits wait.No (without_block address (gives_slots slots g))) d))
 
-freed_by : (t : Tid) (address : ℕ) (x : Thread) (d : Doing) (slots : List ℕ) → thread_at t d ≡ Some x
+freed_by : (t : Tid) (address : ℕ) (x : Thread) (d : EventSoFar) (slots : List ℕ) → thread_at t d ≡ Some x
     → freed_to t address slots x.guest (gives_back t slots d) ≡ at_thread t (frees_block t address) (returns_any t slots x.guest d)
-unfolding gives_back settle returns slots_in say keep
+unfolding gives_back judge_as returns slots_in say keep
 freed_by t address x d [] here =
     ap (λ (g : Guest). freed_to t address [] g d) refl
     ∙ ap (λ (g : Guest). tell t 0 None (say (Judged t 0 Nothing) (keep t (waits wait.No (without_block address g)) d))) (gives_nothing x.guest)
@@ -80,11 +80,11 @@ freed_by t address x d (s ∷ slots) here =
     ap (λ (es : List (Tid × Thread)). tell t 0 None (say (Judged t 0 Nothing) (with_threads es (gives_back t (s ∷ slots) d)))) (sym (set_twice (is_tid t) d.node.threads y z))
     ∙ sym (ap (λ o. at_found o (frees_block t address) (returns t (s ∷ slots) x.guest d)) there)
 
-pub freed : (t : Tid) (address : ℕ) (x : Thread) (d mid dropped new : Doing) → thread_at t d ≡ Some x → mid ≡ gives_back t (emptied (heap_of x.guest.solo) address) d
+pub freed : (t : Tid) (address : ℕ) (x : Thread) (d mid dropped new : EventSoFar) → thread_at t d ≡ Some x → mid ≡ gives_back t (emptied (heap_of x.guest.solo) address) d
     → dropped ≡ at_thread t (drops_at t address) mid → new ≡ tell t 0 None (say (Judged t 0 Nothing) dropped) → new ≡ at_thread t (frees t address) d
 freed t address x d mid dropped new here m e n =
     let there : thread_at t mid ≡ Some x = ap (thread_at t) m ∙ gave_there t t (emptied (heap_of x.guest.solo) address) d ∙ here in
-    n ∙ ap (λ (y : Doing). tell t 0 None (say (Judged t 0 Nothing) y)) (e ∙ ap (λ o. at_found o (drops_at t address) mid) there)
-    ∙ ap (λ (y : Doing). freed_to t address (emptied (heap_of x.guest.solo) address) x.guest y) m
+    n ∙ ap (λ (y : EventSoFar). tell t 0 None (say (Judged t 0 Nothing) y)) (e ∙ ap (λ o. at_found o (drops_at t address) mid) there)
+    ∙ ap (λ (y : EventSoFar). freed_to t address (emptied (heap_of x.guest.solo) address) x.guest y) m
     ∙ freed_by t address x d (emptied (heap_of x.guest.solo) address) here
     ∙ sym (ap (λ o. at_found o (frees t address) d) here)

@@ -4,15 +4,15 @@ use Rattle.slot_space.specs.declared.names.Tid.{Tid}
 use Rattle.rv_step.specs.declared.hart.Stop.{Stop}
 use Rattle.run_trace.specs.declared.label.Label.TheVariants.{Ran}
 use Rattle.run_trace.specs.Guests.{Thread, Run}
-use Rattle.run_trace.specs.Local.{Doing}
+use Rattle.run_trace.specs.Local.{EventSoFar}
 use Rattle.run_trace.specs.Steps.{say, keep, take_off, ran}
 use Rattle.node_thread.specs.Runs.{after_run}
 
-swapped : (t : Tid) (x : Thread) (d : Doing) → take_off t (keep t x d) ≡ keep t x (take_off t d)
+swapped : (t : Tid) (x : Thread) (d : EventSoFar) → take_off t (keep t x d) ≡ keep t x (take_off t d)
 unfolding take_off keep
 swapped t x d = refl
 
-pub ran_is : (t : Tid) (vp : ℕ) (r : Run) (x : Thread) (d kept off new : Doing) (count : ℕ) (stop : Stop)
+pub ran_is : (t : Tid) (vp : ℕ) (r : Run) (x : Thread) (d kept off new : EventSoFar) (count : ℕ) (stop : Stop)
     → kept ≡ keep t (after_run r x) d → off ≡ take_off t kept → count ≡ r.count → stop ≡ r.stop
     → new ≡ say (Ran t vp count stop) off → new ≡ ran t vp r x d
 unfolding ran

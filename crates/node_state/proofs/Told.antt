@@ -5,29 +5,37 @@ use Rattle.slot_space.specs.declared.names.Reply.{Reply}
 use Rattle.rv_step.specs.declared.hart.Stop.{Stop}
 use Rattle.rv_step.specs.declared.hart.Stop.TheVariants as stops
 use Rattle.run_trace.specs.declared.call.Call.{Call}
+use Rattle.run_trace.specs.declared.call.Call.TheVariants.{Print}
 use Rattle.run_trace.specs.Program.{Program}
 use Rattle.run_trace.specs.Guests.{Thread}
 use Rattle.run_trace.specs.Calls.{bytes_of, refusal, call_of}
-use Rattle.run_trace.specs.Local.{Doing}
-use Rattle.run_trace.specs.Steps.{thread_at, at_found, at_thread, asks, say}
-use Rattle.run_trace.specs.Machine.{calls, stopped}
+use Rattle.run_trace.specs.Local.{EventSoFar}
+use Rattle.run_trace.specs.Steps.{thread_at, at_found, at_thread, asks, asks_show, say}
+use Rattle.run_trace.specs.Machine.{calls, does, stopped}
 use Rattle.node_state.specs.declared.call.Checked.{Checked}
-use Rattle.node_state.specs.declared.call.Checked.TheVariants.{Refused, Passed}
-use Rattle.node_state.specs.Asking.{IsChecked, refused_by, named_by}
+use Rattle.node_state.specs.declared.call.Checked.TheVariants.{Refused, Shows, Passed}
+use Rattle.node_state.specs.Asking.{IsChecked, IsPrint, refused_by, named_by}
 
 -- a thread that asks stays where it is
-pub asked : (t u : Tid) (c : Call) (d : Doing) → thread_at u (asks t c d) ≡ thread_at u d
+pub asked : (t u : Tid) (c : Call) (d : EventSoFar) → thread_at u (asks t c d) ≡ thread_at u d
 unfolding asks say
 asked t u c d = refl
 
-calls_is : (p : Program) (me : ℕ) (t : Tid) (x : Thread) (c : Call) (checked : Checked) (d : Doing) → IsChecked p t x.guest.solo c checked
+-- a print is done by showing its line
+pub shown : (p : Program) (me : ℕ) (t : Tid) (c : Call) (bytes : List ℕ) (d : EventSoFar) → IsPrint c → at_thread t (asks_show t c bytes) d ≡ does p me t c bytes d
+shown p me t (Print address len) bytes d h = refl
+shown p me t _ bytes d h = absurd h
+
+calls_is : (p : Program) (me : ℕ) (t : Tid) (x : Thread) (c : Call) (checked : Checked) (d : EventSoFar) → IsChecked p t x.guest.solo c checked
     → calls p me t c (refused_by checked) (named_by checked) d ≡ calls p me t c (refusal p t x.guest.solo c) (bytes_of p x.guest.solo.state c) d
 calls_is p me t x c (Refused reply) d h = ap (λ (o : Option Reply). calls p me t c o (bytes_of p x.guest.solo.state c) d) (sym h)
-calls_is p me t x c (Passed bytes) d h =
+calls_is p me t x c (Shows bytes) d h =
+    ap (λ (b : List ℕ). calls p me t c None b d) h.bytes ∙ ap (λ (o : Option Reply). calls p me t c o (bytes_of p x.guest.solo.state c) d) (sym h.unrefused)
+calls_is p me t x c Passed d h =
     ap (λ (b : List ℕ). calls p me t c None b d) h.bytes ∙ ap (λ (o : Option Reply). calls p me t c o (bytes_of p x.guest.solo.state c) d) (sym h.unrefused)
 
 -- a thread that stops at a call asks it
-pub stop_is : (p : Program) (me : ℕ) (t : Tid) (stop : Stop) (x : Thread) (c : Call) (checked : Checked) (d : Doing)
+pub stop_is : (p : Program) (me : ℕ) (t : Tid) (stop : Stop) (x : Thread) (c : Call) (checked : Checked) (d : EventSoFar)
     → stop ≡ stops.Call → thread_at t d ≡ Some x → c ≡ call_of x.guest.solo.state → IsChecked p t x.guest.solo c checked
     → calls p me t c (refused_by checked) (named_by checked) d ≡ at_thread t (stopped p me t stop) d
 stop_is p me t stop x c checked d at here same h =

@@ -4,18 +4,19 @@ use Rattle.slot_space.specs.declared.names.Tid.{Tid}
 use Rattle.slot_space.specs.declared.names.Reply.{Reply}
 use Rattle.iso_blocks.specs.Heap.{starts_at}
 use Rattle.run_trace.specs.declared.call.Call.{Call}
-use Rattle.run_trace.specs.declared.call.Call.TheVariants.{Create, Join, Isomalloc, Isofree, MigrateSelf}
+use Rattle.run_trace.specs.declared.call.Call.TheVariants.{Create, Join, Isomalloc, Isofree, MigrateSelf, Print}
 use Rattle.run_trace.specs.Program.{Program}
 use Rattle.run_trace.specs.Guests.{Solo, Thread}
 use Rattle.run_trace.specs.Calls.{refusal, bytes_of}
+use Rattle.node_thread.specs.Limits.{block_limit}
 use Rattle.node_state.specs.declared.call.Checked.{Checked}
-use Rattle.node_state.specs.declared.call.Checked.TheVariants.{Refused, Passed}
+use Rattle.node_state.specs.declared.call.Checked.TheVariants.{Refused, Shows, Passed}
 
 -- a call whose checks have passed names an entry, a priority, a home, a size and a node that fit
 abbrev pub IsSmall : Call → Type 0
 IsSmall (Create entry argument priority) = (priority ≤ 7) × (entry % 4 ≡ 0)
 IsSmall (Join name) = name / 2 ^ 32 < 256
-IsSmall (Isomalloc len) = (0 < len) × (len ≤ 2 ^ 28)
+IsSmall (Isomalloc len) = (0 < len) × (len ≤ block_limit)
 IsSmall (MigrateSelf to) = to < 256
 IsSmall _ = ⊤
 
@@ -32,28 +33,42 @@ abbrev pub NamesBlockAt : Call → Option Thread → Type 0
 NamesBlockAt c None = ⊤
 NamesBlockAt c (Some x) = NamesBlock c x.guest.solo
 
+abbrev pub IsPrint : Call → Type 0
+IsPrint (Print address len) = ⊤
+IsPrint _ = ⊥
+
 -- the check that failed, and the bytes that the call names
 abbrev pub refused_by : Checked → Option Reply
 refused_by (Refused reply) = Some reply
-refused_by (Passed bytes) = None
+refused_by (Shows bytes) = None
+refused_by Passed = None
 
 abbrev pub named_by : Checked → List ℕ
 named_by (Refused reply) = []
-named_by (Passed bytes) = bytes
+named_by (Shows bytes) = bytes
+named_by Passed = []
 
--- what has passed: no check fails, and these are the bytes that the call names
-pub record HasPassed (p : Program) (t : Tid) (x : Solo) (c : Call) (named : List ℕ) : Type 0 where
+-- no check fails, and these are the bytes of the line
+pub record CanShow (p : Program) (t : Tid) (x : Solo) (c : Call) (line : List ℕ) : Type 0 where
   pub unrefused : refusal p t x c ≡ None
-  pub bytes : named ≡ bytes_of p x.state c
+  pub bytes : line ≡ bytes_of p x.state c
+  pub print : IsPrint c
+
+-- no check fails, and the call names no bytes
+pub record HasPassed (p : Program) (t : Tid) (x : Solo) (c : Call) : Type 0 where
+  pub unrefused : refusal p t x c ≡ None
+  pub bytes : [] ≡ bytes_of p x.state c
   pub small : IsSmall c
   pub block : NamesBlock c x
 
 -- the answer of the checks is right for a call of thread t
 abbrev pub IsChecked : Program → Tid → Solo → Call → Checked → Type 0
 IsChecked p t x c (Refused reply) = refusal p t x c ≡ Some reply
-IsChecked p t x c (Passed bytes) = HasPassed p t x c bytes
+IsChecked p t x c (Shows bytes) = CanShow p t x c bytes
+IsChecked p t x c Passed = HasPassed p t x c
 
 -- what a call whose checks have passed can count on, of the thread as it is here
 abbrev pub CanBeDone : Call → Option Thread → Checked → Type 0
 CanBeDone c o (Refused reply) = ⊤
-CanBeDone c o (Passed bytes) = IsSmall c × NamesBlockAt c o
+CanBeDone c o (Shows bytes) = IsPrint c
+CanBeDone c o Passed = IsSmall c × NamesBlockAt c o

@@ -5,10 +5,10 @@ use Rattle.slot_space.specs.Addresses.{starting_slots}
 use Rattle.run_trace.specs.declared.entry.Act.{Act}
 use Rattle.run_trace.specs.declared.entry.Act.TheVariants.{Boot, Run, Take, Move}
 use Rattle.run_trace.specs.declared.entry.Setup.{Setup}
-use Rattle.run_trace.specs.Places.{is_listed}
+use Rattle.run_trace.specs.RunLists.{is_listed}
 use Rattle.run_trace.specs.Program.{Program}
-use Rattle.run_trace.specs.Local.{Local, Doing}
-use Rattle.node_state.specs.declared.done.Done.{Done}
+use Rattle.run_trace.specs.Local.{Local, EventSoFar}
+use Rattle.node_state.specs.declared.output.EventOutput.{EventOutput}
 
 abbrev pub program : Setup → Image → Program
 program setup image = record { setup = setup; image = image }
@@ -21,30 +21,30 @@ StartsAligned image = image.main % 4 ≡ 0
 abbrev pub fresh_in : Setup → ℕ → Local
 fresh_in setup n = record {
   booted = false;
-  slots = record { own = starting_slots setup.geometry.nodes setup.geometry.slots n };
+  slots = record { free = starting_slots setup.geometry.nodes setup.geometry.slots n };
   threads = [];
-  places = record { rows = []; next = 0 };
-  names = [];
+  run_lists = record { rows = []; next = 0 };
+  births = [];
   halted = false;
 }
 
 -- a thread can be picked, or the one that is to move is on the run list
 abbrev pub can_act : Local → Act → Bool
 can_act s Boot = true
-can_act s (Run vp quantum) = nat_lt 0 (length s.places.rows)
+can_act s (Run vp quantum) = nat_lt 0 (length s.run_lists.rows)
 can_act s (Take from) = true
-can_act s (Move t to) = is_listed t s.places.rows
+can_act s (Move t to) = is_listed t s.run_lists.rows
 
 -- the event that leaves this node and has come to this
-abbrev pub event_of : Local → Done → Doing
+abbrev pub event_of : Local → EventOutput → EventSoFar
 event_of node done = record { node = node; labels = done.labels; sends = done.sends; prints = done.prints }
 
 -- where the act isn't possible, nothing has changed
-abbrev pub Answers : Option Doing → Local → Local → Option Done → Type 0
+abbrev pub Answers : Option EventSoFar → Local → Local → Option EventOutput → Type 0
 Answers event old new None = (event ≡ None) × (new ≡ old)
 Answers event old new (Some done) = event ≡ Some (event_of new done)
 
 -- the same in the midst of an event
-abbrev pub Becomes : Option Doing → Doing → Doing → Bool → Type 0
+abbrev pub Becomes : Option EventSoFar → EventSoFar → EventSoFar → Bool → Type 0
 Becomes event old new false = (event ≡ None) × (new ≡ old)
 Becomes event old new true = event ≡ Some new

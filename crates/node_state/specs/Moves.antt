@@ -5,7 +5,7 @@ use Rattle.run_trace.specs.declared.label.Label.TheVariants.{Came}
 use Rattle.run_trace.specs.Names.{is_tid}
 use Rattle.run_trace.specs.Program.{Program, nodes_of}
 use Rattle.run_trace.specs.Guests.{guest_slots}
-use Rattle.run_trace.specs.Local.{Local, Doing}
+use Rattle.run_trace.specs.Local.{Local, EventSoFar}
 use Rattle.run_trace.specs.Steps.{say, thread_in, arrive}
 use Rattle.run_trace.specs.Machine.{lives_yet, are_away}
 use Rattle.node_thread.specs.declared.newcomer.Newcomer.{Newcomer}
@@ -17,5 +17,5 @@ may_enter p me s n =
     && (lives_yet me s n.tid && are_away (guest_slots n.thread.guest) s)))
 
 -- it comes, and is on the run list
-abbrev pub enters : Newcomer → Doing → Doing
+abbrev pub enters : Newcomer → EventSoFar → EventSoFar
 enters n d = arrive n.tid n.thread.guest.priority (thread_in n.tid n.thread (say (Came n.tid) d))

@@ -8,22 +8,22 @@ use Rattle.run_trace.specs.declared.label.Label.{Label}
 use Rattle.run_trace.specs.declared.packet.Send.{Send}
 use Rattle.run_trace.specs.Names.{tid_cmp}
 use Rattle.run_trace.specs.Guests.{Thread}
-use Rattle.run_trace.specs.Places.{Places}
-use Rattle.run_trace.specs.Local.{Local, Doing}
+use Rattle.run_trace.specs.RunLists.{RunLists}
+use Rattle.run_trace.specs.Local.{Local, EventSoFar}
 
 -- the threads stand in the order of their names
 abbrev pub AreInOrder : List (Tid × Thread) → Type 0
 AreInOrder threads = IsStrictlySortedBy tid_cmp (keys_of threads)
 
-abbrev pub local_of : Bool → List ℕ → List (Tid × Thread) → Places → List Birth → Bool → Local
-local_of booted own threads places births halted = record {
+abbrev pub local_of : Bool → List ℕ → List (Tid × Thread) → RunLists → List Birth → Bool → Local
+local_of booted free threads run_lists births halted = record {
   booted = booted;
-  slots = record { own = own };
+  slots = record { free = free };
   threads = threads;
-  places = places;
-  names = births;
+  run_lists = run_lists;
+  births = births;
   halted = halted;
 }
 
-abbrev pub doing_of : Local → List Label → List Send → List ℕ → Doing
+abbrev pub doing_of : Local → List Label → List Send → List ℕ → EventSoFar
 doing_of node labels sends prints = record { node = node; labels = labels; sends = sends; prints = prints }

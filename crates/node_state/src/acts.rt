@@ -6,12 +6,12 @@ ghost use Rattle.run_trace.specs.Local.{nothing};
 ghost use Rattle.run_trace.specs.Steps.{thread_at};
 ghost use Rattle.node_state.specs.Events.{StartsAligned, Becomes, can_act};
 ghost use Rattle.run_trace.specs.Trees.{Tree};
-ghost use Rattle.run_trace.specs.Places.{best_on};
+ghost use Rattle.run_trace.specs.RunLists.{best_on};
 
-use crate::doing::Doing;
+use crate::event_so_far::EventSoFar;
 use crate::here::Here;
 use basics::NoMemory;
-use run_trace::{Act, Packet, Row, Why};
+use run_trace::{Act, Packet, ReadyRow, Why};
 use slot_space::Tid;
 
 /// How many processors a node has.
@@ -23,7 +23,7 @@ const QUANTUM_LIMIT: u32 = 65536;
 /// The priority of the main thread.
 const MAIN_PRIORITY: u8 = 3;
 
-impl Doing {
+impl EventSoFar {
     /// Node 0 begins with the main thread.
     fn boots(&mut self, here: &Here<'_>) -> Result<(), NoMemory>
         requires { StartsAligned here.now.program.now.image }
@@ -71,7 +71,7 @@ impl Doing {
         here: &Here<'_>,
         vp: u8,
         quantum: u32,
-        row: Option<Row>,
+        row: Option<ReadyRow>,
     ) -> Result<bool, NoMemory>
         requires { self.old ≡ nothing self.old.node }
         ensures { IfOk result (λ did. Becomes (run_picked here.now.program.now here.now.me vp quantum row self.old.node) self.old self.new did) }
@@ -103,36 +103,41 @@ impl Doing {
     }
 
     /// The act, whose numbers are such as the node can do, and which has a thread where it needs one; false where it isn't possible.
-    fn acts(&mut self, here: &Here<'_>, act: &Act, took: Option<Packet>) -> Result<bool, NoMemory>
+    fn acts(&mut self, here: &Here<'_>, act: &Act, took: &Option<Packet>) -> Result<bool, NoMemory>
         requires node { self.old ≡ nothing self.old.node }
         requires image { StartsAligned here.now.program.now.image }
         requires can { can_act self.old.node act.now ≡ true }
-        ensures { IfOk result (λ did. Becomes (acts here.now.program.now here.now.me self.old.node act.now took) self.old self.new did) }
+        ensures { IfOk result (λ did. Becomes (acts here.now.program.now here.now.me self.old.node act.now took.now) self.old self.new did) }
     {
-        match (act, took) {
-            (Act::Boot, None) => {
-                self.boots(here)?;
-                Ok(true)
-            }
-            (Act::Run(vp, quantum), None) => {
-                let row = self.best();
-                self.run_picked(here, *vp, *quantum, row)
-            }
-            (Act::Take(from), Some(packet)) => {
-                self.takes(here, *from, packet.body)?;
-                Ok(true)
-            }
-            (Act::Move(t, to), None) => self.moves_listed(here.program, t, *to),
-            _ => Ok(false),
+        match took {
+            None => match act {
+                Act::Boot => {
+                    self.boots(here)?;
+                    Ok(true)
+                }
+                Act::Run(vp, quantum) => {
+                    let row = self.best();
+                    self.run_picked(here, *vp, *quantum, row)
+                }
+                Act::Move(t, to) => self.moves_listed(here.program, t, *to),
+                Act::Take(_) => Ok(false),
+            },
+            Some(packet) => match act {
+                Act::Take(from) => {
+                    self.takes(here, *from, &packet.body)?;
+                    Ok(true)
+                }
+                _ => Ok(false),
+            },
         }
     }
 
     /// The row of the run list that is picked, on whatever processor of whatever tree.
-    fn best(&self) -> Option<Row>
-        ensures { (tree : Tree) (vp : ℕ) → result ≡ best_on tree vp self.now.node.places.rows }
+    fn best(&self) -> Option<ReadyRow>
+        ensures { (tree : Tree) (vp : ℕ) → result ≡ best_on tree vp self.now.node.run_lists.rows }
     {
         let node = &self.node;
-        node.places.best()
+        node.run_list.best()
     }
 
     /// One event, from a node where nothing has happened; false where the act isn't possible.
@@ -141,11 +146,11 @@ impl Doing {
         &mut self,
         here: &Here<'_>,
         act: &Act,
-        took: Option<Packet>,
+        took: &Option<Packet>,
     ) -> Result<bool, NoMemory>
         requires node { self.old ≡ nothing self.old.node }
         requires image { StartsAligned here.now.program.now.image }
-        ensures { IfOk result (λ did. Becomes (local_event here.now.program.now here.now.me self.old.node act.now took) self.old self.new did) }
+        ensures { IfOk result (λ did. Becomes (local_event here.now.program.now here.now.me self.old.node act.now took.now) self.old self.new did) }
     {
         if !self.is_range(here, act) {
             return Ok(false);

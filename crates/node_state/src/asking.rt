@@ -5,7 +5,7 @@ ghost use Rattle.run_trace.specs.Steps.{say, at_thread, asks, asks_show, asks_jo
 ghost use Rattle.run_trace.specs.Calls.{args_of, extra_of, number_of};
 ghost use Rattle.run_trace.specs.declared.label.Label.TheVariants as label_of;
 
-use crate::doing::Doing;
+use crate::event_so_far::EventSoFar;
 use basics::{Items, NoMemory};
 use run_trace::{Body, Call, Extra, Label, Wait};
 use slot_space::{NodeNo, Reply, Tid};
@@ -20,7 +20,7 @@ fn extra_of(second: Option<u64>) -> Extra
     }
 }
 
-impl Doing {
+impl EventSoFar {
     /// The thread asks, and names these bytes.
     fn asks_with(&mut self, t: &Tid, call: Call, bytes: Items<u8>) -> Result<(), NoMemory>
         ensures { IfOk result (λ _. self.new ≡ say (label_of.Asked t.now (number_of call) (args_of call) bytes) self.old) }

@@ -1,25 +1,26 @@
 //! Births of threads.
 
 ghost use Rattle.std.specs.Prelude.{◌≡◌, ◌<◌, ◌≤◌, ◌%◌, IfOk, IfSome};
+ghost use Rattle.slot_space.specs.Limits.{slot_limit};
 ghost use Rattle.run_trace.specs.Guests.{stack_end};
 ghost use Rattle.run_trace.specs.Steps.{next_name, birth};
 ghost use Rattle.run_trace.specs.Machine.{free_slot};
 
-use crate::doing::Doing;
+use crate::event_so_far::EventSoFar;
 use crate::here::Here;
 use basics::NoMemory;
 use node_thread::Thread;
 use run_trace::{Label, Setup, Why};
-use slot_space::{SlotNo, Tid};
+use slot_space::{SLOT_SIZE, SlotNo, Tid};
 
 /// Where the stack of a slot ends.
 fn stack_end(setup: &Setup, slot: SlotNo) -> u64
     ensures { result ≡ stack_end slot }
 {
-    setup.geometry.base(slot) + 65536
+    setup.geometry.base(slot) + SLOT_SIZE
 }
 
-impl Doing {
+impl EventSoFar {
     /// The name of the next thread that is born here.
     pub(crate) fn next_name(&self, here: &Here<'_>) -> Tid
         ensures { result ≡ next_name here.now.me self.now }
@@ -34,11 +35,11 @@ impl Doing {
     /// The least slot that no thread holds.
     #[tactic(auto, using(crate::proofs::Lowest::lowest_below))]
     pub(crate) fn free_slot(&self) -> Option<SlotNo>
-        ensures slot { result ≡ free_slot self.now.node.slots.own }
-        ensures small { IfSome result (λ slot. slot < 4096) }
+        ensures slot { result ≡ free_slot self.now.node.slots.free }
+        ensures small { IfSome result (λ slot. slot < slot_limit) }
     {
         let node = &self.node;
-        node.own.lowest_run(1)
+        node.free.lowest_run(1)
     }
 
     /// A thread is born, with this slot as its stack.
@@ -52,7 +53,7 @@ impl Doing {
         priority: u8,
         slot: SlotNo,
     ) -> Result<(), NoMemory>
-        requires slot { slot < 4096 }
+        requires slot { slot < slot_limit }
         requires aligned { entry % 4 ≡ 0 }
         requires low { priority ≤ 7 }
         ensures { IfOk result (λ _. self.new ≡ birth here.now.me why entry a0 priority slot self.old) }
@@ -69,7 +70,7 @@ impl Doing {
             slot,
         })?;
         self.slot_out(slot);
-        self.name_in()?;
+        self.birth_in()?;
         let pool = &mut self.pool;
         let thread = Thread::newborn(self.alloc, pool, entry, a0, sp, slot, priority)?;
         self.thread_in(&t, thread)?;

@@ -7,6 +7,8 @@ use slot_space::Reply;
 #[derive(Drop)]
 pub(crate) enum Checked {
     Refused(Reply),
-    /// These are the bytes that it names.
-    Passed(Items<u8>),
+    /// It prints, and these are the bytes of its line.
+    Shows(Items<u8>),
+    /// It names no bytes.
+    Passed,
 }

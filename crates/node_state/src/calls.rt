@@ -1,22 +1,22 @@
 //! The calls, the acts and the packets, composed of the small steps.
 
-ghost use Rattle.std.specs.Prelude.{◌≡◌, ◌<◌, ◌≤◌, ◌/◌, ◌%◌, ◌^◌, IfOk};
-ghost use Rattle.run_trace.specs.Names.{tid_of};
+ghost use Rattle.std.specs.Prelude.{◌≡◌, ◌≤◌, ◌%◌, [], IfOk};
 ghost use Rattle.run_trace.specs.Steps.{at_thread, thread_at, asks};
 ghost use Rattle.run_trace.specs.Machine.{answer, creates, does, calls, stopped};
 ghost use Rattle.node_state.specs.Asking.{IsSmall, NamesBlockAt, CanBeDone, refused_by, named_by};
 
 use crate::call::Checked;
 use crate::checks::check;
-use crate::doing::Doing;
+use crate::event_so_far::EventSoFar;
 use crate::here::Here;
+use crate::names::tid_of;
 use basics::{Items, NoMemory};
 use marcel_core::End;
 use run_trace::{Call, Why};
 use rv_step::Stop;
 use slot_space::{NodeNo, Reply, Tid};
 
-impl Doing {
+impl EventSoFar {
     /// A thread that is here has its reply at once.
     pub(crate) fn answer(&mut self, t: &Tid, code: u64) -> Result<(), NoMemory>
         ensures { IfOk result (λ _. self.new ≡ answer t.now code self.old) }
@@ -56,18 +56,12 @@ impl Doing {
         }
     }
 
-    /// A call past its checks, which names these bytes.
+    /// A call past its checks, which names no bytes.
     #[tactic(auto, using(crate::proofs::Told::asked))]
-    fn does(
-        &mut self,
-        here: &Here<'_>,
-        t: &Tid,
-        call: Call,
-        bytes: Items<u8>,
-    ) -> Result<(), NoMemory>
+    fn does(&mut self, here: &Here<'_>, t: &Tid, call: Call) -> Result<(), NoMemory>
         requires small { IsSmall call }
         requires block { NamesBlockAt call (thread_at t.now self.old) }
-        ensures { IfOk result (λ _. self.new ≡ does here.now.program.now here.now.me t.now call bytes self.old) }
+        ensures { IfOk result (λ _. self.new ≡ does here.now.program.now here.now.me t.now call [] self.old) }
     {
         match call {
             Call::Exit(value) => {
@@ -100,7 +94,7 @@ impl Doing {
                 self.answer(t, 0)?;
                 self.migrates(here, NodeNo(to as u8), t)
             }
-            Call::Print { .. } => self.asks_show(t, call, bytes),
+            Call::Print { .. } => self.asks_show(t, call, Items::new(Vec::new(self.alloc))),
             Call::Halt => {
                 self.asks(t, call)?;
                 self.halts(t)
@@ -110,6 +104,7 @@ impl Doing {
     }
 
     /// A call after its checks.
+    #[tactic(auto, using(crate::proofs::Told::shown))]
     fn calls(
         &mut self,
         here: &Here<'_>,
@@ -122,7 +117,8 @@ impl Doing {
     {
         match checked {
             Checked::Refused(reply) => self.asks_and_hears(t, call, reply.code()),
-            Checked::Passed(bytes) => self.does(here, t, call, bytes),
+            Checked::Shows(bytes) => self.asks_show(t, call, bytes),
+            Checked::Passed => self.does(here, t, call),
         }
     }
 
@@ -151,16 +147,5 @@ impl Doing {
                 self.end_thread(t, End::Fault { kind, pc })
             }
         }
-    }
-}
-
-/// The name that a guest's number stands for.
-fn tid_of(name: u64) -> Tid
-    requires { name / 2 ^ 32 < 256 }
-    ensures { result ≡ tid_of name }
-{
-    Tid {
-        home: NodeNo((name / 0x1_0000_0000) as u8),
-        seq: (name % 0x1_0000_0000) as u32,
     }
 }

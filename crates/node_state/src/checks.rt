@@ -1,16 +1,16 @@
 //! The checks of a call, made before anything is done.
 
-ghost use Rattle.std.specs.Prelude.{◌≡◌, ◌%◌, ◌==◌, ◌&&◌, [], is_some, IfOk};
+ghost use Rattle.std.specs.Prelude.{◌≡◌, ◌%◌, ◌==◌, ◌&&◌, is_some, IfOk};
 ghost use Rattle.rv_inst.specs.Image.{image_word};
-ghost use Rattle.node_state.specs.declared.call.Checked.TheVariants.{Passed};
 ghost use Rattle.node_state.specs.Asking.{IsChecked};
 
 use crate::call::Checked;
-use basics::{Items, NoMemory};
-use node_thread::Thread;
+use crate::names::home_of;
+use basics::NoMemory;
+use node_thread::{PRINT_LIMIT, Thread};
 use run_trace::{Call, Program};
 use rv_inst::Image;
-use slot_space::{Reply, Tid};
+use slot_space::{Reply, SLOT_SIZE, Tid};
 use std::alloc::Global;
 
 /// A thread can start here.
@@ -18,13 +18,6 @@ fn is_entry(image: &Image, entry: u64) -> bool
     ensures { result ≡ ((entry % 4 == 0) && is_some (image_word image.now.bytes entry)) }
 {
     entry % 4 == 0 && image.word(entry).is_some()
-}
-
-/// Nothing fails, and the call names no bytes.
-fn passed(alloc: Global) -> Checked
-    ensures { result ≡ Passed [] }
-{
-    Checked::Passed(Items::new(Vec::new(alloc)))
 }
 
 /// The checks of a call of thread t.
@@ -44,7 +37,7 @@ pub(crate) fn check(
             priority,
         } => {
             if is_entry(program.image(), entry) && priority <= 7 {
-                Ok(passed(alloc))
+                Ok(Checked::Passed)
             } else {
                 Ok(Checked::Refused(Reply::BadArgument))
             }
@@ -53,32 +46,32 @@ pub(crate) fn check(
             if name == t.value() {
                 return Ok(Checked::Refused(Reply::BadArgument));
             }
-            if name / 0x1_0000_0000 >= program.nodes() as u64 {
+            if home_of(name) >= program.nodes() as u64 {
                 return Ok(Checked::Refused(Reply::NoSuch));
             }
-            Ok(passed(alloc))
+            Ok(Checked::Passed)
         }
         Call::Print { address, len } => {
-            if len > 256 {
+            if len > PRINT_LIMIT as u64 {
                 return Ok(Checked::Refused(Reply::TooLong));
             }
             match thread.bytes(alloc, program.image(), address, len as usize)? {
                 None => Ok(Checked::Refused(Reply::BadArgument)),
-                Some(bytes) => Ok(Checked::Passed(bytes)),
+                Some(bytes) => Ok(Checked::Shows(bytes)),
             }
         }
         Call::Isomalloc(len) => {
             if len == 0 {
                 return Ok(Checked::Refused(Reply::BadArgument));
             }
-            if len > 65536 * program.setup().geometry.slots() as u64 {
+            if len > SLOT_SIZE * program.setup().geometry.slots() as u64 {
                 return Ok(Checked::Refused(Reply::TooLong));
             }
-            Ok(passed(alloc))
+            Ok(Checked::Passed)
         }
         Call::Isofree(address) => {
             if thread.has_block(address) {
-                Ok(passed(alloc))
+                Ok(Checked::Passed)
             } else {
                 Ok(Checked::Refused(Reply::NoSuch))
             }
@@ -87,9 +80,9 @@ pub(crate) fn check(
             if to >= program.nodes() as u64 {
                 return Ok(Checked::Refused(Reply::BadArgument));
             }
-            Ok(passed(alloc))
+            Ok(Checked::Passed)
         }
         Call::Unknown(_) => Ok(Checked::Refused(Reply::BadArgument)),
-        _ => Ok(passed(alloc)),
+        _ => Ok(Checked::Passed),
     }
 }

@@ -1,30 +1,32 @@
 //! isomalloc and isofree: blocks of a thread, and the slots that it takes and gives for them.
 
-ghost use Rattle.std.specs.Prelude.{◌≡◌, ◌<◌, ◌≤◌, ◌+◌, ◌^◌, ℕ, true, false, IfOk, IfSome};
+ghost use Rattle.std.specs.Prelude.{◌≡◌, ◌<◌, ◌≤◌, ◌+◌, ℕ, true, false, IfOk, IfSome};
+ghost use Rattle.slot_space.specs.Limits.{slot_limit};
 ghost use Rattle.slot_space.specs.Sets.{has, minus, run};
 ghost use Rattle.iso_blocks.specs.Heap.{rounded};
 ghost use Rattle.run_trace.specs.Steps.{at_thread, thread_at};
 ghost use Rattle.run_trace.specs.Machine.{free_run, places, allocates, frees};
 ghost use Rattle.run_trace.specs.Calls.{place_code};
 ghost use Rattle.run_trace.specs.Guests.{slots_for};
+ghost use Rattle.node_thread.specs.Limits.{block_limit};
 ghost use Rattle.node_state.specs.Asking.{HasBlock};
 ghost use Rattle.node_state.specs.Heaps.{CanBeTaken, claim_found, takes_at, drops_at, gives_back};
 
-use crate::doing::Doing;
+use crate::event_so_far::EventSoFar;
 use basics::{Items, NoMemory};
 use run_trace::Label;
-use slot_space::{Reply, SlotNo, SlotSet, Tid};
+use slot_space::{Reply, SLOT_SIZE, SlotNo, SlotSet, Tid};
 
 /// How many slots a block of at least so many bytes takes.
 fn slots_for(len: u64) -> u16
     requires some { 1 ≤ len }
-    requires few { len ≤ 2 ^ 28 }
+    requires few { len ≤ block_limit }
     ensures count { result ≡ slots_for (rounded len) }
     ensures some { 1 ≤ result }
-    ensures few { result ≤ 4096 }
+    ensures few { result ≤ slot_limit }
 {
     let size = (len + 15) / 16 * 16;
-    ((size + 65535) / 65536) as u16
+    ((size + (SLOT_SIZE - 1)) / SLOT_SIZE) as u16
 }
 
 /// The reply of a block that has this place or none.
@@ -41,21 +43,21 @@ fn place_code(address: Option<u64>) -> u64
 fn new_run(own: &SlotSet, held: &SlotSet, count: u16) -> Option<SlotNo>
     requires { 1 ≤ count }
     ensures run { result ≡ free_run (minus own.now held.now) count }
-    ensures within { IfSome result (λ first. first + count ≤ 4096) }
+    ensures within { IfSome result (λ first. first + count ≤ slot_limit) }
     ensures new { IfSome result (λ first. (s : ℕ) → has s (run first count) ≡ true → has s held.now ≡ false) }
 {
     let mut free = *own;
     free.remove_all(held);
-    // Its slots are below 4096.
+    // Its slots are below the limit.
     let _some = free.contains(SlotNo(0));
     free.lowest_run(count)
 }
 
-impl Doing {
+impl EventSoFar {
     /// The run that the thread takes for a block of at least so many bytes: none where the block has a place.
     fn claim(&self, t: &Tid, len: u64, count: u16) -> Option<SlotNo>
         requires some { 1 ≤ len }
-        requires few { len ≤ 2 ^ 28 }
+        requires few { len ≤ block_limit }
         requires count { count ≡ slots_for (rounded len) }
         requires one { 1 ≤ count }
         ensures run { result ≡ claim_found (rounded len) self.now (thread_at t.now self.now) }
@@ -67,7 +69,7 @@ impl Doing {
         };
         match thread.place_of(len) {
             Some(_) => None,
-            None => new_run(&node.own, &thread.slots(), count),
+            None => new_run(&node.free, &thread.slots(), count),
         }
     }
 
@@ -83,7 +85,7 @@ impl Doing {
             return Ok(());
         };
         thread.take(pool, first, count)?;
-        node.own.remove_run(first, count);
+        node.free.remove_run(first, count);
         self.say(Label::Took {
             t: *t,
             first,
@@ -92,10 +94,10 @@ impl Doing {
     }
 
     /// The thread's block is placed where it has a place, else the reply is Full.
-    #[tactic(auto, unfolding(run_trace::specs::Steps::settle, run_trace::specs::Steps::judge, run_trace::specs::Steps::keep))]
+    #[tactic(auto, unfolding(run_trace::specs::Steps::judge_as, run_trace::specs::Steps::judge, run_trace::specs::Steps::keep))]
     fn places(&mut self, t: &Tid, len: u64) -> Result<(), NoMemory>
         requires some { 1 ≤ len }
-        requires few { len ≤ 2 ^ 28 }
+        requires few { len ≤ block_limit }
         ensures { IfOk result (λ _. self.new ≡ at_thread t.now (places t.now (rounded len)) self.old) }
     {
         let node = &mut self.node;
@@ -110,7 +112,7 @@ impl Doing {
     #[tactic(auto, using(crate::proofs::Heaps::placed_at_once, crate::proofs::Heaps::placed_after))]
     pub(crate) fn allocates(&mut self, t: &Tid, len: u64) -> Result<(), NoMemory>
         requires some { 0 < len }
-        requires few { len ≤ 2 ^ 28 }
+        requires few { len ≤ block_limit }
         ensures { IfOk result (λ _. self.new ≡ at_thread t.now (allocates t.now (rounded len)) self.old) }
     {
         let count = slots_for(len);

@@ -4,22 +4,23 @@ ghost use Rattle.std.specs.Prelude.{◌≡◌, ◌<◌, not, true, IfOk};
 ghost use Rattle.std.specs.List.{list_all};
 ghost use Rattle.run_trace.specs.Guests.{guest_slots};
 ghost use Rattle.run_trace.specs.Local.{nothing};
-ghost use Rattle.run_trace.specs.Steps.{at_thread, thread_at, leaves};
-ghost use Rattle.run_trace.specs.Machine.{goes, migrates, moves_found, moves_listed, lives_yet, are_away};
-ghost use Rattle.run_trace.specs.Places.{is_listed};
+ghost use Rattle.run_trace.specs.Steps.{at_thread, leaves};
+ghost use Rattle.run_trace.specs.Machine.{goes, migrates, moves_listed, lives_yet, are_away};
+ghost use Rattle.run_trace.specs.RunLists.{is_listed};
+ghost use Rattle.slot_space.specs.Limits.{node_limit};
 ghost use Rattle.slot_space.specs.Sets.{meets};
 ghost use Rattle.node_state.specs.Events.{Becomes};
 ghost use Rattle.node_state.specs.Moves.{may_enter, enters};
 
-use crate::doing::Doing;
+use crate::event_so_far::EventSoFar;
 use crate::here::Here;
-use crate::state::State;
+use crate::state::LocalState;
 use basics::NoMemory;
 use node_thread::Newcomer;
 use run_trace::{Body, Label, Program};
 use slot_space::{NodeNo, SlotSet, Tid};
 
-impl State {
+impl LocalState {
     /// No thread that is here has one of these slots.
     fn are_nobodys(&self, slots: &SlotSet) -> bool
         ensures { result ≡ list_all (λ e. not (meets slots.now (guest_slots e.1.guest))) self.now.threads }
@@ -36,18 +37,18 @@ impl State {
     fn are_away(&self, slots: &SlotSet) -> bool
         ensures { result ≡ are_away slots.now self.now }
     {
-        if slots.meets(&self.own) {
+        if slots.meets(&self.free) {
             return false;
         }
         self.are_nobodys(slots)
     }
 }
 
-impl Doing {
+impl EventSoFar {
     /// The thread, which is on the run list, goes to another node with all that it has.
     #[tactic(auto, unfolding(run_trace::specs::Steps::leaves, run_trace::specs::Steps::thread_out, run_trace::specs::Steps::take_off))]
     fn leaves(&mut self, t: &Tid, to: NodeNo) -> Result<(), NoMemory>
-        requires { t.now.home < 8 }
+        requires { t.now.home < node_limit }
         ensures { IfOk result (λ _. self.new ≡ at_thread t.now (leaves t.now to) self.old) }
     {
         let node = &mut self.node;
@@ -81,20 +82,7 @@ impl Doing {
         self.goes(here.program, t, to)
     }
 
-    /// The thread is sent away, false where it isn't here.
-    fn moves_found(&mut self, program: &Program, t: &Tid, to: NodeNo) -> Result<bool, NoMemory>
-        requires { self.old ≡ nothing self.old.node }
-        ensures { IfOk result (λ did. Becomes (moves_found program.now t.now to (thread_at t.now self.old) self.old.node) self.old self.new did) }
-    {
-        let node = &self.node;
-        let Some(_) = node.threads.get(t) else {
-            return Ok(false);
-        };
-        self.goes(program, t, to)?;
-        Ok(true)
-    }
-
-    /// A thread that is on the run list is sent away.
+    /// A thread that is on the run list is sent away, false where it isn't here.
     pub(crate) fn moves_listed(
         &mut self,
         program: &Program,
@@ -102,10 +90,15 @@ impl Doing {
         to: NodeNo,
     ) -> Result<bool, NoMemory>
         requires node { self.old ≡ nothing self.old.node }
-        requires listed { is_listed t.now self.old.node.places.rows ≡ true }
+        requires listed { is_listed t.now self.old.node.run_lists.rows ≡ true }
         ensures { IfOk result (λ did. Becomes (moves_listed program.now t.now to self.old.node) self.old self.new did) }
     {
-        self.moves_found(program, t, to)
+        let node = &self.node;
+        let Some(_) = node.threads.get(t) else {
+            return Ok(false);
+        };
+        self.goes(program, t, to)?;
+        Ok(true)
     }
 
     /// A thread that was born here hasn't ended.

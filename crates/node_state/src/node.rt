@@ -7,9 +7,9 @@ ghost use Rattle.run_list.specs.Names.{names_of};
 ghost use Rattle.node_state.specs.Views.{AreInOrder};
 ghost use Rattle.node_state.specs.Events.{StartsAligned, fresh_in, can_act, Answers};
 
-use crate::doing::Doing;
-use crate::done::Done;
+use crate::event_so_far::EventSoFar;
 use crate::here::Here;
+use crate::output::EventOutput;
 use basics::NoMemory;
 use run_trace::{Act, Packet, Program, Setup};
 use slot_space::{NodeNo, Tid};
@@ -19,7 +19,7 @@ use std::marker::Model;
 /// The state of one node. Contracts see it as the definition's.
 #[derive(Drop)]
 pub struct NodeState {
-    doing: Doing,
+    doing: EventSoFar,
 }
 
 impl Model for NodeState {
@@ -40,7 +40,7 @@ impl NodeState {
         ensures { result ≡ fresh_in setup.now me }
     {
         NodeState {
-            doing: Doing::fresh(alloc, setup, me),
+            doing: EventSoFar::fresh(alloc, setup, me),
         }
     }
 
@@ -57,12 +57,12 @@ impl NodeState {
         me: NodeNo,
         act: Act,
         took: Option<Packet>,
-    ) -> Result<Option<Done>, NoMemory>
+    ) -> Result<Option<EventOutput>, NoMemory>
         requires image { StartsAligned program.now.image }
         ensures { IfOk result (λ done. Answers (local_event program.now me self.old act took) self.old self.new done) }
     {
         let here = Here { program, me };
-        let result = self.doing.event(&here, &act, took);
+        let result = self.doing.event(&here, &act, &took);
         let done = self.doing.take_done();
         if result? { Ok(Some(done)) } else { Ok(None) }
     }
@@ -76,16 +76,16 @@ impl NodeState {
 
     /// How many threads are on the run list.
     pub fn ready(&self) -> usize
-        ensures { result ≡ length self.now.places.rows }
+        ensures { result ≡ length self.now.run_lists.rows }
     {
-        self.doing.node.places.count()
+        self.doing.node.run_list.count()
     }
 
     /// The name at this place among those of the threads on the run list, in the order of names.
     pub fn ready_at(&self, place: usize) -> Option<Tid>
-        ensures { result ≡ slice_get (names_of self.now.places.rows) place }
+        ensures { result ≡ slice_get (names_of self.now.run_lists.rows) place }
     {
-        self.doing.node.places.name_at(place)
+        self.doing.node.run_list.name_at(place)
     }
 
     /// The names of the threads that are here and wait for nothing, ascending.

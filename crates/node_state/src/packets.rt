@@ -3,12 +3,11 @@
 ghost use Rattle.std.specs.Prelude.{◌≡◌, IfOk, true, slice_get};
 ghost use Rattle.marcel_core.specs.Homes.{verdict, joiner, is_open};
 ghost use Rattle.run_trace.specs.declared.packet.Body.TheVariants as body_of;
-ghost use Rattle.run_trace.specs.declared.node.Wait.TheVariants as wait_of;
 ghost use Rattle.run_trace.specs.Local.{nothing};
 ghost use Rattle.run_trace.specs.Steps.{thread_at, line_of, shows, acknowledges, hears, knows};
 ghost use Rattle.run_trace.specs.Machine.{is_waiting, judges_join, tells_joiner, takes};
 
-use crate::doing::Doing;
+use crate::event_so_far::EventSoFar;
 use crate::here::Here;
 use basics::NoMemory;
 use marcel_core::{End, Verdict};
@@ -30,7 +29,7 @@ fn line_of(alloc: Global, t: &Tid, bytes: &[u8]) -> Result<Vec<u8>, NoMemory>
     Ok(line)
 }
 
-impl Doing {
+impl EventSoFar {
     /// The thread's line is on the console.
     #[tactic(auto, unfolding(run_trace::specs::Steps::shows))]
     pub(crate) fn shows(&mut self, t: &Tid, bytes: &[u8]) -> Result<(), NoMemory>
@@ -55,10 +54,10 @@ impl Doing {
     }
 
     /// The home takes a join up, and what it is answered.
-    #[tactic(auto, unfolding(run_trace::specs::Steps::hears, run_trace::specs::Steps::change_name, run_trace::specs::Steps::say))]
+    #[tactic(auto, unfolding(run_trace::specs::Steps::hears, run_trace::specs::Steps::change_birth, run_trace::specs::Steps::say))]
     pub(crate) fn hears(&mut self, by: &Tid, seq: u32, at: NodeNo) -> Result<Verdict, NoMemory>
         ensures after { IfOk result (λ _. self.new ≡ hears by.now seq at self.old) }
-        ensures verdict { IfOk result (λ v. v ≡ verdict (slice_get self.old.node.names seq)) }
+        ensures verdict { IfOk result (λ v. v ≡ verdict (slice_get self.old.node.births seq)) }
     {
         self.say(Label::Heard(*by))?;
         let node = &mut self.node;
@@ -66,46 +65,33 @@ impl Doing {
     }
 
     /// The home knows of an end, and who waits for it.
-    #[tactic(auto, unfolding(run_trace::specs::Steps::knows, run_trace::specs::Steps::change_name, run_trace::specs::Steps::say))]
+    #[tactic(auto, unfolding(run_trace::specs::Steps::knows, run_trace::specs::Steps::change_birth, run_trace::specs::Steps::say))]
     pub(crate) fn knows(
         &mut self,
         here: &Here<'_>,
         seq: u32,
         end: End,
     ) -> Result<Option<(Tid, NodeNo)>, NoMemory>
-        requires { is_open (slice_get self.old.node.names seq) ≡ true }
+        requires { is_open (slice_get self.old.node.births seq) ≡ true }
         ensures after { IfOk result (λ _. self.new ≡ knows here.now.me seq end self.old) }
-        ensures joiner { IfOk result (λ j. j ≡ joiner (slice_get self.old.node.names seq)) }
+        ensures joiner { IfOk result (λ j. j ≡ joiner (slice_get self.old.node.births seq)) }
     {
         self.say(Label::Known(Tid { home: here.me, seq }))?;
         let node = &mut self.node;
         Ok(node.homes.ended(seq, end))
     }
 
-    /// The thread is here, and waits that its line is shown.
-    fn waits_for_show(&self, t: &Tid) -> bool
-        ensures { result ≡ is_waiting (thread_at t.now self.now) wait_of.ForShow }
+    /// The thread is here, and waits for this: that its line is shown, or the answer of a home.
+    fn waits(&self, t: &Tid, wait: Wait) -> bool
+        ensures { result ≡ is_waiting (thread_at t.now self.now) wait }
     {
         let node = &self.node;
         let Some(thread) = node.threads.get(t) else {
             return false;
         };
-        match thread.wait() {
-            Wait::ForShow => true,
-            _ => false,
-        }
-    }
-
-    /// The thread is here, and waits for the answer of a home.
-    fn waits_for_answer(&self, t: &Tid) -> bool
-        ensures { result ≡ is_waiting (thread_at t.now self.now) wait_of.ForAnswer }
-    {
-        let node = &self.node;
-        let Some(thread) = node.threads.get(t) else {
-            return false;
-        };
-        match thread.wait() {
-            Wait::ForAnswer => true,
+        match (thread.wait(), wait) {
+            (Wait::ForShow, Wait::ForShow) => true,
+            (Wait::ForAnswer, Wait::ForAnswer) => true,
             _ => false,
         }
     }
@@ -174,7 +160,7 @@ impl Doing {
         requires { self.old ≡ nothing self.old.node }
         ensures { IfOk result (λ _. self.new ≡ takes here.now.program.now here.now.me from (body_of.ShowDone t.now) self.old.node) }
     {
-        if !(t.home.0 < here.program.nodes() && self.waits_for_show(t)) {
+        if !(t.home.0 < here.program.nodes() && self.waits(t, Wait::ForShow)) {
             return Ok(());
         }
         self.tell(t, 0, None)
@@ -210,7 +196,7 @@ impl Doing {
         requires { self.old ≡ nothing self.old.node }
         ensures { IfOk result (λ _. self.new ≡ takes here.now.program.now here.now.me from (body_of.Answer t.now reply second) self.old.node) }
     {
-        if !(t.home.0 < here.program.nodes() && self.waits_for_answer(t)) {
+        if !(t.home.0 < here.program.nodes() && self.waits(t, Wait::ForAnswer)) {
             return Ok(());
         }
         self.tell(t, reply.code(), second)
@@ -239,20 +225,20 @@ impl Doing {
         &mut self,
         here: &Here<'_>,
         from: NodeNo,
-        body: Body,
+        body: &Body,
     ) -> Result<(), NoMemory>
         requires { self.old ≡ nothing self.old.node }
-        ensures { IfOk result (λ _. self.new ≡ takes here.now.program.now here.now.me from body self.old.node) }
+        ensures { IfOk result (λ _. self.new ≡ takes here.now.program.now here.now.me from body.now self.old.node) }
     {
         match body {
-            Body::Mover(packed) => self.takes_thread(here, from, &packed),
-            Body::Show { t, bytes } => { self.takes_line(here, from, &t, bytes.as_slice()) }
-            Body::ShowDone { t } => self.takes_shown(here, from, &t),
-            Body::JoinAsk { by, seq } => self.takes_join(here, from, &by, seq),
+            Body::Mover(packed) => self.takes_thread(here, from, packed),
+            Body::Show { t, bytes } => self.takes_line(here, from, t, bytes.as_slice()),
+            Body::ShowDone { t } => self.takes_shown(here, from, t),
+            Body::JoinAsk { by, seq } => self.takes_join(here, from, by, *seq),
             Body::Answer { t, reply, second } => {
-                self.takes_answer(here, from, &t, reply, second)
+                self.takes_answer(here, from, t, *reply, *second)
             }
-            Body::EndNote { seq, end } => self.takes_end(here, from, seq, end),
+            Body::EndNote { seq, end } => self.takes_end(here, from, *seq, *end),
         }
     }
 }

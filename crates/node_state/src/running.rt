@@ -5,7 +5,7 @@ ghost use Rattle.run_trace.specs.Steps.{thread_at, at_thread};
 ghost use Rattle.run_trace.specs.Machine.{end_thread};
 ghost use Rattle.node_state.specs.Runs.{ran_at, stop_found};
 
-use crate::doing::Doing;
+use crate::event_so_far::EventSoFar;
 use basics::{Items, NoMemory};
 use marcel_core::End;
 use run_trace::{Body, Label};
@@ -13,7 +13,7 @@ use rv_inst::Image;
 use rv_step::Stop;
 use slot_space::Tid;
 
-impl Doing {
+impl EventSoFar {
     /// The thread runs, and why it stops, None where it isn't here.
     #[tactic(auto, unfolding(run_trace::specs::Steps::ran, run_trace::specs::Steps::keep, run_trace::specs::Steps::take_off))]
     pub(crate) fn runs(

@@ -16,35 +16,35 @@ use std::marker::Model;
 
 /// The state of a node.
 #[derive(Drop)]
-pub(crate) struct State {
+pub(crate) struct LocalState {
     pub(crate) booted: bool,
     /// The slots that no thread holds.
-    pub(crate) own: SlotSet,
+    pub(crate) free: SlotSet,
     /// The threads that are here and live.
     pub(crate) threads: BTreeMap<Tid, Thread>,
-    pub(crate) places: RunList,
+    pub(crate) run_list: RunList,
     /// The threads that were born here.
     pub(crate) homes: Homes,
     pub(crate) halted: bool,
 }
 
-impl Model for State {
+impl Model for LocalState {
     ghost use Rattle.run_trace.specs.Local.{Local};
     ghost use Rattle.node_state.specs.Views.{local_of};
 
     ghost Value = { Local };
 
-    ghost view = { λ s. local_of s.booted s.own s.threads.entries s.places s.homes.births s.halted };
+    ghost view = { λ s. local_of s.booted s.free s.threads.entries s.run_list s.homes.births s.halted };
 }
 
-impl State {
+impl LocalState {
     /// A thread can be picked, or the one that is to move is on the run list. The other acts need neither.
     pub(crate) fn can(&self, act: &Act) -> bool
         ensures { result ≡ can_act self.now act.now }
     {
         match act {
-            Act::Run(_, _) => self.places.count() > 0,
-            Act::Move(t, _) => self.places.is_listed(t),
+            Act::Run(_, _) => self.run_list.count() > 0,
+            Act::Move(t, _) => self.run_list.is_listed(t),
             Act::Boot => true,
             Act::Take(_) => true,
         }

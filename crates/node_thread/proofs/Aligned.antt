@@ -12,7 +12,7 @@ use Rattle.rv_inst.specs.declared.inst.LoadOp.{LoadOp}
 use Rattle.rv_step.specs.declared.hart.Hart.{Hart}
 use Rattle.rv_step.specs.Memory.{Memory}
 use Rattle.rv_step.specs.Step.{HartState, state_of, Outcome, Next, Call, Fault, Keeps, step_of, word_effect, effect_if, effect, jumps, branches, loads, stores, reg_of, with_reg}
-use Rattle.rv_step.specs.Alu.{plus, taken}
+use Rattle.rv_alu.specs.Alu.{plus, taken}
 use Rattle.rv_step.specs.Birth.{born, told, with_second, a0_, a1_}
 use Rattle.rv_step.specs.Run.{after, next_of}
 use Rattle.iso_blocks.specs.Heap.{Heap}

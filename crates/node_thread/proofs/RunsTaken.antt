@@ -4,6 +4,7 @@ use Rattle.std.specs.Prelude.{slice_get}
 use Rattle.std.specs.List.{insert, remove}
 use Rattle.std.proofs.lemmas.Bool.{eq-eqb, cases_eq}
 use Rattle.std.proofs.lemmas.Bool.Decides.{nat_tests}
+use Rattle.slot_space.specs.Limits.{slot_size}
 use Rattle.slot_space.specs.Sets.{has, run}
 use Rattle.slot_space.proofs.Lemmas.{has-run}
 use Rattle.rv_step.specs.declared.memory.Held.{Held}
@@ -28,14 +29,14 @@ pub granted_none : (first count n : ℕ) (m : Memory) → n < count → ((s : �
 granted_none first count n m l new = none_held m (first + n) (new (first + n) (ap (has (first + n)) (run_front first count n l) ∙ (rw (eq-eqb (first + n) (first + n) refl) refl)))
 
 pub granted_same : (first count n : ℕ) (m new whole : Memory) (block : List ℕ) → n < count → with_zero_slots (run (first + n) (count - n)) m ≡ whole
-    → new ≡ insert m (new_place m (first + n)) (record { slot = first + n; block = block }) → block ≡ zeros_of 65536
+    → new ≡ insert m (new_place m (first + n)) (record { slot = first + n; block = block }) → block ≡ zeros_of slot_size
     → with_zero_slots (run (first + (n + 1)) (count - (n + 1))) new ≡ whole
 granted_same first count n m new whole block l same is zeros =
     ap (λ (z : Memory). with_zero_slots (run (first + (n + 1)) (count - (n + 1))) z) (is ∙ ap (λ (b : List ℕ). insert m (new_place m (first + n)) (record { slot = first + n; block = b })) zeros)
     ∙ sym (ap (λ xs. with_zero_slots xs m) (run_front first count n l)) ∙ same
 
 pub granted_new : (first count n : ℕ) (m new : Memory) (block : List ℕ) → n < count → ((s : ℕ) → has s (run (first + n) (count - n)) ≡ true → has s (slots_of m) ≡ false)
-    → new ≡ insert m (new_place m (first + n)) (record { slot = first + n; block = block }) → block ≡ zeros_of 65536
+    → new ≡ insert m (new_place m (first + n)) (record { slot = first + n; block = block }) → block ≡ zeros_of slot_size
     → (s : ℕ) → has s (run (first + (n + 1)) (count - (n + 1))) ≡ true → has s (slots_of new) ≡ false
 granted_new first count n m new block l old is zeros s h =
     let there : has s (run (first + n) (count - n)) ≡ true = ap (has s) (run_front first count n l) ∙ elim (eqb (first + n) s) as (λ b. cond b true (has s (run (first + (n + 1)) (count - (n + 1)))) ≡ true) [ true ↦ refl | false ↦ h ] in

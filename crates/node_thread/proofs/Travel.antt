@@ -3,6 +3,7 @@ use Rattle.std.proofs.Common.{◌≡◌, ℕ, ◌+◌, ◌%◌, ◌<◌, ◌≤�
 use Rattle.std.specs.Prelude.{slice_index}
 use Rattle.std.proofs.lemmas.Bool.{eq-eqb}
 use Rattle.slot_space.specs.declared.names.Tid.{Tid}
+use Rattle.slot_space.specs.Limits.{slot_limit}
 use Rattle.slot_space.specs.Sets.{has, insert, minus, IsSlotSet}
 use Rattle.slot_space.proofs.Lemmas.{ascending-insert, ascending-minus, same_members, has-insert, has-minus, has-left_out, insert-left_out, proper-left_out, length-insert}
 use Rattle.iso_blocks.specs.Heap.{Heap, IsSound}
@@ -80,7 +81,7 @@ comes_able hart priority x is typed state same =
       low = subst (λ n. n ≤ 7) same keeps.priority;
     }
 
-pub stack_below : (x : Packed) → IsThread x → IsTyped x → x.stack < 4096
+pub stack_below : (x : Packed) → IsThread x → IsTyped x → x.stack < slot_limit
 stack_below x is typed = (rules_of_typed x is typed).stack
 
 -- how many slots come

@@ -1,7 +1,9 @@
 //! Blocks of memory between the node's pool and its threads.
 
-ghost use Rattle.std.specs.Prelude.{◌≡◌, ◌+◌, ◌-◌, ◌^◌, ◌<◌, length, min};
+ghost use Rattle.std.specs.Prelude.{◌≡◌, ◌+◌, ◌<◌, length, min};
+ghost use Rattle.slot_space.specs.Limits.{slot_size};
 ghost use Rattle.run_trace.specs.Guests.{zeros_of};
+ghost use Rattle.node_thread.specs.Limits.{spare_limit};
 
 use raw_slots::{Pool, SlotMem};
 use rv_step::GuestMem;
@@ -10,7 +12,7 @@ use rv_step::GuestMem;
 #[tactic(auto, using(crate::proofs::Zeros::zeros_are))]
 pub(crate) fn spare_block(pool: &mut Pool) -> SlotMem
     requires { 0 < pool.old }
-    ensures zeros { result ≡ zeros_of 65536 }
+    ensures zeros { result ≡ zeros_of slot_size }
     ensures spare { pool.new + 1 ≡ pool.old }
 {
     match pool.take() {
@@ -21,7 +23,7 @@ pub(crate) fn spare_block(pool: &mut Pool) -> SlotMem
 
 /// All blocks of a thread's memory are spare from now on.
 pub(crate) fn put_all(pool: &mut Pool, mem: GuestMem)
-    ensures { pool.new ≡ min (pool.old + length mem.0) (2 ^ 32 - 1) }
+    ensures { pool.new ≡ min (pool.old + length mem.0) spare_limit }
 {
     // The count is one of 32 bits.
     let _spare = pool.spare();

@@ -8,4 +8,4 @@ mod newcomer;
 mod thread;
 
 pub use newcomer::Newcomer;
-pub use thread::Thread;
+pub use thread::{PRINT_LIMIT, Thread};

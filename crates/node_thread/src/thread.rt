@@ -1,13 +1,15 @@
 //! A thread that is on a node.
 
-ghost use Rattle.std.specs.Prelude.{◌≡◌, ◌<◌, ◌≤◌, ◌+◌, ◌-◌, ◌^◌, ◌%◌, ◌∷◌, [], length, max, min, true, IfOk, OnOk, OnErr, IsTrue, Option, None};
+ghost use Rattle.std.specs.Prelude.{◌≡◌, ◌<◌, ◌≤◌, ◌+◌, ◌%◌, ◌∷◌, [], length, max, min, true, IfOk, OnOk, OnErr, IsTrue, Option, None};
 ghost use Rattle.std.specs.Option.{SomeIff};
+ghost use Rattle.slot_space.specs.Limits.{slot_limit, node_limit};
 ghost use Rattle.slot_space.specs.Sets.{insert, run};
 ghost use Rattle.iso_blocks.specs.Heap.{rounded, place, starts_at, emptied};
 ghost use Rattle.rv_step.specs.Access.{read};
 ghost use Rattle.run_trace.specs.declared.node.Wait.TheVariants as wait_of;
 ghost use Rattle.run_trace.specs.Guests.{waits, is_unwaiting, newborn, told, packed, unpacked, guest_slots, heap_of, with_placed, without_block, takes_slots, gives_slots};
 ghost use Rattle.run_trace.specs.Calls.{call_of};
+ghost use Rattle.node_thread.specs.Limits.{print_limit, block_limit, spare_limit};
 ghost use Rattle.node_thread.specs.Runs.{run_at, after_run};
 ghost use Rattle.node_thread.specs.Views.{IsNew};
 ghost use Rattle.pack_thread.specs.Threads.{thread_of as traveller, IsThread, IsTyped};
@@ -25,6 +27,9 @@ use rv_step::{Hart, Ran};
 use slot_space::{SlotNo, SlotSet, Tid};
 use std::alloc::Global;
 use std::marker::Model;
+
+/// The most bytes of a line that a thread prints.
+pub const PRINT_LIMIT: usize = 256;
 
 /// A thread: what it waits for, its hart with the bytes of its slots, which slots they are, and its blocks.
 #[derive(Drop)]
@@ -52,7 +57,7 @@ impl Model for Thread {
 /// The set of this slot alone.
 #[tactic(auto, unfolding(slot_space::specs::Sets::insert))]
 fn only(slot: SlotNo) -> SlotSet
-    requires { slot < 4096 }
+    requires { slot < slot_limit }
     ensures { result ≡ slot ∷ [] }
 {
     let mut slots = SlotSet::empty();
@@ -76,7 +81,7 @@ impl Thread {
         slot: SlotNo,
         priority: u8,
     ) -> Result<Thread, NoMemory>
-        requires slot { slot < 4096 }
+        requires slot { slot < slot_limit }
         requires aligned { entry % 4 ≡ 0 }
         requires low { priority ≤ 7 }
         ensures thread { IfOk result (λ x. x ≡ waits wait_of.No (newborn entry a0 0 sp slot priority)) }
@@ -99,7 +104,7 @@ impl Thread {
 
     /// It has ended, and its blocks are spare.
     pub fn end(self, pool: &mut Pool)
-        ensures { pool.new ≡ min (pool.old + length (guest_slots self.guest)) (2 ^ 32 - 1) }
+        ensures { pool.new ≡ min (pool.old + length (guest_slots self.guest)) spare_limit }
     {
         let Thread {
             wait: _,
@@ -119,9 +124,9 @@ impl Thread {
 
     /// As it travels; its blocks are spare from now on, whatever comes.
     pub fn pack(self, alloc: Global, pool: &mut Pool, t: &Tid) -> Result<Packed, NoMemory>
-        requires { t.now.home < 8 }
+        requires { t.now.home < node_limit }
         ensures thread { IfOk result (λ x. x ≡ packed t.now self.guest) }
-        ensures spare { pool.new ≡ min (pool.old + length (guest_slots self.guest)) (2 ^ 32 - 1) }
+        ensures spare { pool.new ≡ min (pool.old + length (guest_slots self.guest)) spare_limit }
     {
         // Its slots ascend, and there are 32 registers.
         let _stack = self.slots.contains(self.stack);
@@ -248,7 +253,7 @@ impl Thread {
         Call::of(regs[17], regs[10], regs[11], regs[12])
     }
 
-    /// At most 256 bytes from an address on, None where one of them isn't readable.
+    /// At most a line's bytes from an address on, None where one of them isn't readable.
     pub fn bytes(
         &self,
         alloc: Global,
@@ -256,10 +261,10 @@ impl Thread {
         address: u64,
         len: usize,
     ) -> Result<Option<Items<u8>>, NoMemory>
-        requires { len < 257 }
+        requires { len ≤ print_limit }
         ensures { IfOk result (λ bytes. bytes ≡ read image.now.bytes self.now.guest.solo.state.memory address len) }
     {
-        let mut buffer = [0; 256];
+        let mut buffer = [0; PRINT_LIMIT];
         let part = &mut buffer[..len];
         if !self.hart.mem.read_bytes(image, address, part) {
             return Ok(None);
@@ -279,7 +284,7 @@ impl Thread {
     /// Where a block of at least so many bytes would be placed.
     pub fn place_of(&self, len: u64) -> Option<u64>
         requires some { 1 ≤ len }
-        requires few { len ≤ 2 ^ 28 }
+        requires few { len ≤ block_limit }
         ensures { result ≡ place (heap_of self.now.guest.solo) (rounded len) }
     {
         self.blocks.place_of(len)
@@ -288,7 +293,7 @@ impl Thread {
     /// A block of at least so many bytes is placed, where it has a place, and the thread waits no more.
     pub fn place(&mut self, len: u64) -> Result<Option<u64>, NoMemory>
         requires some { 1 ≤ len }
-        requires few { len ≤ 2 ^ 28 }
+        requires few { len ≤ block_limit }
         ensures address { IfOk result (λ address. address ≡ place (heap_of self.old.guest.solo) (rounded len)) }
         ensures thread { IfOk result (λ address. self.new ≡ waits wait_of.No (with_placed (rounded len) address self.old.guest)) }
     {
@@ -299,7 +304,7 @@ impl Thread {
 
     /// It gets a run of slots for its heap, none of which is its own yet.
     pub fn take(&mut self, pool: &mut Pool, first: SlotNo, count: u16) -> Result<(), NoMemory>
-        requires within { first + count ≤ 4096 }
+        requires within { first + count ≤ slot_limit }
         requires new { IsNew first count self.old.guest }
         ensures thread { IfOk result (λ _. self.new ≡ waits wait_of.No (takes_slots (run first count) self.old.guest)) }
         ensures spare { OnOk result (pool.new + count ≡ max pool.old count) }

@@ -5,9 +5,9 @@ use Rattle.std.proofs.lemmas.List.{length-append, length-drop, take_all}
 use Rattle.rv_step.specs.Step.{HartState}
 use Rattle.byteorder.specs.Endian.{little_number}
 use Rattle.iso_blocks.specs.Heap.{Heap}
-use Rattle.pack_thread.specs.declared.opening.Opened.{Opened}
-use Rattle.pack_thread.specs.Opened.{live_at, live_of, opened_numbers, IsOpen}
-use Rattle.pack_thread.specs.Reading.{block_at, blocks_at}
+use Rattle.thread_text.specs.declared.opening.Opened.{Opened}
+use Rattle.thread_text.specs.Opened.{live_at, live_of, opened_numbers, IsOpen}
+use Rattle.thread_text.specs.Reading.{block_at, blocks_at}
 use Rattle.pack_thread.specs.Threads.{numbers_of}
 
 pub length-blocks_at : (bytes : List ℕ) (at n : ℕ) → length (blocks_at bytes at n) ≡ n

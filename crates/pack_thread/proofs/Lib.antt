@@ -1,9 +1,4 @@
 pub mod Lemmas
-pub mod FieldLaws
-pub mod Steps
-pub mod PlaceSteps
-pub mod DutySteps
-pub mod BlockRules
 pub mod WriteSteps
 pub mod Memories
 pub mod Limits

@@ -8,11 +8,12 @@ use Rattle.iso_blocks.specs.Bytes.{in_slots}
 use Rattle.iso_blocks.specs.Heap.{IsBlock, StandFrom}
 use Rattle.lrpc.specs.declared.duty.Duty.{Duty}
 use Rattle.lrpc.specs.declared.duty.Duty.TheVariants as duties
-use Rattle.pack_thread.specs.Fields.{Obey}
-use Rattle.pack_thread.specs.Grammar.{thread_fields, duty_fields, register_fields, place_fields, slot_fields, live_fields, block_fields, is_start, is_size}
+use Rattle.thread_text.specs.Fields.{Obey}
+use Rattle.thread_text.specs.Grammar.{thread_fields, duty_fields, register_fields, place_fields, slot_fields, live_fields, block_fields, is_start, is_size}
 use Rattle.pack_thread.specs.Rules.{ServesNodes, KeepsRules}
-use Rattle.pack_thread.specs.Threads.{PackedThread, duty_numbers, block_numbers, heap_numbers, numbers_of}
-use Rattle.pack_thread.proofs.BlockRules.{run_all, all_run}
+use Rattle.thread_text.specs.Numbers.{duty_numbers, block_numbers}
+use Rattle.pack_thread.specs.Threads.{PackedThread, heap_numbers, numbers_of}
+use Rattle.thread_text.proofs.Lemmas.{run_all, all_run}
 use Rattle.pack_thread.proofs.Limits.{slots_few, with_stack}
 use Rattle.slot_space.proofs.Lemmas.{length-insert}
 

@@ -6,13 +6,14 @@ use Rattle.slot_space.specs.Sets.{insert}
 use Rattle.lrpc.specs.declared.duty.Duty.{Duty}
 use Rattle.lrpc.specs.declared.duty.Duty.TheVariants as duties
 use Rattle.rv_step.specs.Memory.{Memory, slots_of}
-use Rattle.pack_thread.specs.declared.opening.Opened.{Opened}
-use Rattle.pack_thread.specs.Grammar.{read_text}
-use Rattle.pack_thread.specs.Opened.{live_of, slots_at, opened_numbers, reading_of, IsOpen}
+use Rattle.thread_text.specs.declared.opening.Opened.{Opened}
+use Rattle.thread_text.specs.Grammar.{read_text}
+use Rattle.thread_text.specs.Opened.{live_of, slots_at, opened_numbers, reading_of, IsOpen}
 use Rattle.pack_thread.specs.Packed.{duty_numbered, call_numbered, blocks_numbered, memory_in, heap_numbered, thread_numbered, thread_read, thread_in}
-use Rattle.pack_thread.specs.Threads.{PackedThread, duty_numbers, block_numbers, heap_numbers, numbers_of, bytes_of, head_of, text_of, AreWhole, IsThread, IsTyped, IsTextOf}
+use Rattle.thread_text.specs.Numbers.{duty_numbers, block_numbers}
+use Rattle.pack_thread.specs.Threads.{PackedThread, heap_numbers, numbers_of, bytes_of, head_of, text_of, AreWhole, IsThread, IsTyped, IsTextOf}
 use Rattle.pack_thread.proofs.Building.{built}
-use Rattle.pack_thread.proofs.FieldLaws.{IsBytes}
+use Rattle.thread_text.proofs.Lemmas.{IsBytes}
 use Rattle.slot_space.proofs.Lemmas.{length-insert}
 use Rattle.pack_thread.proofs.Texts.{text_read, same_pair, same_held, same_call, same_thread, found}
 
@@ -66,7 +67,7 @@ memory_bytes (s ∷ slots) bytes len =
 abbrev behind_regs : PackedThread → List ℕ
 behind_regs t = t.state.pc ∷ t.stack ∷ length t.heap.slots ∷ heap_numbers t.heap
 
--- what stands behind the slots and one number more
+-- what stands behind the slots and one more number
 behind_slots : (xs ys : List ℕ) (n : ℕ) → drop (suc (length xs)) (xs ++ n ∷ ys) ≡ ys
 behind_slots [] ys n = refl
 behind_slots (x ∷ xs) ys n = behind_slots xs ys n

@@ -9,10 +9,11 @@ use Rattle.lrpc.specs.declared.duty.Duty.{Duty}
 use Rattle.lrpc.specs.declared.duty.Duty.TheVariants as duties
 use Rattle.rv_step.specs.declared.memory.Held.{Held}
 use Rattle.rv_step.specs.Memory.{Memory, slots_of}
-use Rattle.pack_thread.specs.Fields.{Reading, spelled, Obey, Fit, blocks_behind, read}
-use Rattle.pack_thread.specs.Grammar.{thread_fields, duty_fields, register_fields, place_fields, slot_fields, live_fields, block_fields, ends, read_text}
-use Rattle.pack_thread.specs.Threads.{PackedThread, duty_numbers, block_numbers, heap_numbers, numbers_of, bytes_of, head_of, text_of, AreWhole, IsThread, IsTyped, IsTextOf}
-use Rattle.pack_thread.proofs.FieldLaws.{IsBytes, takes, again}
+use Rattle.thread_text.specs.Fields.{Reading, spelled, Obey, Fit, blocks_behind, read}
+use Rattle.thread_text.specs.Grammar.{thread_fields, duty_fields, register_fields, place_fields, slot_fields, live_fields, block_fields, ends, read_text}
+use Rattle.thread_text.specs.Numbers.{duty_numbers, block_numbers}
+use Rattle.pack_thread.specs.Threads.{PackedThread, heap_numbers, numbers_of, bytes_of, head_of, text_of, AreWhole, IsThread, IsTyped, IsTextOf}
+use Rattle.thread_text.proofs.Lemmas.{IsBytes, takes, again}
 use Rattle.slot_space.proofs.Lemmas.{length-insert}
 use Rattle.pack_thread.proofs.RuleLaws.{keeps}
 

@@ -2,9 +2,10 @@
 use Rattle.std.proofs.Common.{◌≡◌, ℕ, suc, ◌+◌, ◌-◌, ◌^◌, ◌<◌, ◌≤◌, Bool, List, [], ◌∷◌, ◌++◌, length, get_or, take, drop, refl, sym, ap, ◌∙◌, append_assoc, arith}
 use Rattle.std.proofs.lemmas.List.{append-nil, take_all, take_more, length-take}
 use Rattle.byteorder.specs.Endian.{little_bytes}
-use Rattle.pack_thread.specs.Fields.{Fields, Blocks, Field, spelled, Fit}
-use Rattle.pack_thread.specs.Grammar.{magic, any, is_heap_slot, is_start, is_size, thread_fields, duty_fields, register_fields, place_fields, slot_fields, live_fields, block_fields}
-use Rattle.pack_thread.specs.Threads.{PackedThread, duty_numbers, block_numbers, numbers_of}
+use Rattle.thread_text.specs.Fields.{Fields, Blocks, Field, spelled, Fit}
+use Rattle.thread_text.specs.Grammar.{magic, any, is_heap_slot, is_start, is_size, thread_fields, duty_fields, register_fields, place_fields, slot_fields, live_fields, block_fields}
+use Rattle.thread_text.specs.Numbers.{duty_numbers, block_numbers}
+use Rattle.pack_thread.specs.Threads.{PackedThread, numbers_of}
 use Rattle.pack_thread.specs.Writing.{Writes}
 
 pub writes_none : (old : List ℕ) (f : Fields) → Writes old old f [] f
@@ -16,7 +17,7 @@ writes_then a b c f g h ns ms p q = record {
   fit = λ rest fit. rw append_assoc (p.fit (ms ++ rest) (q.fit rest fit));
 }
 
--- a number more, in the bytes of its field
+-- one more number, in the bytes of its field
 pub writes_number : (old mid new : List ℕ) (width : ℕ) (rule : ℕ → Bool) (next : ℕ → Fields) (n m : ℕ) (ns : List ℕ) (left : Fields) → m ≡ n → mid ≡ old ++ little_bytes width m → m < 256 ^ width
     → Writes mid new (next n) ns left → Writes old new (Field width rule next) (n ∷ ns) left
 unfolding spelled Fit

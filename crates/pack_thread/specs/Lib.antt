@@ -1,7 +1,3 @@
-pub mod Fields
-pub mod Grammar
-pub mod Reading
-pub mod Opened
 pub mod Writing
 pub mod Threads
 pub mod Rules

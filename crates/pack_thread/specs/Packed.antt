@@ -8,8 +8,8 @@ use Rattle.iso_blocks.specs.Heap.{Heap}
 use Rattle.lrpc.specs.declared.call.CallNo.{CallNo}
 use Rattle.lrpc.specs.declared.duty.Duty.{Duty}
 use Rattle.lrpc.specs.declared.duty.Duty.TheVariants as duties
-use Rattle.pack_thread.specs.Fields.{Reading}
-use Rattle.pack_thread.specs.Grammar.{read_text}
+use Rattle.thread_text.specs.Fields.{Reading}
+use Rattle.thread_text.specs.Grammar.{read_text}
 use Rattle.pack_thread.specs.Threads.{PackedThread}
 
 -- a duty by its number

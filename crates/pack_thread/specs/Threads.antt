@@ -1,5 +1,5 @@
 -- A thread as it travels, and its one text.
-use Rattle.std.specs.Prelude.{◌≡◌, ℕ, Result, Ok, Err, List, [], ◌∷◌, ◌++◌, length, drop, slice_index}
+use Rattle.std.specs.Prelude.{◌≡◌, ℕ, Result, Ok, Err, List, ◌∷◌, ◌++◌, length, drop, slice_index}
 use Rattle.std.specs.List.{flat_map, AllByRecursion}
 use Rattle.slot_space.specs.Limits.{slot_size}
 use Rattle.slot_space.specs.declared.names.Tid.{Tid}
@@ -7,13 +7,12 @@ use Rattle.slot_space.specs.Sets.{insert}
 use Rattle.rv_step.specs.Memory.{Memory, slots_of}
 use Rattle.rv_step.specs.Step.{HartState, state_of}
 use Rattle.iso_blocks.specs.Heap.{Heap}
-use Rattle.lrpc.specs.declared.call.CallNo.{CallNo}
 use Rattle.lrpc.specs.declared.duty.Duty.{Duty}
-use Rattle.lrpc.specs.declared.duty.Duty.TheVariants as duties
 use Rattle.pack_thread.specs.declared.error.UnpackError.{UnpackError}
 use Rattle.pack_thread.specs.declared.error.UnpackError.TheVariants.{BadImage, NoMemory}
-use Rattle.pack_thread.specs.Fields.{spelled, Obey, Fit}
-use Rattle.pack_thread.specs.Grammar.{thread_fields, magic}
+use Rattle.thread_text.specs.Fields.{spelled, Obey, Fit}
+use Rattle.thread_text.specs.Grammar.{thread_fields, magic}
+use Rattle.thread_text.specs.Numbers.{duty_numbers, block_numbers}
 use Rattle.pack_thread.specs.declared.baggage.Baggage.{Baggage}
 
 -- what a thread takes along
@@ -30,20 +29,6 @@ abbrev pub thread_of : Baggage → PackedThread
 thread_of b = record { tid = b.tid; priority = b.priority; calls = b.calls; duty = b.duty; state = state_of b.hart; stack = b.stack; heap = b.blocks }
 
 -- ## Its numbers, in the order of the fields
-
-abbrev pub call_numbers : CallNo → List ℕ
-call_numbers call = call.by.home ∷ call.by.seq ∷ call.count ∷ call.at ∷ []
-
-abbrev pub duty_numbers : Duty → List ℕ
-duty_numbers duties.None = 0 ∷ 0 ∷ 0 ∷ 0 ∷ 0 ∷ []
-duty_numbers (duties.Cast call) = 1 ∷ call_numbers call
-duty_numbers (duties.Owes call) = 2 ∷ call_numbers call
-duty_numbers (duties.Paid call) = 3 ∷ call_numbers call
-
--- each block's address and size
-unfoldable pub block_numbers : List (ℕ × ℕ) → List ℕ
-block_numbers [] = []
-block_numbers (b ∷ blocks) = b.0 ∷ b.1 ∷ block_numbers blocks
 
 abbrev pub heap_numbers : Heap → List ℕ
 heap_numbers heap = heap.slots ++ (length heap.live ∷ block_numbers heap.live)

@@ -1,8 +1,8 @@
 //! What the definitions say of all threads.
 
 ghost use Rattle.std.specs.Prelude.{◌≡◌, ℕ, List, ◌↔◌, IsOk, length};
-ghost use Rattle.pack_thread.specs.Fields.{Obey};
-ghost use Rattle.pack_thread.specs.Grammar.{thread_fields, read_text};
+ghost use Rattle.thread_text.specs.Fields.{Obey};
+ghost use Rattle.thread_text.specs.Grammar.{thread_fields, read_text};
 ghost use Rattle.pack_thread.specs.Packed.{thread_in};
 ghost use Rattle.pack_thread.specs.Rules.{KeepsRules};
 ghost use Rattle.pack_thread.specs.Threads.{PackedThread, numbers_of, text_of, IsThread, IsTyped};

@@ -6,7 +6,6 @@ mod baggage;
 mod error;
 mod held;
 mod laws;
-mod opening;
 mod packed;
 mod packing;
 mod unpacking;

@@ -6,13 +6,13 @@ ghost use Rattle.pack_thread.specs.Threads.{thread_of, text_of, IsThread, IsType
 
 use crate::baggage::Baggage;
 use crate::error::UnpackError;
-use crate::opening::open_text;
 use crate::packing::pack;
 use crate::unpacking::unpack;
 use basics::NoMemory;
 use raw_slots::Pool;
 use std::alloc::Global;
 use std::marker::Model;
+use thread_text::open_text;
 
 /// A thread on its way: its text. Contracts see the thread.
 #[derive(Drop)]

@@ -4,20 +4,21 @@ ghost use Rattle.std.specs.Prelude.{◌≡◌, ℕ, ◌+◌, ◌*◌, ◌^◌, �
 ghost use Rattle.byteorder.specs.Endian.{little_bytes};
 ghost use Rattle.slot_space.specs.Sets.{IsSlotSet};
 ghost use Rattle.rv_step.specs.Memory.{slots_of, IsAscending};
-ghost use Rattle.pack_thread.specs.Fields.{Blocks, Fit};
-ghost use Rattle.pack_thread.specs.Grammar.{thread_fields, duty_fields, register_fields, place_fields, slot_fields, live_fields, magic};
-ghost use Rattle.pack_thread.specs.Threads.{thread_of, duty_numbers, call_numbers, block_numbers, bytes_of, AreWhole, numbers_of, head_of, text_of, IsThread, IsTyped};
+ghost use Rattle.thread_text.specs.Fields.{Blocks, Fit};
+ghost use Rattle.thread_text.specs.Grammar.{thread_fields, duty_fields, register_fields, place_fields, slot_fields, live_fields, magic};
+ghost use Rattle.thread_text.specs.Numbers.{duty_numbers, call_numbers, block_numbers};
+ghost use Rattle.pack_thread.specs.Threads.{thread_of, bytes_of, AreWhole, numbers_of, head_of, text_of, IsThread, IsTyped};
 ghost use Rattle.pack_thread.specs.Writing.{Writes};
 
 use crate::baggage::Baggage;
 use crate::held::held_slots;
-use crate::opening::MAGIC;
 use basics::NoMemory;
 use byteorder::{ByteOrder, LittleEndian};
 use lrpc::{CallNo, Duty};
 use rv_step::GuestMem;
 use slot_space::{NodeNo, SLOT_SIZE, SlotNo, SlotSet, Tid};
 use std::alloc::Global;
+use thread_text::MAGIC;
 
 /// The text of a thread.
 pub fn pack(alloc: Global, b: &Baggage) -> Result<Vec<u8>, NoMemory>

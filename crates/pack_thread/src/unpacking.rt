@@ -1,18 +1,17 @@
-//! A thread of its text.
+//! A thread from its text.
 
 ghost use Rattle.std.specs.Prelude.{◌≡◌, ℕ, ◌+◌, ◌*◌, ◌<◌, ◌≤◌, max, OnOk, OnErr, Err, IfOk, ◌↔◌, length, drop, slice_index};
 ghost use Rattle.slot_space.specs.Limits.{slot_limit, slot_size};
 ghost use Rattle.slot_space.specs.Sets.{insert, IsAscending};
 ghost use Rattle.rv_step.specs.Memory.{slots_of};
-ghost use Rattle.pack_thread.specs.Grammar.{read_text};
-ghost use Rattle.pack_thread.specs.Opened.{slots_at, opened_numbers, IsOpen};
-ghost use Rattle.pack_thread.specs.Reading.{blocks_at};
+ghost use Rattle.thread_text.specs.Grammar.{read_text};
+ghost use Rattle.thread_text.specs.Opened.{slots_at, opened_numbers, IsOpen};
+ghost use Rattle.thread_text.specs.Reading.{blocks_at};
 ghost use Rattle.pack_thread.specs.Threads.{PackedThread, thread_of, bytes_of, numbers_of, AreWhole, text_of, IsThread, IsTyped, Gives};
 
 use crate::baggage::Baggage;
 use crate::error::UnpackError;
 use crate::held::held_slots;
-use crate::opening::{Opened, Place, Who, open_text};
 use basics::NoMemory;
 use byteorder::{ByteOrder, LittleEndian};
 use iso_blocks::Blocks;
@@ -20,6 +19,7 @@ use raw_slots::{Pool, SlotMem};
 use rv_step::{GuestMem, Hart};
 use slot_space::{SLOT_SIZE, SlotNo};
 use std::alloc::Global;
+use thread_text::{Opened, Place, Who, open_text};
 
 /// The thread of a text. Its slots' blocks are taken from the pool; where no thread is given, the pool has at least what
 /// it had.
@@ -85,7 +85,7 @@ fn build(alloc: Global, bytes: &[u8], opened: Opened, pool: &mut Pool) -> Result
     })
 }
 
-/// So many blocks, from a place of the bytes on.
+/// `count` blocks, from a place of the bytes on.
 fn blocks_of(
     alloc: Global,
     bytes: &[u8],

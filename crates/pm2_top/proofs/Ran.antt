@@ -20,8 +20,8 @@ use Rattle.settings.specs.declared.command.Command.{Command}
 use Rattle.settings.specs.declared.command.Command.TheVariants.{Asm, Run, Sim, Replay, Stress}
 use Rattle.simulation.specs.Ends.{EndsAt}
 use Rattle.simulation.specs.Rounds.{EndsWith}
-use Rattle.simulation.specs.declared.simulation.End.{End}
-use Rattle.simulation.specs.declared.simulation.End.TheVariants as end
+use Rattle.simulation.specs.declared.simulation.RunEnd.{RunEnd}
+use Rattle.simulation.specs.declared.simulation.RunEnd.TheVariants as end
 use Rattle.simulation.specs.declared.simulation.Simulated.{Simulated}
 use Rattle.pm2_top.specs.Asked.{LacksAny, MayBeSuch, MayBeGiven, acts_in, acts_of, image_in, schedule_in, source_in}
 use Rattle.pm2_top.specs.Delivery.{is_told, Tells, Nothing, All, Refused}
@@ -82,7 +82,7 @@ module _ (files : Content) (command : Command) (nodes : ℕ) where
   unless s t c (inl e) = subst (λ x. Cause files command nodes x) (sym e) c
   unless s t c (inr e) = subst (λ x. Cause files command nodes x) (sym e) tt
 
-  run_cause : (e : End) → Cause files command nodes (end_status e)
+  run_cause : (e : RunEnd) → Cause files command nodes (end_status e)
   run_cause end.Done = tt
   run_cause end.Stalled = tt
   run_cause end.OutOfTurns = tt
@@ -137,7 +137,7 @@ abbrev IsFault : Status → Type 0
 IsFault status = (status ≡ NoMemory) ⊎ ((status ≡ ReadFault) ⊎ (status ≡ WriteFault))
 
 -- no run has an act that isn't possible
-abbrev NeverIdle : End → Type 0
+abbrev NeverIdle : RunEnd → Type 0
 NeverIdle e = (line : ℕ) → e ≡ end.NotPossible line → ⊥
 
 drawn_never_idle : (moves : Bool) (turns seed : ℕ) (p : Program) (s : Simulated) → DrawnBy moves turns seed p s → NeverIdle s.end
@@ -152,7 +152,7 @@ rounds_never_idle turns p s (inl r) line is = by r.rounds (subst (λ e. EndsWith
     by (round ∷ before) h = h
 rounds_never_idle turns p s (inr none) line is = let bad : end.NoMemory ≡ end.NotPossible line = sym none.1 ∙ is in cc
 
-end_usual : (e : End) → NeverIdle e → IsRunsEnd (end_status e) ⊎ IsFault (end_status e)
+end_usual : (e : RunEnd) → NeverIdle e → IsRunsEnd (end_status e) ⊎ IsFault (end_status e)
 end_usual end.Done f = inl (inl refl)
 end_usual end.Stalled f = inl (inr (inl refl))
 end_usual end.OutOfTurns f = inl (inr (inr refl))
@@ -177,7 +177,7 @@ listing_usual name text w now ReadFault d = absurd d
 listing_usual name text w now (NotPossible line) d = absurd d
 listing_usual name text w now (BadScheduleText line) d = absurd d
 
-replay_usual : (name acts : List ℕ) (e : End) → IsUsual (Replay name acts) (end_status e) ⊎ IsFault (end_status e)
+replay_usual : (name acts : List ℕ) (e : RunEnd) → IsUsual (Replay name acts) (end_status e) ⊎ IsFault (end_status e)
 replay_usual name acts end.Done = inl (inl (inl refl))
 replay_usual name acts end.Stalled = inl (inl (inr (inl refl)))
 replay_usual name acts end.OutOfTurns = inl (inl (inr (inr refl)))

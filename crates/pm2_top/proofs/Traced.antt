@@ -18,8 +18,8 @@ use Rattle.settings.specs.Settings.{Chosen}
 use Rattle.settings.specs.declared.command.Command.{Command}
 use Rattle.settings.specs.declared.command.Command.TheVariants.{Asm, Run, Sim, Replay, Stress}
 use Rattle.simulation.specs.Ends.{Carries}
-use Rattle.simulation.specs.declared.simulation.End.{End}
-use Rattle.simulation.specs.declared.simulation.End.TheVariants as end
+use Rattle.simulation.specs.declared.simulation.RunEnd.{RunEnd}
+use Rattle.simulation.specs.declared.simulation.RunEnd.TheVariants as end
 use Rattle.simulation.specs.declared.simulation.Simulated.{Simulated}
 use Rattle.pm2_top.specs.Asked.{IsImageOf, image_in, acts_in}
 use Rattle.pm2_top.specs.Delivery.{is_told, Tells, Nothing, All, Refused, with_status}
@@ -57,7 +57,7 @@ replaced NoMemory A B C f h = tt
 replaced (NotPossible line) A B C f h = f h
 replaced (BadScheduleText line) A B C f h = h
 
-of_end : (e : End) (A B : Type 0) → (e ≢ end.NoMemory → B) → ByStatus (end_status e) A B
+of_end : (e : RunEnd) (A B : Type 0) → (e ≢ end.NoMemory → B) → ByStatus (end_status e) A B
 of_end end.Done A B f = f (λ h. cc h)
 of_end end.Stalled A B f = f (λ h. cc h)
 of_end end.OutOfTurns A B f = f (λ h. cc h)

@@ -2,8 +2,8 @@
 use Rattle.std.specs.Prelude.{ℕ}
 use Rattle.outside.specs.declared.outside.WriteRefusal.{WriteRefusal}
 use Rattle.outside.specs.declared.outside.WriteRefusal.TheVariants as refusal
-use Rattle.simulation.specs.declared.simulation.End.{End}
-use Rattle.simulation.specs.declared.simulation.End.TheVariants as end
+use Rattle.simulation.specs.declared.simulation.RunEnd.{RunEnd}
+use Rattle.simulation.specs.declared.simulation.RunEnd.TheVariants as end
 use Rattle.pm2_top.specs.declared.status.Status.{Status}
 use Rattle.pm2_top.specs.declared.status.Status.TheVariants.{Done, Usage, BadSource, Stalled, OutOfTurns, ReadFault, WriteFault, NoMemory, NotPossible, BadScheduleText}
 
@@ -23,7 +23,7 @@ abbrev pub refusal_status : WriteRefusal → Status
 refusal_status refusal.Failed = WriteFault
 refusal_status refusal.NoMemory = NoMemory
 
-abbrev pub end_status : End → Status
+abbrev pub end_status : RunEnd → Status
 end_status end.Done = Done
 end_status end.Stalled = Stalled
 end_status end.OutOfTurns = OutOfTurns

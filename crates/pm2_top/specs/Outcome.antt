@@ -122,7 +122,7 @@ pub record HasObeyed (files : Content) (asked : Chosen) (given : List (Ends Pack
   pub has_run : HasRun files asked given written shown ran
   pub tells : Tells asked ran shown now ended
 
--- a command has come to its end: the words have no settings, or there was no memory to read them, or it has done what they ask
+-- a command has come to its end: the words are refused, or there was no memory to read them, or it has done what they ask
 -- for
 pub data HasEnded (files : Content) (settings : Option Chosen) (given : List (Ends Packet)) (written now : Option (List ℕ)) (ended : Report) : Type 0 where
   NoSettings : settings ≡ None → now ≡ written → ended ≡ plainly Usage given → HasEnded files settings given written now ended

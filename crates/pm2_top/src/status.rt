@@ -6,7 +6,7 @@ ghost use Rattle.pm2_top.specs.Delivery.{is_told};
 
 use outside::WriteRefusal;
 use rv_asm::AsmError;
-use simulation::End;
+use simulation::RunEnd;
 
 /// How a command ends.
 #[derive(Clone, Copy, PartialEq, Eq)]
@@ -76,19 +76,19 @@ impl From<WriteRefusal> for Status {
     }
 }
 
-impl From<End> for Status {
+impl From<RunEnd> for Status {
     ghost use Rattle.pm2_top.specs.Number.{end_status};
 
     ghost from_gives = { λ end status. status ≡ end_status end };
 
-    fn from(end: End) -> Status {
+    fn from(end: RunEnd) -> Status {
         match end {
-            End::Done => Status::Done,
-            End::Stalled => Status::Stalled,
-            End::OutOfTurns => Status::OutOfTurns,
-            End::NotPossible(line) => Status::NotPossible(line),
-            End::WriteFault => Status::WriteFault,
-            End::NoMemory => Status::NoMemory,
+            RunEnd::Done => Status::Done,
+            RunEnd::Stalled => Status::Stalled,
+            RunEnd::OutOfTurns => Status::OutOfTurns,
+            RunEnd::NotPossible(line) => Status::NotPossible(line),
+            RunEnd::WriteFault => Status::WriteFault,
+            RunEnd::NoMemory => Status::NoMemory,
         }
     }
 }

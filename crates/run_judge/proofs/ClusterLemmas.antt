@@ -8,11 +8,11 @@ use Rattle.run_trace.specs.declared.entry.Entry.{Entry}
 use Rattle.run_trace.specs.declared.packet.Packet.{Packet}
 use Rattle.run_trace.specs.declared.packet.Send.{Send}
 use Rattle.run_trace.specs.Program.{Program, nodes_of}
-use Rattle.run_trace.specs.Local.{Local, Doing, fresh}
+use Rattle.run_trace.specs.Local.{Local, EventSoFar, fresh}
 use Rattle.run_trace.specs.Machine.{local_event, is_range}
 use Rattle.run_trace.specs.Cluster.{Net, next_packet, IsTaken, net_after, after_or, fresh_net}
 use Rattle.run_trace.specs.Trace.{Fits, event_of, done_for, sends_or}
-use Rattle.node_state.specs.declared.done.Done.{Done}
+use Rattle.node_state.specs.declared.output.EventOutput.{EventOutput}
 use Rattle.node_state.specs.Events.{event_of as doing_of}
 use Rattle.run_judge.specs.declared.flights.Flight.{Flight}
 use Rattle.run_judge.specs.Links.{link_of, next_on, flights_of}
@@ -69,14 +69,14 @@ module _ (p : Program) (nodes : List Local) (old : List Flight) (x : Entry) wher
   pub no_event : (took : Option Packet) → took ≡ next_on old x.node x.act → local_event p x.node here x.act took ≡ None → Fits p net x → ⊥
   no_event took h none f = let e : Some f.done ≡ None = sym f.is ∙ done_is took h ∙ none in absurd (cc e)
 
-  pub its_labels : (took : Option Packet) (node : Local) (done : Done) → took ≡ next_on old x.node x.act → local_event p x.node here x.act took ≡ Some (doing_of node done)
+  pub its_labels : (took : Option Packet) (node : Local) (done : EventOutput) → took ≡ next_on old x.node x.act → local_event p x.node here x.act took ≡ Some (doing_of node done)
       → Fits p net x → x.labels ≡ done.labels
   its_labels took node done h is f =
       let e : Some f.done ≡ Some (doing_of node done) = sym f.is ∙ done_is took h ∙ is in
       let g : f.done ≡ doing_of node done = cc e in
-      f.labels ∙ ap (λ (d : Doing). d.labels) g
+      f.labels ∙ ap (λ (d : EventSoFar). d.labels) g
 
-  pub fits : (took : Option Packet) (node : Local) (done : Done) → took ≡ next_on old x.node x.act → local_event p x.node here x.act took ≡ Some (doing_of node done)
+  pub fits : (took : Option Packet) (node : Local) (done : EventOutput) → took ≡ next_on old x.node x.act → local_event p x.node here x.act took ≡ Some (doing_of node done)
       → IsTaken x.stamp x.act took → x.labels ≡ done.labels → Fits p net x
   fits took node done h is t l = record {
     done = doing_of node done;
@@ -85,13 +85,13 @@ module _ (p : Program) (nodes : List Local) (old : List Flight) (x : Entry) wher
     takes = subst (λ (o : Option Packet). IsTaken x.stamp x.act o) (next_same took h) t;
   }
 
-  within : (took : Option Packet) (d : Doing) → length nodes ≡ nodes_of p → local_event p x.node here x.act took ≡ Some d → x.node < length nodes
+  within : (took : Option Packet) (d : EventSoFar) → length nodes ≡ nodes_of p → local_event p x.node here x.act took ≡ Some d → x.node < length nodes
   within took d count is = elim (cases_lt x.node (length nodes)) as (λ _. x.node < length nodes) [
     | inl l ↦ l
     | inr g ↦ let e : None ≡ Some d = sym (outside p x.node here x.act took (omega arith)) ∙ is in absurd (cc e)
   ]
 
-  nodes_after : (took : Option Packet) (node : Local) (done : Done) → length nodes ≡ nodes_of p → took ≡ next_on old x.node x.act
+  nodes_after : (took : Option Packet) (node : Local) (done : EventOutput) → length nodes ≡ nodes_of p → took ≡ next_on old x.node x.act
       → local_event p x.node here x.act took ≡ Some (doing_of node done)
       → (n : ℕ) → get_or (set nodes x.node node) n (fresh p n) ≡ (net_after p net (event_of p net x)).nodes n
   nodes_after took node done count h is n =
@@ -99,13 +99,13 @@ module _ (p : Program) (nodes : List Local) (old : List Flight) (x : Entry) wher
         | inl t ↦ let lt : x.node < length nodes = within took (doing_of node done) count is in
             let same : x.node ≡ n = eqb-true x.node n t in
             let left : get_or (set nodes x.node node) x.node (fresh p x.node) ≡ node = get_or-set_same nodes x.node node (fresh p x.node) lt in
-            let right : after_or (done_for p net x) here ≡ node = ap (λ (o : Option Doing). after_or o here) (done_is took h ∙ is) in
+            let right : after_or (done_for p net x) here ≡ node = ap (λ (o : Option EventSoFar). after_or o here) (done_is took h ∙ is) in
             rw t (subst (λ m. get_or (set nodes x.node node) m (fresh p m) ≡ after_or (local_event p m (get_or nodes m (fresh p m)) x.act (next_packet net x.node x.act)) (get_or nodes m (fresh p m))) same (left ∙ sym right))
         | inr f ↦ let ne : n ≢ x.node = λ e. eqb-false x.node n f (sym e) in
             rw f (get_or-set_other nodes x.node n node (fresh p n) ne)
       ]
 
-  links_after : (took : Option Packet) (node : Local) (done : Done) (mid new : List Flight) → took ≡ next_on old x.node x.act
+  links_after : (took : Option Packet) (node : Local) (done : EventOutput) (mid new : List Flight) → took ≡ next_on old x.node x.act
       → local_event p x.node here x.act took ≡ Some (doing_of node done) → LeftBy x.node x.act old mid → new ≡ mid ++ flights_of x.node x.stamp done.sends
       → (i j : ℕ) → link_of new i j ≡ (net_after p net (event_of p net x)).links i j
   links_after took node done mid new h is left sent i j =
@@ -115,7 +115,7 @@ module _ (p : Program) (nodes : List Local) (old : List Flight) (x : Entry) wher
       ∙ ap (λ ps. cond (eqb x.node j) (left_after i x.act (link_of old i j)) (link_of old i j) ++ ps)
       (link_sent x.node x.stamp done.sends i j ∙ ap (λ (ss : List Send). cond (eqb x.node i) (packets_to j x.stamp ss) []) (sym sends))
 
-  pub advances : (took : Option Packet) (node : Local) (done : Done) (after : List Local) (mid new : List Flight) → length nodes ≡ nodes_of p → took ≡ next_on old x.node x.act
+  pub advances : (took : Option Packet) (node : Local) (done : EventOutput) (after : List Local) (mid new : List Flight) → length nodes ≡ nodes_of p → took ≡ next_on old x.node x.act
       → local_event p x.node here x.act took ≡ Some (doing_of node done) → after ≡ set nodes x.node node → LeftBy x.node x.act old mid
       → new ≡ mid ++ flights_of x.node x.stamp done.sends → net_in p after new ≡ net_after p net (event_of p net x)
   advances took node done after mid new count h is set_ left sent =

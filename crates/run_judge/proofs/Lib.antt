@@ -1,5 +1,5 @@
 pub mod SameLabels
 pub mod LinkLemmas
-pub mod Places
+pub mod Positions
 pub mod ClusterLemmas
 pub mod SoundLemmas

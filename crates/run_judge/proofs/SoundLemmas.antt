@@ -26,7 +26,7 @@ above_all x y (z ∷ zs) h a = (step x y z h a.0, above_all x y zs h a.1)
     step x y z (inr l) (inl k) = inl (omega (arith, l.0))
     step x y z (inr l) (inr k) = inr (k.0 ∙ l.0, omega (arith, l.1, k.1))
 
-above_from : (x : Entry) (lines : List Entry) → Follows x lines → IsInOrder lines → IsEntryAbove x lines
+above_from : (x : Entry) (trace : List Entry) → Follows x trace → IsInOrder trace → IsEntryAbove x trace
 above_from x [] f o = tt
 above_from x (y ∷ ys) f o = (f.0, above_all x y ys f.0 o.0)
 
@@ -34,11 +34,11 @@ none_above : (m n : ℕ) (ys : List Entry) → m ≤ n → NoneAbove m ys → No
 none_above m n [] h a = tt
 none_above m n (z ∷ zs) h a = (omega (arith, a.0), none_above m n zs h a.1)
 
-rounds_from : (x : Entry) (lines : List Entry) → Follows x lines → AreRising lines → NoneAbove x.round lines
+rounds_from : (x : Entry) (trace : List Entry) → Follows x trace → AreRising trace → NoneAbove x.round trace
 rounds_from x [] f r = tt
 rounds_from x (y ∷ ys) f r = (f.1, none_above y.round x.round ys f.1 r.0)
 
-follows_from : (x : Entry) (lines : List Entry) → IsEntryAbove x lines → NoneAbove x.round lines → Follows x lines
+follows_from : (x : Entry) (trace : List Entry) → IsEntryAbove x trace → NoneAbove x.round trace → Follows x trace
 follows_from x [] a r = tt
 follows_from x (y ∷ ys) a r = (a.0, r.0)
 
@@ -48,32 +48,32 @@ Judges = (p : Program) (base : Net) (x : Entry) (xs : List Entry) → IsRun p ba
 pub none_sound : (p : Program) → IsSound p []
 none_sound p = record { order = tt; begins = tt; rounds = tt; runs = tt }
 
-pub sound_more : Judges → (p : Program) (x : Entry) (lines : List Entry) → IsSound p lines → Follows x lines → BeginsAt p (length lines) x
-    → Fits p (net_after_trace p (fresh_net p) lines) x → IsSound p (x ∷ lines)
-sound_more law p x lines s f b fits = record {
-  order = (above_from x lines f s.order, s.order);
+pub sound_more : Judges → (p : Program) (x : Entry) (trace : List Entry) → IsSound p trace → Follows x trace → BeginsAt p (length trace) x
+    → Fits p (net_after_trace p (fresh_net p) trace) x → IsSound p (x ∷ trace)
+sound_more law p x trace s f b fits = record {
+  order = (above_from x trace f s.order, s.order);
   begins = (b, s.begins);
-  rounds = (rounds_from x lines f s.rounds, s.rounds);
-  runs = (law p (fresh_net p) x lines).1 (s.runs, fits);
+  rounds = (rounds_from x trace f s.rounds, s.rounds);
+  runs = (law p (fresh_net p) x trace).1 (s.runs, fits);
 }
 
-pub sound_follows : (p : Program) (x : Entry) (lines : List Entry) → IsSound p (x ∷ lines) → Follows x lines
-sound_follows p x lines s = follows_from x lines s.order.0 s.rounds.0
+pub sound_follows : (p : Program) (x : Entry) (trace : List Entry) → IsSound p (x ∷ trace) → Follows x trace
+sound_follows p x trace s = follows_from x trace s.order.0 s.rounds.0
 
-pub sound_begins : (p : Program) (x : Entry) (lines : List Entry) → IsSound p (x ∷ lines) → BeginsAt p (length lines) x
-sound_begins p x lines s = s.begins.0
+pub sound_begins : (p : Program) (x : Entry) (trace : List Entry) → IsSound p (x ∷ trace) → BeginsAt p (length trace) x
+sound_begins p x trace s = s.begins.0
 
-pub sound_fits : Judges → (p : Program) (x : Entry) (lines : List Entry) → IsSound p (x ∷ lines) → Fits p (net_after_trace p (fresh_net p) lines) x
-sound_fits law p x lines s = ((law p (fresh_net p) x lines).0 s.runs).1
+pub sound_fits : Judges → (p : Program) (x : Entry) (trace : List Entry) → IsSound p (x ∷ trace) → Fits p (net_after_trace p (fresh_net p) trace) x
+sound_fits law p x trace s = ((law p (fresh_net p) x trace).0 s.runs).1
 
 -- ## Fronts of a trace
 
-sound_tail : (p : Program) (x : Entry) (lines : List Entry) → IsSound p (x ∷ lines) → IsSound p lines
-sound_tail p x lines s = record { order = s.order.1; begins = s.begins.1; rounds = s.rounds.1; runs = s.runs.0 }
+sound_tail : (p : Program) (x : Entry) (trace : List Entry) → IsSound p (x ∷ trace) → IsSound p trace
+sound_tail p x trace s = record { order = s.order.1; begins = s.begins.1; rounds = s.rounds.1; runs = s.runs.0 }
 
-sound_before : (p : Program) (later lines : List Entry) → IsSound p (later ++ lines) → IsSound p lines
-sound_before p [] lines s = s
-sound_before p (x ∷ xs) lines s = sound_before p xs lines (sound_tail p x (xs ++ lines) s)
+sound_before : (p : Program) (later trace : List Entry) → IsSound p (later ++ trace) → IsSound p trace
+sound_before p [] trace s = s
+sound_before p (x ∷ xs) trace s = sound_before p xs trace (sound_tail p x (xs ++ trace) s)
 
 pub sound_front : (p : Program) (entries : List Entry) (k : ℕ) → IsSound p (reverse entries) → IsSound p (reverse (take k entries))
 sound_front p entries k s =
@@ -84,9 +84,9 @@ pub newest_more : (entries : List Entry) (k : ℕ) (x : Entry) → k < length en
 newest_more entries k x h e =
     ap reverse (take_more entries k x h) ∙ reverse-append (take k entries) (get_or entries k x ∷ []) ∙ ap (λ (y : Entry). y ∷ reverse (take k entries)) (sym e)
 
-pub net_more : (p : Program) (old new : Net) (x : Entry) (lines : List Entry) → old ≡ net_after_trace p (fresh_net p) lines → new ≡ net_after p old (event_of p old x)
-    → new ≡ net_after_trace p (fresh_net p) (x ∷ lines)
-net_more p old new x lines e h = h ∙ ap (λ (net : Net). net_after p net (event_of p net x)) e
+pub net_more : (p : Program) (old new : Net) (x : Entry) (trace : List Entry) → old ≡ net_after_trace p (fresh_net p) trace → new ≡ net_after p old (event_of p old x)
+    → new ≡ net_after_trace p (fresh_net p) (x ∷ trace)
+net_more p old new x trace e h = h ∙ ap (λ (net : Net). net_after p net (event_of p net x)) e
 
 length_front : (entries : List Entry) (k : ℕ) → k ≤ length entries → length (reverse (take k entries)) ≡ k
 length_front entries k h = length-reverse (take k entries) ∙ length-take-le k entries h
@@ -142,22 +142,22 @@ later_begin p [] = boots_begin p (nodes_of p)
 later_begin p (x ∷ xs) =
     (λ h. absurd (omega (arith, h, length-append xs (boot_entries p (nodes_of p)), length_boots p (nodes_of p))), later_begin p xs)
 
-begins_begin : (p : Program) (lines : List Entry) → Begins p lines → AreBeginnings p lines
-begins_begin p lines (inl e) = subst (λ xs. AreBeginnings p xs) (sym e) tt
-begins_begin p lines (inr h) = subst (λ xs. AreBeginnings p xs) (sym h.1) (later_begin p h.0)
+begins_begin : (p : Program) (trace : List Entry) → Begins p trace → AreBeginnings p trace
+begins_begin p trace (inl e) = subst (λ xs. AreBeginnings p xs) (sym e) tt
+begins_begin p trace (inr h) = subst (λ xs. AreBeginnings p xs) (sym h.1) (later_begin p h.0)
 
-pub begins_long : (p : Program) (lines : List Entry) → Begins p lines → 0 < length lines → length lines < nodes_of p → ⊥
-begins_long p lines (inl e) some few = omega (arith, ap length e)
-begins_long p lines (inr h) some few = omega (arith, ap length h.1, length-append h.0 (boot_entries p (nodes_of p)), length_boots p (nodes_of p))
+pub begins_long : (p : Program) (trace : List Entry) → Begins p trace → 0 < length trace → length trace < nodes_of p → ⊥
+begins_long p trace (inl e) some few = omega (arith, ap length e)
+begins_long p trace (inr h) some few = omega (arith, ap length h.1, length-append h.0 (boot_entries p (nodes_of p)), length_boots p (nodes_of p))
 
-boots_from : (p : Program) (lines : List Entry) → length lines ≤ nodes_of p → AreBeginnings p lines → lines ≡ boot_entries p (length lines)
+boots_from : (p : Program) (trace : List Entry) → length trace ≤ nodes_of p → AreBeginnings p trace → trace ≡ boot_entries p (length trace)
 boots_from p [] h b = refl
 boots_from p (x ∷ xs) h b =
     let head : x ≡ boot_entry p (length xs) = b.0 (omega arith) in
     let rest : xs ≡ boot_entries p (length xs) = boots_from p xs (omega arith) b.1 in
     ap (λ (y : Entry). y ∷ xs) head ∙ ap (λ (ys : List Entry). boot_entry p (length xs) ∷ ys) rest
 
-long_begins : (p : Program) (lines : List Entry) → AreBeginnings p lines → nodes_of p ≤ length lines → (later : List Entry) × (lines ≡ later ++ boot_entries p (nodes_of p))
+long_begins : (p : Program) (trace : List Entry) → AreBeginnings p trace → nodes_of p ≤ length trace → (later : List Entry) × (trace ≡ later ++ boot_entries p (nodes_of p))
 long_begins p [] b h = ([], let e : 0 ≡ nodes_of p = omega arith in ap (boot_entries p) e)
 long_begins p (x ∷ xs) b h = elim (cases_lt (length xs) (nodes_of p)) as (λ _. (later : List Entry) × (x ∷ xs ≡ later ++ boot_entries p (nodes_of p))) [
   | inl l ↦ let e : length (x ∷ xs) ≡ nodes_of p = omega arith in ([], boots_from p (x ∷ xs) (omega arith) b ∙ ap (boot_entries p) e)
@@ -167,18 +167,18 @@ long_begins p (x ∷ xs) b h = elim (cases_lt (length xs) (nodes_of p)) as (λ _
 -- ## The whole
 
 abbrev pub Whole : Type 0
-Whole = (p : Program) (lines : List Entry) → IsInOrder lines → Begins p lines → AreRising lines → IsRun p (fresh_net p) lines → Legal p lines
+Whole = (p : Program) (trace : List Entry) → IsInOrder trace → Begins p trace → AreRising trace → IsRun p (fresh_net p) trace → Legal p trace
 
-pub legal_sound : (p : Program) (lines : List Entry) → Legal p lines → IsSound p lines
-legal_sound p lines l = record { order = l.order; begins = begins_begin p lines l.begins; rounds = l.rounds; runs = l.runs }
+pub legal_sound : (p : Program) (trace : List Entry) → Legal p trace → IsSound p trace
+legal_sound p trace l = record { order = l.order; begins = begins_begin p trace l.begins; rounds = l.rounds; runs = l.runs }
 
-begins_from : (p : Program) (lines : List Entry) → AreBeginnings p lines → (length lines ≡ 0) ⊎ (nodes_of p ≤ length lines) → Begins p lines
-begins_from p lines b (inr h) = inr (long_begins p lines b h)
+begins_from : (p : Program) (trace : List Entry) → AreBeginnings p trace → (length trace ≡ 0) ⊎ (nodes_of p ≤ length trace) → Begins p trace
+begins_from p trace b (inr h) = inr (long_begins p trace b h)
 begins_from p [] b (inl e) = inl refl
 begins_from p (x ∷ xs) b (inl e) = absurd (omega arith)
 
-pub sound_legal : Whole → (p : Program) (lines : List Entry) → IsSound p lines → (length lines ≡ 0) ⊎ (nodes_of p ≤ length lines) → Legal p lines
-sound_legal law p lines s h = law p lines s.order (begins_from p lines s.begins h) s.rounds s.runs
+pub sound_legal : Whole → (p : Program) (trace : List Entry) → IsSound p trace → (length trace ≡ 0) ⊎ (nodes_of p ≤ length trace) → Legal p trace
+sound_legal law p trace s h = law p trace s.order (begins_from p trace s.begins h) s.rounds s.runs
 
 -- what is said where an entry is at fault
 pub at_fault : (p : Program) (entries : List Entry) (n : ℕ) → n < length entries → IsSound p (reverse (take n entries)) → (IsSound p (reverse (take (n + 1) entries)) → ⊥) → IsFirstFault p entries n

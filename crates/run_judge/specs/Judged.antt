@@ -17,11 +17,11 @@ AreBeginnings p [] = ⊤
 AreBeginnings p (x ∷ xs) = BeginsAt p (length xs) x × AreBeginnings p xs
 
 -- nothing is wrong so far
-pub record IsSound (p : Program) (lines : List Entry) : Type 0 where
-  pub order : IsInOrder lines
-  pub begins : AreBeginnings p lines
-  pub rounds : AreRising lines
-  pub runs : IsRun p (fresh_net p) lines
+pub record IsSound (p : Program) (trace : List Entry) : Type 0 where
+  pub order : IsInOrder trace
+  pub begins : AreBeginnings p trace
+  pub rounds : AreRising trace
+  pub runs : IsRun p (fresh_net p) trace
 
 -- nothing is wrong with so many entries, oldest first, but with one more; or there is no more, and a beginning is missing
 pub record IsFirstFault (p : Program) (entries : List Entry) (number : ℕ) : Type 0 where

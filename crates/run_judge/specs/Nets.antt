@@ -6,7 +6,7 @@ use Rattle.run_trace.specs.Program.{Program}
 use Rattle.run_trace.specs.Local.{Local, fresh}
 use Rattle.run_trace.specs.Machine.{local_event}
 use Rattle.run_trace.specs.Cluster.{Net}
-use Rattle.node_state.specs.declared.done.Done.{Done}
+use Rattle.node_state.specs.declared.output.EventOutput.{EventOutput}
 use Rattle.node_state.specs.Events.{event_of}
 use Rattle.run_judge.specs.declared.flights.Flight.{Flight}
 use Rattle.run_judge.specs.Links.{link_of}
@@ -17,7 +17,7 @@ abbrev pub net_in : Program → List Local → List Flight → Net
 net_in p nodes flights = record { nodes = λ n. slice_index_or nodes n (fresh p n); links = λ i j. link_of flights i j }
 
 -- the event of one node, and no other node's
-abbrev pub NodeDoes : Program → ℕ → Act → Option Packet → List Local → List Local → Option Done → Type 0
+abbrev pub NodeDoes : Program → ℕ → Act → Option Packet → List Local → List Local → Option EventOutput → Type 0
 NodeDoes p me act took old new None = local_event p me (slice_index_or old me (fresh p me)) act took ≡ None
 NodeDoes p me act took old new (Some done) = (node : Local)
     × (local_event p me (slice_index_or old me (fresh p me)) act took ≡ Some (event_of node done))

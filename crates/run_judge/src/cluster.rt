@@ -1,7 +1,7 @@
 //! All nodes, and what is under way between them.
 
 ghost use Rattle.std.specs.Prelude.{◌≡◌, ℕ, ◌↔◌, [], IfOk, IsTrue, length, slice_index_or};
-ghost use Rattle.run_trace.specs.Cluster.{IsTaken, fresh_net, net_after};
+ghost use Rattle.run_trace.specs.Cluster.{IsTaken, net_after};
 ghost use Rattle.run_trace.specs.Program.{nodes_of};
 ghost use Rattle.run_trace.specs.Trace.{Fits, event_of};
 ghost use Rattle.node_state.specs.Events.{fresh_in, StartsAligned};
@@ -10,21 +10,21 @@ ghost use Rattle.run_judge.specs.Nets.{net_in, NodeDoes};
 use crate::flights::Flights;
 use crate::labels::same_labels;
 use basics::NoMemory;
-use node_state::{Done, NodeState};
+use node_state::{EventOutput, NodeState};
 use run_trace::{Act, Entry, Packet, Program, Setup};
 use slot_space::NodeNo;
 use std::alloc::Global;
 
 /// All nodes, and what is under way between them.
 #[derive(Drop)]
-pub(crate) struct Cluster {
+pub(crate) struct JudgedCluster {
     pub(crate) nodes: Vec<NodeState>,
     pub(crate) flights: Flights,
 }
 
-impl Cluster {
+impl JudgedCluster {
     /// Before the first event.
-    pub(crate) fn fresh(alloc: Global, setup: &Setup) -> Result<Cluster, NoMemory>
+    pub(crate) fn fresh(alloc: Global, setup: &Setup) -> Result<JudgedCluster, NoMemory>
         ensures count { IfOk result (λ cluster. length cluster.nodes.items ≡ setup.now.geometry.nodes) }
         ensures nodes { IfOk result (λ cluster. (n : ℕ) → slice_index_or cluster.nodes.items n (fresh_in setup.now n) ≡ fresh_in setup.now n) }
         ensures links { IfOk result (λ cluster. cluster.flights.all.items ≡ []) }
@@ -33,7 +33,7 @@ impl Cluster {
         for node in 0..setup.geometry.nodes {
             nodes.push(NodeState::fresh(alloc, setup, NodeNo(node)))?;
         }
-        Ok(Cluster {
+        Ok(JudgedCluster {
             nodes,
             flights: Flights::none(alloc),
         })
@@ -85,7 +85,7 @@ fn do_event(
     me: NodeNo,
     act: Act,
     took: Option<Packet>,
-) -> Result<Option<Done>, NoMemory>
+) -> Result<Option<EventOutput>, NoMemory>
     requires nodes { length nodes.old.items ≡ nodes_of program.now }
     requires image { StartsAligned program.now.image }
     ensures { IfOk result (λ done. NodeDoes program.now me act took nodes.old.items nodes.new.items done) }

@@ -1,6 +1,6 @@
 //! What is under way between the nodes.
 
-ghost use Rattle.std.specs.Prelude.{◌≡◌, ℕ, [], ◌++◌, OnOk};
+ghost use Rattle.std.specs.Prelude.{◌≡◌, [], ◌++◌, OnOk};
 ghost use Rattle.std.specs.List.{position};
 ghost use Rattle.run_judge.specs.Links.{is_on, next_on, flights_of};
 ghost use Rattle.run_judge.specs.Nets.{LeftBy};

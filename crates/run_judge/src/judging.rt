@@ -6,17 +6,17 @@ ghost use Rattle.run_trace.specs.Legality.{Legal, boot_entry, first_labels};
 ghost use Rattle.node_state.specs.Events.{program, StartsAligned};
 ghost use Rattle.run_judge.specs.Judged.{IsFirstFault, IsSound, Follows, BeginsAt};
 
-use crate::cluster::Cluster;
+use crate::cluster::JudgedCluster;
 use crate::labels::same_labels;
 use basics::NoMemory;
 use run_trace::{Act, Entry, Label, Program, Setup, Why};
 use rv_inst::Image;
-use slot_space::{NodeNo, SlotNo, Tid};
+use slot_space::{NodeNo, SLOT_SIZE, SLOTS_START, SlotNo, Tid};
 use std::alloc::Global;
 use trace_laws::{judged, whole};
 
 /// The end of slot 0.
-const STACK_END: u64 = 0x1_0001_0000;
+const STACK_END: u64 = SLOTS_START + SLOT_SIZE;
 
 /// The number of the first entry at which a trace isn't legal, or of its entries where a node's beginning is missing.
 /// None exactly where the trace is legal. It asks for an image whose main thread can start, as each image of a source is.
@@ -69,7 +69,7 @@ fn first_fault(
         (λ number. (number < length entries.now) × IsSound p (reverse (take number entries.now)) × (IsSound p (reverse (take (number + 1) entries.now)) → ⊥))) }
 {
     judged();
-    let mut cluster = Cluster::fresh(alloc, program.setup())?;
+    let mut cluster = JudgedCluster::fresh(alloc, program.setup())?;
     for (number, entry) in entries.iter().enumerate() {
         if !stands(program, entries, number, entry) {
             return Ok(Some(number));

@@ -3,7 +3,7 @@ use Rattle.std.proofs.Common.{List, false, length, true, ◌∷◌, ◌≡◌}
 use Rattle.run_list.specs.Names.{names_of}
 use Rattle.run_list.specs.Sorted.{IsLeast, put}
 use Rattle.run_trace.specs.Names.{tid_cmp}
-use Rattle.run_trace.specs.declared.node.Row.{Row}
+use Rattle.run_trace.specs.declared.node.ReadyRow.{ReadyRow}
 use Rattle.slot_space.specs.declared.names.Tid.{Tid}
 use Rattle.std.specs.Cmp.{IsTotalOrder}
 use Rattle.std.specs.Ordering.{is_lt}
@@ -33,5 +33,5 @@ pub tied : (a b : Tid) → tid_cmp a b ≡ Equal → a ≡ b
 tied = OfRows.tied
 
 -- there are as many names as rows
-pub names_length : (rows : List Row) → length (names_of rows) ≡ length rows
+pub names_length : (rows : List ReadyRow) → length (names_of rows) ≡ length rows
 names_length = OfRows.names_length

@@ -2,12 +2,12 @@
 use Rattle.std.proofs.Common.{◌≡◌, suc, length, true, false, Bool, List, [], ◌∷◌, ◌++◌, cond, refl, sym, ap, ◌∙◌}
 use Rattle.std.specs.Cmp.{IsTotalOrder}
 use Rattle.std.specs.declared.cmp.Ordering.TheVariants.{Equal}
-use Rattle.std.specs.Ordering.{nat_cmp, is_eq}
+use Rattle.std.specs.Ordering.{is_eq}
 use Rattle.std.proofs.lemmas.Cmp.{then_total, on_total, nat_cmp_total}
 use Rattle.slot_space.specs.declared.names.Tid.{Tid}
-use Rattle.run_trace.specs.declared.node.Row.{Row}
+use Rattle.run_trace.specs.declared.node.ReadyRow.{ReadyRow}
 use Rattle.run_trace.specs.Names.{tid_cmp, is_tid}
-use Rattle.run_trace.specs.Places.{is_listed, without_row}
+use Rattle.run_trace.specs.RunLists.{is_listed, without_row}
 use Rattle.run_list.specs.Names.{names_of}
 use Rattle.run_list.specs.Sorted.{put, without, holds, AreUp}
 use Rattle.run_trace.proofs.Lemmas.{is-true}
@@ -19,15 +19,15 @@ total = then_total (on_total (λ (t : Tid). t.home) nat_cmp_total) (on_total (λ
 pub tied : (a b : Tid) → tid_cmp a b ≡ Equal → a ≡ b
 tied a b h = is-true a b (ap is_eq h)
 
-pub names_up : (rows : List Row) → AreUp tid_cmp (names_of rows)
+pub names_up : (rows : List ReadyRow) → AreUp tid_cmp (names_of rows)
 names_up [] = tt
 names_up (r ∷ rows) = up_put tid_cmp total tied r.tid (names_of rows) (names_up rows)
 
-pub names_more : (rows : List Row) (r : Row) → names_of (rows ++ r ∷ []) ≡ put tid_cmp r.tid (names_of rows)
+pub names_more : (rows : List ReadyRow) (r : ReadyRow) → names_of (rows ++ r ∷ []) ≡ put tid_cmp r.tid (names_of rows)
 names_more [] r = refl
 names_more (x ∷ rows) r = ap (λ ns. put tid_cmp x.tid ns) (names_more rows r) ∙ put_put tid_cmp total tied x.tid r.tid (names_of rows)
 
-pub names_less : (t : Tid) (rows : List Row) → names_of (without_row t rows) ≡ without tid_cmp t (names_of rows)
+pub names_less : (t : Tid) (rows : List ReadyRow) → names_of (without_row t rows) ≡ without tid_cmp t (names_of rows)
 names_less t [] = refl
 names_less t (r ∷ rows) = by (is_tid t r.tid) refl (names_less t rows)
   where
@@ -37,10 +37,10 @@ names_less t (r ∷ rows) = by (is_tid t r.tid) refl (names_less t rows)
     by false e more = ap (λ ns. put tid_cmp r.tid ns) more
         ∙ sym (without_put tid_cmp total tied t r.tid (names_of rows) (names_up rows) ∙ ap (λ v. cond v (names_of rows) (put tid_cmp r.tid (without tid_cmp t (names_of rows)))) e)
 
-pub listed_holds : (t : Tid) (rows : List Row) → is_listed t rows ≡ holds tid_cmp t (names_of rows)
+pub listed_holds : (t : Tid) (rows : List ReadyRow) → is_listed t rows ≡ holds tid_cmp t (names_of rows)
 listed_holds t [] = refl
 listed_holds t (r ∷ rows) = ap (λ v. cond (is_tid t r.tid) true v) (listed_holds t rows) ∙ sym (holds_put tid_cmp total tied t r.tid (names_of rows))
 
-pub names_length : (rows : List Row) → length (names_of rows) ≡ length rows
+pub names_length : (rows : List ReadyRow) → length (names_of rows) ≡ length rows
 names_length [] = refl
 names_length (r ∷ rows) = put_length tid_cmp total tied r.tid (names_of rows) ∙ ap suc (names_length rows)

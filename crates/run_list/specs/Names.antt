@@ -1,10 +1,10 @@
 -- The names of the threads on a run list, in their order: by home, and then by number.
 use Rattle.std.specs.Prelude.{List, [], ◌∷◌}
 use Rattle.slot_space.specs.declared.names.Tid.{Tid}
-use Rattle.run_trace.specs.declared.node.Row.{Row}
+use Rattle.run_trace.specs.declared.node.ReadyRow.{ReadyRow}
 use Rattle.run_trace.specs.Names.{tid_cmp}
 use Rattle.run_list.specs.Sorted.{put}
 
-abbrev pub names_of : List Row → List Tid
+abbrev pub names_of : List ReadyRow → List Tid
 names_of [] = []
 names_of (r ∷ rows) = put tid_cmp r.tid (names_of rows)

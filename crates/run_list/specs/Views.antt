@@ -1,7 +1,7 @@
 -- How a run list means its definition.
 use Rattle.std.specs.Prelude.{ℕ, List}
-use Rattle.run_trace.specs.declared.node.Row.{Row}
-use Rattle.run_trace.specs.Places.{Places}
+use Rattle.run_trace.specs.declared.node.ReadyRow.{ReadyRow}
+use Rattle.run_trace.specs.RunLists.{RunLists}
 
-abbrev pub places_of : List Row → ℕ → Places
-places_of rows next = record { rows = rows; next = next }
+abbrev pub run_lists_of : List ReadyRow → ℕ → RunLists
+run_lists_of rows next = record { rows = rows; next = next }

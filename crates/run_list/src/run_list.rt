@@ -4,14 +4,14 @@ ghost use Rattle.std.specs.Prelude.{◌≡◌, ◌≤◌, ℕ, IfOk, Some, [], l
 ghost use Rattle.std.specs.List.{position};
 ghost use Rattle.run_trace.specs.Names.{is_tid};
 ghost use Rattle.run_trace.specs.Trees.{Tree};
-ghost use Rattle.run_trace.specs.Places.{arrived, without_row, taken_off, is_listed, best_on};
+ghost use Rattle.run_trace.specs.RunLists.{arrived, without_row, taken_off, is_listed, best_on};
 ghost use Rattle.run_list.specs.Names.{names_of};
 ghost use Rattle.run_list.specs.Tops.{greatest, first_of};
-ghost use Rattle.run_list.specs.Views.{places_of};
+ghost use Rattle.run_list.specs.Views.{run_lists_of};
 
 use crate::searching;
 use basics::NoMemory;
-use run_trace::Row;
+use run_trace::ReadyRow;
 use slot_space::Tid;
 use std::alloc::Global;
 use std::marker::Model;
@@ -20,7 +20,7 @@ use std::marker::Model;
 /// yet all stand on the root list.
 #[derive(Drop)]
 pub struct RunList {
-    rows: Vec<Row>,
+    rows: Vec<ReadyRow>,
     // Their names, in order.
     names: Vec<Tid>,
     next: u64,
@@ -30,20 +30,20 @@ pub struct RunList {
 
 impl Model for RunList {
     ghost use Rattle.std.specs.Prelude.{◌≡◌};
-    ghost use Rattle.run_trace.specs.Places.{Places, AreOnRoot, IsRising};
+    ghost use Rattle.run_trace.specs.RunLists.{RunLists, AreOnRoot, IsRising};
     ghost use Rattle.run_list.specs.Names.{names_of};
     ghost use Rattle.run_list.specs.Tops.{greatest};
-    ghost use Rattle.run_list.specs.Views.{places_of};
+    ghost use Rattle.run_list.specs.Views.{run_lists_of};
 
-    ghost Value = { Places };
+    ghost Value = { RunLists };
 
-    ghost view = { λ p. places_of p.rows.items p.next };
+    ghost view = { λ p. run_lists_of p.rows.items p.next };
 
-    ghost invariant = { λ p. (p.names.items ≡ names_of p.rows.items) × AreOnRoot p.rows.items × IsRising (places_of p.rows.items p.next) × (p.top ≡ greatest p.rows.items) };
+    ghost invariant = { λ p. (p.names.items ≡ names_of p.rows.items) × AreOnRoot p.rows.items × IsRising (run_lists_of p.rows.items p.next) × (p.top ≡ greatest p.rows.items) };
 }
 
 // Where the first row of the thread stands.
-fn place_of(rows: &[Row], t: Tid) -> Option<usize>
+fn place_of(rows: &[ReadyRow], t: Tid) -> Option<usize>
     ensures { result ≡ position (λ r. is_tid t r.tid) rows.now }
 {
     rows.iter().position(|r| t.cmp(&r.tid).is_eq())
@@ -51,7 +51,7 @@ fn place_of(rows: &[Row], t: Tid) -> Option<usize>
 
 // The first row of the thread goes.
 #[tactic(auto, using(crate::proofs::Rows::places))]
-fn row_out(rows: &mut Vec<Row>, t: Tid)
+fn row_out(rows: &mut Vec<ReadyRow>, t: Tid)
     ensures { rows.new.items ≡ without_row t rows.old.items }
 {
     match place_of(rows, t) {
@@ -63,7 +63,7 @@ fn row_out(rows: &mut Vec<Row>, t: Tid)
 }
 
 // The first row of this priority.
-fn first_of(rows: &[Row], priority: u8) -> Option<Row>
+fn first_of(rows: &[ReadyRow], priority: u8) -> Option<ReadyRow>
     ensures { result ≡ first_of priority rows.now }
 {
     for row in rows {
@@ -75,7 +75,7 @@ fn first_of(rows: &[Row], priority: u8) -> Option<Row>
 }
 
 // The greatest priority of these rows.
-fn greatest(rows: &[Row]) -> u8
+fn greatest(rows: &[ReadyRow]) -> u8
     ensures { result ≡ greatest rows.now }
 {
     let mut top = 0;
@@ -86,7 +86,7 @@ fn greatest(rows: &[Row]) -> u8
 }
 
 // The greatest priority of what is left of rows that had none above this one.
-fn top_of(rows: &[Row], top: u8) -> u8
+fn top_of(rows: &[ReadyRow], top: u8) -> u8
     requires { greatest rows.now ≤ top }
     ensures { result ≡ greatest rows.now }
 {
@@ -99,7 +99,7 @@ fn top_of(rows: &[Row], top: u8) -> u8
 impl RunList {
     /// Nobody can run.
     pub fn new(alloc: Global) -> RunList
-        ensures { result ≡ places_of [] 0 }
+        ensures { result ≡ run_lists_of [] 0 }
     {
         RunList {
             rows: Vec::new(alloc),
@@ -119,7 +119,7 @@ impl RunList {
         };
         self.rows.reserve(1)?;
         searching::put(&mut self.names, &t)?;
-        self.rows.push_reserved(Row {
+        self.rows.push_reserved(ReadyRow {
             tid: t,
             list: 0,
             priority,
@@ -163,7 +163,7 @@ impl RunList {
 
     /// The row that is picked, on whatever processor of whatever tree.
     #[tactic(auto, using(run_trace::proofs::Lemmas::on_root))]
-    pub fn best(&self) -> Option<Row>
+    pub fn best(&self) -> Option<ReadyRow>
         ensures { (tree : Tree) (vp : ℕ) → result ≡ best_on tree vp self.now.rows }
     {
         first_of(&self.rows, self.top)

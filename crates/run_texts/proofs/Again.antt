@@ -25,6 +25,7 @@ use Rattle.run_texts.proofs.Words.{AreWords, IsWord, apart-append, decimal_digit
 -- ---- numbers
 
 number_of_text : (low below n : ℕ) (text : Text) → is_filled text ≡ true → length text ≤ 10 → AreDigits text → digits_value 10 text ≡ n → low ≤ n → n < below → number_in low below text ≡ Some n
+unfolding number_in
 number_of_text low below n text some few digits value least most =
     let short : nat_le (length text) 10 ≡ true = grind (arith, nat_tests) in
     let number : is_number text ≡ true = rw (some, short) digits in
@@ -72,6 +73,7 @@ after_dot w rest h = rw (place_behind w rest h) (drop-append-add w (46 ∷ rest)
 
 tid_of_parts : (nodes home seq : ℕ) (text h s : Text) → before_first is_dot text ≡ h → after_first is_dot text ≡ s → number_in 0 nodes h ≡ Some home → number_in 0 (2 ^ 32) s ≡ Some seq
     → tid_in nodes text ≡ Some (record { home = home; seq = seq })
+unfolding tid_in
 tid_of_parts nodes home seq text h s eh es home_is seq_is = rw (eh, es, home_is, seq_is) refl
 
 tid_again : (nodes : ℕ) (t : Tid) → nodes ≤ 8 → t.home < nodes → t.seq < 2 ^ 32 → tid_in nodes (tid_text t) ≡ Some t
@@ -131,6 +133,7 @@ Rest nodes rest more = (line n : ℕ) → n + length (more line) ≤ 1000000 →
 
 one_act : (nodes line n node : ℕ) (a : Act) (rest : Text) (more : ℕ → List Scheduled) → nodes ≤ 8 → node < nodes → IsInRange nodes node a → n + length (at_line line node a more) ≤ 1000000 → Rest nodes rest more
     → acts_from nodes line n (lines_of (line_or_nothing (act_words node a) ++ rest)) ≡ Ok (at_line line node a more)
+unfolding act_words
 one_act nodes line n node act.Boot rest more few here fit all behind = behind line n all
 one_act nodes line n node (act.Run vp quantum) rest more few here fit all behind =
     let at_node = number_again 0 nodes node (omega arith) here (omega arith) in

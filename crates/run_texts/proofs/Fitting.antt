@@ -41,6 +41,7 @@ in_bounds low below n = by (nat_le low n) (nat_lt n below) refl refl
     by false w e f = tt
 
 number_bounds : (low below : ℕ) (text : Text) → IfSome (number_in low below text) (λ m. (low ≤ m) × (m < below))
+unfolding number_in
 number_bounds low below text = by (is_number text)
   where
     by : (v : Bool) → IfSome (cond v (within low below (digits_value 10 text)) None) (λ m. (low ≤ m) × (m < below))

@@ -16,7 +16,7 @@ abbrev pub node_in : ℕ → Text → Option ℕ
 node_in nodes text = number_in 0 nodes text
 
 -- `HOME.SEQ`; a dot is 46
-abbrev pub tid_in : ℕ → Text → Option Tid
+unfoldable pub tid_in : ℕ → Text → Option Tid
 tid_in nodes text =
     option_and_then (λ home. option_map (λ seq. record { home = home; seq = seq }) (number_in 0 (2 ^ 32) (after_first (λ b. b == 46) text)))
     (node_in nodes (before_first (λ b. b == 46) text))

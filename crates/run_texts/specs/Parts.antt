@@ -39,5 +39,5 @@ abbrev pub within : ℕ → ℕ → ℕ → Option ℕ
 within low below n = if nat_le low n && nat_lt n below then Some n else None
 
 -- the number that one to ten digits write, where it is at least `low` and less than `below`
-abbrev pub number_in : ℕ → ℕ → Text → Option ℕ
+unfoldable pub number_in : ℕ → ℕ → Text → Option ℕ
 number_in low below text = if is_number text then within low below (digits_value 10 text) else None

@@ -9,7 +9,7 @@ abbrev pub cells : ℕ → ℕ
 cells job = 1 + job % 50
 
 -- in a line of a job, I stands for its number, C for its cells and D for their bytes
-abbrev pub filled : ℕ → ℕ → Text
+unfoldable pub filled : ℕ → ℕ → Text
 filled job letter =
     if letter == 73 then decimal job
     else (if letter == 67 then decimal (cells job)

@@ -10,7 +10,7 @@ use Rattle.run_texts.specs.declared.schedule.Scheduled.{Scheduled}
 use Rattle.run_texts.specs.Parts.{Text}
 
 -- the words of an act on this node; a node's beginning has none
-abbrev pub act_words : ℕ → Act → List Text
+unfoldable pub act_words : ℕ → Act → List Text
 act_words node act.Boot = []
 act_words node (act.Run vp quantum) = codes "run" ∷ decimal node ∷ decimal vp ∷ decimal quantum ∷ []
 act_words node (act.Take sender) = codes "take" ∷ decimal node ∷ decimal sender ∷ []

@@ -23,11 +23,14 @@ pub(crate) enum Said {
 fn node_in(nodes: u8, text: &[u8]) -> Option<NodeNo>
     ensures { result ≡ node_in nodes text.now }
 {
-    let node = number_in(0, nodes as u64, text)?;
+    let Some(node) = number_in(0, nodes as u64, text) else {
+        return None
+    };
     Some(NodeNo(node as u8))
 }
 
 /// A thread's name.
+#[tactic(auto, unfolding(crate::specs::Acts::tid_in, crate::specs::Parts::number_in))]
 fn tid_in(nodes: u8, text: &[u8]) -> Option<Tid>
     ensures { result ≡ tid_in nodes text.now }
 {
@@ -35,8 +38,12 @@ fn tid_in(nodes: u8, text: &[u8]) -> Option<Tid>
     if dot == text.len() {
         return None;
     }
-    let home = node_in(nodes, &text[..dot])?;
-    let seq = number_in(0, 0x1_0000_0000, &text[dot + 1..])?;
+    let Some(home) = node_in(nodes, &text[..dot]) else {
+        return None
+    };
+    let Some(seq) = number_in(0, 0x1_0000_0000, &text[dot + 1..]) else {
+        return None
+    };
     Some(Tid {
         home,
         seq: seq as u32,
@@ -47,13 +54,21 @@ fn tid_in(nodes: u8, text: &[u8]) -> Option<Tid>
 fn run_in(words: &[u8]) -> Option<Act>
     ensures { result ≡ run_in (words_of words.now) }
 {
-    let (vp, rest) = next_word(words)?;
-    let (quantum, rest) = next_word(rest)?;
+    let Some((vp, rest)) = next_word(words) else {
+        return None
+    };
+    let Some((quantum, rest)) = next_word(rest) else {
+        return None
+    };
     if next_word(rest).is_some() {
         return None;
     }
-    let vp = number_in(0, 1, vp)?;
-    let quantum = number_in(1, 65537, quantum)?;
+    let Some(vp) = number_in(0, 1, vp) else {
+        return None
+    };
+    let Some(quantum) = number_in(1, 65537, quantum) else {
+        return None
+    };
     Some(Act::Run(vp as u8, quantum as u32))
 }
 
@@ -61,11 +76,15 @@ fn run_in(words: &[u8]) -> Option<Act>
 fn take_in(nodes: u8, words: &[u8]) -> Option<Act>
     ensures { result ≡ take_in nodes (words_of words.now) }
 {
-    let (sender, rest) = next_word(words)?;
+    let Some((sender, rest)) = next_word(words) else {
+        return None
+    };
     if next_word(rest).is_some() {
         return None;
     }
-    let sender = node_in(nodes, sender)?;
+    let Some(sender) = node_in(nodes, sender) else {
+        return None
+    };
     Some(Act::Take(sender))
 }
 
@@ -73,13 +92,21 @@ fn take_in(nodes: u8, words: &[u8]) -> Option<Act>
 fn move_in(nodes: u8, node: NodeNo, words: &[u8]) -> Option<Act>
     ensures { result ≡ move_in nodes node (words_of words.now) }
 {
-    let (t, rest) = next_word(words)?;
-    let (to, rest) = next_word(rest)?;
+    let Some((t, rest)) = next_word(words) else {
+        return None
+    };
+    let Some((to, rest)) = next_word(rest) else {
+        return None
+    };
     if next_word(rest).is_some() {
         return None;
     }
-    let t = tid_in(nodes, t)?;
-    let to = node_in(nodes, to)?;
+    let Some(t) = tid_in(nodes, t) else {
+        return None
+    };
+    let Some(to) = node_in(nodes, to) else {
+        return None
+    };
     if to.0 == node.0 {
         None
     } else {

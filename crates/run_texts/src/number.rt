@@ -25,6 +25,7 @@ fn value_of(digits: &[u8]) -> u64
 }
 
 /// The number that one to ten digits write, where it is at least `low` and less than `below`.
+#[tactic(auto, unfolding(crate::specs::Parts::number_in))]
 pub(crate) fn number_in(low: u64, below: u64, text: &[u8]) -> Option<u64>
     ensures value { result ≡ number_in low below text.now }
     ensures range { IfSome result (λ n. (low ≤ n) × (n < below)) }

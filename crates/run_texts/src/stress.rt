@@ -83,6 +83,7 @@ fn cells(job: u32) -> u64
 }
 
 /// Appends what a letter stands for in a line of a job.
+#[tactic(auto, unfolding(crate::specs::Stress::filled))]
 fn push_letter(out: &mut Vec<u8>, job: u32, letter: u8) -> Result<(), AllocError>
     ensures { OnOk result (out.new.items ≡ out.old.items ++ filled job letter) }
 {

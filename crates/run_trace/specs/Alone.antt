@@ -1,4 +1,5 @@
--- A thread by its own labels, and a service by its caller's call too: its code run alone in its own memory, with the replies that it was told.
+-- A thread, as its own labels tell it, and of a service its caller's call too: its code run alone in its own memory, with the replies that
+-- it was told.
 use Rattle.std.specs.Prelude.{◌≡◌, List, [], ◌∷◌, Option, Some, None, Bool, false, if◌then◌else◌}
 use Rattle.slot_space.specs.declared.names.Tid.{Tid}
 use Rattle.run_trace.specs.declared.entry.Entry.{Entry}
@@ -14,7 +15,7 @@ use Rattle.run_trace.specs.declared.call.Call.TheVariants.{Isomalloc, Isofree}
 use Rattle.run_trace.specs.Calls.{call_of, refusal}
 use Rattle.run_trace.specs.Guests.{Solo, Guest, newborn, with_bytes, with_zero_slots, without_slots, heap_of}
 use Rattle.run_trace.specs.Cluster.{Net}
-use Rattle.run_trace.specs.Holding.{Place, IsAt}
+use Rattle.run_trace.specs.Holding.{Location, IsAt}
 use Rattle.run_trace.specs.Spots.{Remote, remote_after, stack_bytes, Response, no_response, stepped, told_state, Life, On, Served, Spot, unborn}
 use Rattle.run_trace.specs.Items.{Subject, Thread, subject}
 
@@ -43,7 +44,7 @@ heap_call (Isomalloc len) = Some (Isomalloc len)
 heap_call (Isofree address) = Some (Isofree address)
 heap_call _ = None
 
--- where no check of it fails
+-- the call, where no check of it fails
 abbrev pub unless_refused : Option Reply → Option Call → Option Call
 unless_refused None asked = asked
 unless_refused (Some reply) asked = None
@@ -90,4 +91,4 @@ alone_of p t (x ∷ xs) = alone_after p (remote_of xs) t x.labels (alone_of p t 
 
 -- each thread, on whatever node it is, and on its way too, has the registers, the bytes and the blocks of its code run alone
 abbrev pub EachRunsAlone : Program → Net → List Entry → Type 0
-EachRunsAlone p net lines = (t : Tid) (place : Place) (g : Guest) → IsAt net place t g → g.solo ≡ (alone_of p t lines).solo
+EachRunsAlone p net trace = (t : Tid) (place : Location) (g : Guest) → IsAt net place t g → g.solo ≡ (alone_of p t trace).solo

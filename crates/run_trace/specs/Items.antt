@@ -33,7 +33,7 @@ is_busy n (On m Showing) = 0 == n
 is_busy n (On m (Answers h reply second)) = h == n
 is_busy n _ = false
 
--- what an entry may have something to do for
+-- for whom an entry may have something to do
 pub data Subject : Type 0 where
   Thread : (t : Tid) → Subject
 
@@ -61,7 +61,7 @@ subject (Shown t) = Some (Thread t)
 subject (Halted t) = Some (Thread t)
 subject _ = None
 
--- who does what it says: of a birth the creator
+-- who does what the label says: at a birth the creator
 abbrev pub doer : Label → Option Subject
 doer (Born t why.Main entry a0 a1 sp slot) = None
 doer (Born t (why.Create by) entry a0 a1 sp slot) = Some (Thread by)

@@ -1,5 +1,5 @@
 -- A legal trace, newest entry first: it is in order, begins with the nodes' beginnings, its rounds never fall, and it keeps the
--- rules, which speak of labels alone. So it is what the machine does; and what that says of nodes and links stands beside.
+-- rules, which speak of labels alone. So it is what the machine does; what that says of nodes and links stands beside the rules.
 use Rattle.std.specs.Prelude.{◌≡◌, ◌≤◌, ◌⊎◌, ℕ, zero, suc, List, [], ◌∷◌, ◌++◌, ◌==◌, if◌then◌else◌, map, ⊤}
 use Rattle.run_trace.specs.declared.entry.Act.TheVariants.{Boot}
 use Rattle.run_trace.specs.declared.entry.Entry.{Entry}
@@ -33,7 +33,7 @@ boot_entries p (suc n) = boot_entry p n ∷ boot_entries p n
 
 -- it is empty, or its oldest entries are the beginnings of all nodes
 abbrev pub Begins : Program → List Entry → Type 0
-Begins p lines = (lines ≡ []) ⊎ ((later : List Entry) × (lines ≡ later ++ boot_entries p (nodes_of p)))
+Begins p trace = (trace ≡ []) ⊎ ((later : List Entry) × (trace ≡ later ++ boot_entries p (nodes_of p)))
 
 abbrev pub NoneAbove : ℕ → List Entry → Type 0
 NoneAbove round [] = ⊤
@@ -52,22 +52,22 @@ AfterEach P p (x ∷ xs) = AfterEach P p xs × P (net_after_trace p (fresh_net p
 -- nodes and links are exactly what the labels tell
 pub record IsTold (p : Program) (w : World) (net : Net) : Type 0 where
   pub stands : Stands p w.spots net
-  pub lists : (n : ℕ) → map listed (net.nodes n).places.rows ≡ w.lists n
+  pub lists : (n : ℕ) → map listed (net.nodes n).run_lists.rows ≡ w.lists n
   pub links : (i j : ℕ) → net.links i j ≡ w.links i j
   pub begun : (n : ℕ) → (net.nodes n).booted ≡ w.begun n
 
-pub record Legal (p : Program) (lines : List Entry) : Type 0 where
+pub record Legal (p : Program) (trace : List Entry) : Type 0 where
   -- it is a trace
-  pub order : IsInOrder lines
-  pub begins : Begins p lines
-  pub rounds : AreRising lines
+  pub order : IsInOrder trace
+  pub begins : Begins p trace
+  pub rounds : AreRising trace
   -- each entry is what its act and the entries before it allow, by the labels alone; there is no other
-  pub rules : KeepsRules p (first_world p) lines
+  pub rules : KeepsRules p (first_world p) trace
   -- the cluster can make it, and does nothing else
-  pub runs : IsRun p (fresh_net p) lines
+  pub runs : IsRun p (fresh_net p) trace
   -- after each entry nodes and links are exactly what the labels tell
-  pub stands : AfterEach (λ net xs. IsTold p (world_of p (first_world p) xs) net) p lines
+  pub stands : AfterEach (λ net xs. IsTold p (world_of p (first_world p) xs) net) p trace
   -- each thread's registers, bytes and blocks are those of its code run alone with the replies that it was told, wherever it is
-  pub alone : AfterEach (EachRunsAlone p) p lines
+  pub alone : AfterEach (EachRunsAlone p) p trace
   -- no slot has two holders, through births, grants, moves and ends
-  pub one_holder : AfterEach (λ net xs. EachHeldOnce net) p lines
+  pub one_holder : AfterEach (λ net xs. EachHeldOnce net) p trace

@@ -3,7 +3,7 @@ pub mod Trees
 pub mod Program
 pub mod Guests
 pub mod Calls
-pub mod Places
+pub mod RunLists
 pub mod Local
 pub mod Steps
 pub mod Machine

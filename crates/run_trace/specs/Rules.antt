@@ -122,7 +122,7 @@ abbrev pub MayKnow : Life → Type 0
 MayKnow (Noting m end) = ⊤
 MayKnow _ = ⊥
 
--- the joiner that is answered then awaits this end
+-- the joiner that is to be answered awaits this end
 abbrev pub JoinerAwaits : Tid → Option (Tid × ℕ) → Spots → Type 0
 JoinerAwaits t None w = ⊤
 JoinerAwaits t (Some by) w = (w.threads by.0).life ≡ On by.1 (Awaits t)
@@ -147,9 +147,8 @@ LifeRule p o n _ w = ⊥
 
 -- ## Replies: each is the library's
 
--- what a call comes to that its node does: create is answered Full here, since its birth makes the new name due; isomalloc is
--- answered the place of its block; isofree is answered 0 once no slot is left to be given; migrate_self is answered 0 before it
--- leaves
+-- the reply of a call that its node serves: to create it is Full, since where there is a slot the birth makes the new name due; to
+-- isomalloc the place of its block; to isofree 0, once no slot is left to be given; to migrate_self 0, before the thread leaves
 abbrev pub IsServed : Call → Guest → ℕ → Type 0
 IsServed (Create entry argument priority) g reply = reply ≡ reply_code replies.Full
 IsServed (Isomalloc len) g reply = reply ≡ place_code (place (heap_of g.solo) (rounded len))

@@ -112,7 +112,7 @@ IsUpTo before next life lines = lines ≡ before
 
 -- thread t has written these lines, and the next one too where its print is shown and hasn't returned yet
 abbrev pub HasWritten : Program → List Entry → Tid → List (List ℕ) → List ℕ → Type 0
-HasWritten p lines t before next = IsUpTo before next ((spots_of p (at_first p) lines).threads t).life (written p t lines)
+HasWritten p trace t before next = IsUpTo before next ((spots_of p (at_first p) trace).threads t).life (written p t trace)
 
 -- ## Ends
 

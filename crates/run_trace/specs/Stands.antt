@@ -14,14 +14,14 @@ use Rattle.run_trace.specs.declared.label.Extra.TheVariants.{Nothing}
 use Rattle.run_trace.specs.declared.packet.Body.{Body}
 use Rattle.run_trace.specs.declared.packet.Body.TheVariants.{Mover, Show, ShowDone, JoinAsk, Answer, EndNote}
 use Rattle.run_trace.specs.declared.packet.Packet.{Packet}
-use Rattle.run_trace.specs.declared.node.Row.{Row}
+use Rattle.run_trace.specs.declared.node.ReadyRow.{ReadyRow}
 use Rattle.run_trace.specs.declared.node.Wait.{Wait}
 use Rattle.run_trace.specs.declared.node.Wait.TheVariants as wait
 use Rattle.run_trace.specs.Names.{is_tid, tid}
 use Rattle.run_trace.specs.Program.{Program, nodes_of}
 use Rattle.run_trace.specs.Guests.{Guest, Thread, waits, guest_slots, packed}
 use Rattle.run_trace.specs.Local.{Local}
-use Rattle.run_trace.specs.Places.{IsRising}
+use Rattle.run_trace.specs.RunLists.{IsRising}
 use Rattle.run_trace.specs.Calls.{extra_of}
 use Rattle.run_trace.specs.Cluster.{Net}
 use Rattle.run_trace.specs.Keyed.{about, StandsFor, MapStandsFor}
@@ -61,7 +61,7 @@ thread_part n t s = thread_in_life n s.life s.guest
 abbrev pub listed_name : Listed → Tid
 listed_name x = x.tid
 
-abbrev pub listed : Row → Listed
+abbrev pub listed : ReadyRow → Listed
 listed r = record { tid = r.tid; list = r.list; priority = r.priority }
 
 abbrev pub row_in_stage : Tid → Stage → ℕ → Option Listed
@@ -158,10 +158,10 @@ link_part i j (Thread_of t) w = on_link i j (ways_of t (w t).life (w t).verdict 
 -- node n in the state s, busy with these
 pub record Here (n : ℕ) (w : Spots) (s : Local) (hand : List Busy) : Type 0 where
   pub threads : MapStandsFor is_tid (thread_part n) s.threads w.threads
-  pub rows : StandsFor is_tid listed_name (row_part n) (map listed s.places.rows) w.threads
+  pub rows : StandsFor is_tid listed_name (row_part n) (map listed s.run_lists.rows) w.threads
   pub busy : StandsFor is_tid busy_name (busy_part n) hand w.threads
-  pub names : s.names ≡ w.births n
-  pub own : (x : ℕ) → has x s.slots.own ≡ is_free n (w.slots x)
+  pub births : s.births ≡ w.births n
+  pub free : (x : ℕ) → has x s.slots.free ≡ is_free n (w.slots x)
   pub halted : s.halted ≡ w.halts n
 
 -- what a home knows of a life
@@ -198,7 +198,7 @@ pub record Holding : Type 0 where
 abbrev pub holding_of : Guest → Holding
 holding_of g = record { slots = guest_slots g; stack = g.solo.stack; live = g.solo.live }
 
--- a block that is being freed counts no longer
+-- a block that is being freed no longer counts
 abbrev pub kept_by : Call → List (ℕ × ℕ) → List (ℕ × ℕ)
 kept_by (Isofree address) live = without live address
 kept_by _ live = live
@@ -208,7 +208,7 @@ held_in_stage (Leaves end) g = None
 held_in_stage (Served c) g = Some (record (holding_of g) { live = kept_by c g.solo.live })
 held_in_stage _ g = Some (holding_of g)
 
--- None where it holds nothing
+-- what a thread holds in this life; None where it holds nothing
 abbrev pub held : Life → Guest → Option Holding
 held (On n stage) g = held_in_stage stage g
 held (Moving n to) g = Some (holding_of g)
@@ -242,4 +242,4 @@ pub record Stands (p : Program) (w : Spots) (net : Net) : Type 0 where
   pub nodes : (n : ℕ) → Here n w (net.nodes n) []
   pub links : (i j : ℕ) (s : Subject) → words_about (words_of j (net.links i j)) s ≡ link_part i j s w.threads
   pub agrees : Agrees p w
-  pub rising : (n : ℕ) → IsRising (net.nodes n).places
+  pub rising : (n : ℕ) → IsRising (net.nodes n).run_lists

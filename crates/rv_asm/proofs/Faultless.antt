@@ -12,13 +12,13 @@ use Rattle.asm_text.specs.declared.statements.Width.{Width}
 use Rattle.asm_text.specs.declared.statements.Width.TheVariants.{Byte, Word, Dword}
 use Rattle.asm_text.specs.Statements.{StatementOf, plain, branch, jump, load_number, load_address, values, bytes, align, service, nothing}
 use Rattle.asm_text.specs.Lines.{LineOf}
-use Rattle.rv_asm.specs.declared.labels.Mark.{Mark}
+use Rattle.asm_targets.specs.declared.labels.Mark.{Mark}
 use Rattle.rv_asm.specs.declared.error.AsmError.{AsmError}
 use Rattle.rv_asm.specs.declared.error.AsmError.TheVariants.{BadLine, Twice, Unknown, FarTarget}
 use Rattle.asm_text.specs.declared.slots.What.TheVariants.{Place}
-use Rattle.rv_asm.specs.Labels.{ServiceOf}
-use Rattle.rv_asm.specs.Expansions as expansions
-use Rattle.rv_asm.specs.Expansions.{code, inst_bytes, offset_to, branch_reach, jump_reach}
+use Rattle.asm_targets.specs.Labels.{ServiceOf}
+use Rattle.asm_targets.specs.Expansions as expansions
+use Rattle.asm_targets.specs.Expansions.{code, inst_bytes, offset_to, branch_reach, jump_reach}
 use Rattle.rv_asm.specs.Layout.{width_len, padding, size_at, line_size, statement_in, service_by, service_among, end_of}
 use Rattle.rv_asm.specs.Faults.{Labels, Services, is_odd_place, is_misplaced, is_unknown, is_beyond, is_far, label_is_given, service_is_given, label_fault, statement_fault, line_fault, first_fault}
 use Rattle.rv_asm.specs.Bytes.{address_of, bytes_of_width, number_of_value, offset_bytes, statement_bytes, line_bytes, all_bytes}

@@ -29,7 +29,7 @@ module _ (labels : Labels) (services : Services) (lines : List (Result LineOf Wh
   is_image main end e h bytes table b t =
       rw (le-ltb limit (length (image_bytes labels lines)) (omega (arith, image_len)), b, t) refl
 
-  pub bytes_fit : (end : ℕ) → end ≡ end_of base lines → end - image_start ≤ limit → (bytes : List ℕ) → bytes ≡ filled (image_bytes labels lines) → length bytes ≤ 2 ^ 20
+  pub bytes_fit : (end : ℕ) → end ≡ end_of base lines → end - image_start ≤ limit → (bytes : List ℕ) → bytes ≡ filled (image_bytes labels lines) → length bytes ≤ limit
   bytes_fit end e h bytes b =
       let n : ℕ = length (image_bytes labels lines) in
       omega (arith, ap length b, length-append (image_bytes labels lines) (replicate ((4 - n % 4) % 4) 0), length-replicate {A = ℕ} ((4 - n % 4) % 4) 0, image_len)

@@ -1,5 +1,3 @@
-pub mod Kept
-pub mod Loads
 pub mod Rest
 pub mod Services
 pub mod Faultless

@@ -3,7 +3,7 @@ use Rattle.std.proofs.Common.{◌≡◌, ℕ, ◌+◌, ◌%◌, ◌≤◌, true,
 use Rattle.std.specs.Option.{option_map_or}
 use Rattle.asm_text.specs.declared.slots.What.{What}
 use Rattle.asm_text.specs.Lines.{LineOf}
-use Rattle.rv_asm.specs.declared.labels.Mark.{Mark}
+use Rattle.asm_targets.specs.declared.labels.Mark.{Mark}
 use Rattle.rv_asm.specs.Layout.{line_size, end_of, gives_label, label_among}
 use Rattle.rv_asm.specs.Faults.{Labels}
 use Rattle.rv_asm.specs.Bytes.{address_of}

@@ -1,6 +1,6 @@
 -- How far a pass over the lines has come.
 use Rattle.std.proofs.Common.{◌≡◌, ℕ, ◌+◌, ◌*◌, ◌^◌, ◌≤◌}
-use Rattle.rv_asm.specs.declared.labels.Mark.{Mark}
+use Rattle.asm_targets.specs.declared.labels.Mark.{Mark}
 use Rattle.rv_asm.specs.Layout.{base}
 
 -- how many lines stand before this place

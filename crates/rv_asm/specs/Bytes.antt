@@ -10,11 +10,11 @@ use Rattle.asm_text.specs.declared.statements.Width.{Width}
 use Rattle.asm_text.specs.declared.statements.Width.TheVariants.{Byte, Word, Dword}
 use Rattle.asm_text.specs.Statements.{ValueOf, bits, address, StatementOf, plain, branch, jump, load_number, load_address, values, bytes, align, service, nothing}
 use Rattle.asm_text.specs.Lines.{LineOf}
-use Rattle.rv_asm.specs.declared.labels.Mark.{Mark}
+use Rattle.asm_targets.specs.declared.labels.Mark.{Mark}
 use Rattle.rv_asm.specs.Layout.{line_size, padding, statement_in}
 use Rattle.rv_asm.specs.Faults.{Labels}
-use Rattle.rv_asm.specs.Expansions as expansions
-use Rattle.rv_asm.specs.Expansions.{code, offset_to, branch_reach, jump_reach}
+use Rattle.asm_targets.specs.Expansions as expansions
+use Rattle.asm_targets.specs.Expansions.{code, offset_to, branch_reach, jump_reach}
 
 -- the address of a label that stands
 abbrev pub address_of : Labels → List ℕ → ℕ

@@ -6,12 +6,12 @@ use Rattle.asm_text.specs.declared.slots.What.{What}
 use Rattle.asm_text.specs.declared.slots.What.TheVariants.{Place}
 use Rattle.asm_text.specs.Statements.{ValueOf, bits, address, StatementOf, branch, jump, load_address, values, bytes, align, service, nothing}
 use Rattle.asm_text.specs.Lines.{LineOf}
-use Rattle.rv_asm.specs.declared.labels.Mark.{Mark}
+use Rattle.asm_targets.specs.declared.labels.Mark.{Mark}
 use Rattle.rv_asm.specs.declared.error.AsmError.{AsmError}
 use Rattle.rv_asm.specs.declared.error.AsmError.TheVariants.{BadLine, Twice, Unknown, FarTarget}
-use Rattle.rv_asm.specs.Labels.{ServiceOf}
+use Rattle.asm_targets.specs.Labels.{ServiceOf}
 use Rattle.rv_asm.specs.Layout.{line_size}
-use Rattle.rv_asm.specs.Expansions.{offset_to, branch_reach, jump_reach}
+use Rattle.asm_targets.specs.Expansions.{offset_to, branch_reach, jump_reach}
 
 -- where each label and each service is given first
 abbrev pub Labels : Type 0

@@ -5,7 +5,7 @@ use Rattle.std.specs.List.{filter_map, range_with_len}
 use Rattle.rv_inst.specs.declared.image.Image.{Image}
 use Rattle.asm_text.specs.declared.slots.What.{What}
 use Rattle.asm_text.specs.Lines.{LineOf, said}
-use Rattle.rv_asm.specs.declared.labels.Mark.{Mark}
+use Rattle.asm_targets.specs.declared.labels.Mark.{Mark}
 use Rattle.rv_asm.specs.declared.error.AsmError.{AsmError}
 use Rattle.rv_asm.specs.declared.error.AsmError.TheVariants.{NoMain, TooLong, NoMemory}
 use Rattle.rv_asm.specs.Layout.{base, limit, label_among, service_among}

@@ -2,7 +2,7 @@
 use Rattle.std.specs.Prelude.{ℕ, ◌+◌, ◌-◌, ◌*◌, ◌%◌, ◌^◌, ◌≤◌, Bool, false, ◌==◌, List, [], ◌∷◌, length, All, Option, Some, None, Result, Ok, Err, if◌then◌else◌}
 use Rattle.std.specs.Option.{option_map_or, option_or}
 use Rattle.std.specs.Str.{bytes_eq}
-use Rattle.rv_inst.specs.Image.{image_start}
+use Rattle.rv_inst.specs.Image.{image_limit, image_start}
 use Rattle.asm_text.specs.declared.slots.What.{What}
 use Rattle.asm_text.specs.declared.reading.Line.{Line}
 use Rattle.asm_text.specs.declared.statements.Width.{Width}
@@ -10,9 +10,9 @@ use Rattle.asm_text.specs.declared.statements.Width.TheVariants.{Byte, Word, Dwo
 use Rattle.asm_text.specs.Slots.{seen}
 use Rattle.asm_text.specs.Statements.{StatementOf, plain, branch, jump, load_number, load_address, values, bytes, align, service, nothing}
 use Rattle.asm_text.specs.Lines.{LineOf, line_seen, HasSound}
-use Rattle.rv_asm.specs.declared.labels.Mark.{Mark}
-use Rattle.rv_asm.specs.Labels.{ServiceOf}
-use Rattle.rv_asm.specs.Expansions as expansions
+use Rattle.asm_targets.specs.declared.labels.Mark.{Mark}
+use Rattle.asm_targets.specs.Labels.{ServiceOf}
+use Rattle.asm_targets.specs.Expansions as expansions
 
 -- where the first line stands: behind the stub
 abbrev pub base : ℕ
@@ -20,7 +20,7 @@ base = image_start + 8
 
 -- the most bytes of a source and of an image
 abbrev pub limit : ℕ
-limit = 2 ^ 20
+limit = image_limit
 
 -- few enough lines, each with data that a source has room for
 pub record IsReadable (readings : List (Result Line What)) : Type 0 where

@@ -1,5 +1,3 @@
-pub mod Expansions
-pub mod Labels
 pub mod Layout
 pub mod Faults
 pub mod Bytes

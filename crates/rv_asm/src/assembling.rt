@@ -6,7 +6,7 @@ ghost use Rattle.rv_inst.specs.Image.{IsWellFormed};
 ghost use Rattle.asm_list.specs.Listing.{HasShortAddresses};
 ghost use Rattle.asm_text.specs.Slots.{seen};
 ghost use Rattle.asm_text.specs.Lines.{line_seen};
-ghost use Rattle.rv_asm.specs.Labels.{mark_in, service_in, service_seen};
+ghost use Rattle.asm_targets.specs.Labels.{mark_in, service_in, service_seen};
 ghost use Rattle.rv_asm.specs.Layout.{IsReadable, base, limit, end_of, label_among, service_among};
 ghost use Rattle.rv_asm.specs.Faults.{first_fault};
 ghost use Rattle.rv_asm.specs.Bytes.{all_bytes, address_of};
@@ -15,15 +15,15 @@ ghost use Rattle.rv_asm.specs.Images.{stub, filled, service_row, services_below,
 use crate::emitting::{address_of, push_lines};
 use crate::error::AsmError;
 use crate::faults::first_fault;
-use crate::labels::{Labels, Mark, Services, mark_in, service_in};
 use crate::layout::{end_of, labels_of, services_of};
+use asm_targets::{Labels, Mark, Services, mark_in, service_in};
 use asm_text::{Reading, read_source};
 use basics::Items;
-use rv_inst::{IMAGE_START, Image};
+use rv_inst::{IMAGE_LIMIT, IMAGE_START, Image};
 use std::alloc::{AllocError, Global};
 
 /// The most bytes of a source and of an image.
-const LIMIT: u64 = 0x10_0000;
+const LIMIT: u64 = IMAGE_LIMIT;
 
 /// `addi a7, x0, 1` and `ecall`.
 const STUB: [u8; 8] = [0x93, 0x08, 0x10, 0x00, 0x73, 0x00, 0x00, 0x00];

@@ -6,15 +6,16 @@ ghost use Rattle.rv_inst.specs.declared.inst.Inst.TheVariants.{Branch, Jal};
 ghost use Rattle.asm_text.specs.Slots.{seen};
 ghost use Rattle.asm_text.specs.Statements.{value_seen, statement_seen, IsSound};
 ghost use Rattle.asm_text.specs.Lines.{line_seen, HasSound};
-ghost use Rattle.rv_asm.specs.Labels.{mark_in};
+ghost use Rattle.asm_targets.specs.Labels.{mark_in};
 ghost use Rattle.rv_asm.specs.Layout.{IsReadable, base, limit};
-ghost use Rattle.rv_asm.specs.Expansions.{branch_reach, jump_reach};
+ghost use Rattle.asm_targets.specs.Expansions.{branch_reach, jump_reach};
 ghost use Rattle.rv_asm.specs.Bytes.{address_of, bytes_of_width, number_of_value, offset_bytes, statement_bytes, line_bytes, all_bytes};
 
-use crate::expanding::{offset_to, push_address, push_inst, push_number};
-use crate::faults::{BRANCH_REACH, JUMP_REACH};
-use crate::labels::{Labels, Mark, mark_in};
 use crate::layout::{FIRST, after, padding};
+use asm_targets::{
+    BRANCH_REACH, JUMP_REACH, Labels, Mark, mark_in, offset_to, push_address, push_inst,
+    push_number,
+};
 use asm_text::{Line, Reading, Statement, Value, Width};
 use rv_inst::{BranchOp, Inst, Reg};
 use std::alloc::AllocError;

@@ -5,21 +5,17 @@ ghost use Rattle.std.specs.List.{list_any};
 ghost use Rattle.asm_text.specs.Slots.{seen};
 ghost use Rattle.asm_text.specs.Statements.{value_seen, statement_seen};
 ghost use Rattle.asm_text.specs.Lines.{line_seen};
-ghost use Rattle.rv_asm.specs.Labels.{mark_in, service_in, service_seen};
+ghost use Rattle.asm_targets.specs.Labels.{mark_in, service_in, service_seen};
 ghost use Rattle.rv_asm.specs.Layout.{IsReadable, base};
+ghost use Rattle.asm_targets.specs.Expansions.{jump_reach};
 ghost use Rattle.rv_asm.specs.Faults.{is_odd_place, is_misplaced, label_is_given, service_is_given, is_unknown_value, is_unknown, is_beyond, is_far, statement_fault, label_fault, line_fault, first_fault};
 
 use crate::error::AsmError;
-use crate::expanding::offset_to;
-use crate::labels::{Labels, Mark, Services, mark_in, service_in};
 use crate::layout::{FIRST, after};
+use asm_targets::{
+    BRANCH_REACH, JUMP_REACH, Labels, Mark, Services, mark_in, offset_to, service_in,
+};
 use asm_text::{Reading, Statement, Value, What};
-
-/// How far a branch reaches.
-pub const BRANCH_REACH: u64 = 0x1000;
-
-/// How far a jump reaches.
-pub const JUMP_REACH: u64 = 0x10_0000;
 
 /// Whether a label stands, and at no multiple of 4.
 fn is_odd_place(mark: Option<Mark>) -> bool
@@ -104,7 +100,7 @@ fn is_unknown(labels: &Labels<'_>, statement: &Statement<'_>) -> bool
 
 /// Whether a label that stands is out of reach.
 fn is_beyond(reach: u64, at: u64, mark: Option<Mark>) -> bool
-    requires { reach ≤ 2 ^ 20 }
+    requires { reach ≤ jump_reach }
     ensures { result ≡ is_beyond reach at mark }
 {
     match mark {

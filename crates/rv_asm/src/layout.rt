@@ -5,11 +5,10 @@ ghost use Rattle.std.specs.Option.{option_or};
 ghost use Rattle.asm_text.specs.Slots.{seen};
 ghost use Rattle.asm_text.specs.Statements.{statement_seen, IsSound};
 ghost use Rattle.asm_text.specs.Lines.{line_seen, HasSound};
-ghost use Rattle.rv_asm.specs.Labels.{mark_in, service_in, service_seen};
+ghost use Rattle.asm_targets.specs.Labels.{mark_in, service_in, service_seen};
 ghost use Rattle.rv_asm.specs.Layout.{IsReadable, base, limit, width_len, padding, size_at, line_size, label_in, statement_in, gives_label, label_among, service_by, service_among, end_of};
 
-use crate::expanding::number_count;
-use crate::labels::{Labels, Mark, Service, Services, add_label, add_service};
+use asm_targets::{Labels, Mark, Service, Services, add_label, add_service, number_count};
 use asm_text::{Line, Reading, Statement, Width};
 use rv_inst::IMAGE_START;
 use std::alloc::{AllocError, Global};

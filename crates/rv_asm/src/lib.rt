@@ -5,9 +5,7 @@
 mod assembling;
 mod emitting;
 mod error;
-mod expanding;
 mod faults;
-mod labels;
 mod layout;
 
 pub use asm_list::list;

@@ -9,6 +9,10 @@ use Rattle.rv_inst.specs.declared.image.Image.{Image}
 abbrev pub image_start : ℕ
 image_start = 0x1_0000
 
+-- the most bytes that an image has
+abbrev pub image_limit : ℕ
+image_limit = 2 ^ 20
+
 -- the image's byte at an address, None where it has none
 abbrev pub image_byte : List ℕ → ℕ → Option ℕ
 image_byte image address =
@@ -25,8 +29,8 @@ image_word image address =
 abbrev pub service_entry : List (ℕ × ℕ) → ℕ → Option ℕ
 service_entry services n = option_map (λ service. service.1) (find (λ service. service.0 == n) services)
 
--- the image has at most a mebibyte, starts and services stand at multiples of 4, and the services ascend
+-- the image is within its limit, starts and services stand at multiples of 4, and the services ascend
 abbrev pub IsWellFormed : Image → Type 0
 IsWellFormed image =
-    (length image.bytes ≤ 2 ^ 20) × (image.main % 4 ≡ 0) × All (λ service. service.1 % 4 ≡ 0) image.services
+    (length image.bytes ≤ image_limit) × (image.main % 4 ≡ 0) × All (λ service. service.1 % 4 ≡ 0) image.services
     × AllPairs (λ a b. a.0 < b.0) image.services

@@ -1,6 +1,6 @@
 //! From a word to its instruction.
 
-ghost use Rattle.std.specs.Prelude.{◌≡◌, ℕ, ◌+◌, ◌*◌, ◌/◌, ◌%◌, ◌^◌, ◌<◌, ◌≤◌, IfSome, Some};
+ghost use Rattle.std.specs.Prelude.{◌≡◌, ℕ, ◌+◌, ◌*◌, ◌/◌, ◌%◌, ◌^◌, ◌<◌, ◌≤◌, ◌⊎◌, IfSome, Some};
 ghost use Rattle.rv_inst.specs.declared.inst.Inst.{Inst};
 ghost use Rattle.rv_inst.specs.Table.{word_of, Fits};
 ghost use Rattle.rv_inst.specs.Fields.{inst_of};
@@ -11,6 +11,7 @@ use crate::fields::{
 };
 use crate::inst::{ImmOp, Inst};
 use crate::rows::{branch_op, imm_op, load_op, reg_op, shift_op, store_op};
+use crate::{row_funct3, row_of, row_opcode, row_word};
 
 /// The instruction of a word of the opcode 0x67.
 #[inline(always)]
@@ -19,7 +20,7 @@ fn jump_by(word: u32) -> Option<Inst>
     ensures found { IfSome result (λ i. Fits i × (word_of i ≡ word)) }
     ensures exact { result ≡ inst_of word }
 {
-    if funct3_of(word) != 0 {
+    if funct3_of(word) != row_of!(Jalr row_funct3) {
         return None;
     }
     Some(Inst::Jalr {
@@ -125,30 +126,15 @@ fn immediate_w(word: u32) -> Option<Inst>
     })
 }
 
-/// The instruction of a word of the opcode 0x33.
+/// The instruction of a word of the opcode 0x33 or 0x3b.
 #[inline(always)]
-fn registers(word: u32) -> Option<Inst>
-    requires { word % 2 ^ 7 ≡ 0x33 }
+fn registers(opcode: u32, word: u32) -> Option<Inst>
+    requires opcode { (opcode ≡ 0x33) ⊎ (opcode ≡ 0x3b) }
+    requires word { word % 2 ^ 7 ≡ opcode }
     ensures found { IfSome result (λ i. Fits i × (word_of i ≡ word)) }
     ensures exact { result ≡ inst_of word }
 {
-    let op = reg_op(0x33, funct3_of(word), funct7_of(word))?;
-    Some(Inst::Op {
-        op,
-        rd: rd_of(word),
-        rs1: rs1_of(word),
-        rs2: rs2_of(word),
-    })
-}
-
-/// The instruction of a word of the opcode 0x3b.
-#[inline(always)]
-fn registers_w(word: u32) -> Option<Inst>
-    requires { word % 2 ^ 7 ≡ 0x3b }
-    ensures found { IfSome result (λ i. Fits i × (word_of i ≡ word)) }
-    ensures exact { result ≡ inst_of word }
-{
-    let op = reg_op(0x3b, funct3_of(word), funct7_of(word))?;
+    let op = reg_op(opcode, funct3_of(word), funct7_of(word))?;
     Some(Inst::Op {
         op,
         rd: rd_of(word),
@@ -164,7 +150,7 @@ fn fence(word: u32) -> Option<Inst>
     ensures found { IfSome result (λ i. Fits i × (word_of i ≡ word)) }
     ensures exact { result ≡ inst_of word }
 {
-    if funct3_of(word) != 0 {
+    if funct3_of(word) != row_of!(Fence row_funct3) {
         return None;
     }
     Some(Inst::Fence {
@@ -182,8 +168,8 @@ fn system(word: u32) -> Option<Inst>
     ensures exact { result ≡ inst_of word }
 {
     match word {
-        0x0000_0073 => Some(Inst::Ecall),
-        0x0010_0073 => Some(Inst::Ebreak),
+        row_of!(Ecall row_word) => Some(Inst::Ecall),
+        row_of!(Ebreak row_word) => Some(Inst::Ebreak),
         _ => None,
     }
 }
@@ -195,27 +181,27 @@ fn decoded(word: u32) -> Option<Inst>
     ensures exact { result ≡ inst_of word }
 {
     match word & 0x7f {
-        0x37 => Some(Inst::Lui {
+        row_of!(Lui row_opcode) => Some(Inst::Lui {
             rd: rd_of(word),
             imm: u_imm(word),
         }),
-        0x17 => Some(Inst::Auipc {
+        row_of!(Auipc row_opcode) => Some(Inst::Auipc {
             rd: rd_of(word),
             imm: u_imm(word),
         }),
-        0x6f => Some(Inst::Jal {
+        row_of!(Jal row_opcode) => Some(Inst::Jal {
             rd: rd_of(word),
             offset: j_offset(word),
         }),
-        0x67 => jump_by(word),
+        row_of!(Jalr row_opcode) => jump_by(word),
         0x63 => branch(word),
         0x03 => load(word),
         0x23 => store(word),
         0x13 => immediate(word),
         0x1b => immediate_w(word),
-        0x33 => registers(word),
-        0x3b => registers_w(word),
-        0x0f => fence(word),
+        0x33 => registers(0x33, word),
+        0x3b => registers(0x3b, word),
+        row_of!(Fence row_opcode) => fence(word),
         0x73 => system(word),
         _ => None,
     }

@@ -7,6 +7,7 @@ use crate::decoding::decode;
 use crate::formats::{b_word, i_word, j_word, r_word, s_word, u_word};
 use crate::inst::Inst;
 use crate::rows::{branch_funct3, imm_row, load_funct3, reg_row, shift_row, store_funct3};
+use crate::{row_funct3, row_of, row_opcode, row_word};
 
 /// The word of the instruction, whose fields fit their places in the word.
 pub fn encode(inst: &Inst) -> u32
@@ -14,10 +15,20 @@ pub fn encode(inst: &Inst) -> u32
     ensures { result ≡ word_of inst.now }
 {
     match *inst {
-        Inst::Lui { rd, imm } => u_word(imm, rd, 0x37),
-        Inst::Auipc { rd, imm } => u_word(imm, rd, 0x17),
-        Inst::Jal { rd, offset } => j_word(offset.cast_unsigned() & 0x1f_ffff, rd, 0x6f),
-        Inst::Jalr { rd, rs1, offset } => i_word(offset.cast_unsigned() & 0xfff, rs1, 0, rd, 0x67),
+        Inst::Lui { rd, imm } => u_word(imm, rd, row_of!(Lui row_opcode)),
+        Inst::Auipc { rd, imm } => u_word(imm, rd, row_of!(Auipc row_opcode)),
+        Inst::Jal { rd, offset } => j_word(
+            offset.cast_unsigned() & 0x1f_ffff,
+            rd,
+            row_of!(Jal row_opcode),
+        ),
+        Inst::Jalr { rd, rs1, offset } => i_word(
+            offset.cast_unsigned() & 0xfff,
+            rs1,
+            row_of!(Jalr row_funct3),
+            rd,
+            row_of!(Jalr row_opcode),
+        ),
         Inst::Branch {
             op,
             rs1,
@@ -83,9 +94,15 @@ pub fn encode(inst: &Inst) -> u32
             let row = reg_row(op);
             r_word(row.funct7, rs2, rs1, row.funct3, rd, row.opcode)
         }
-        Inst::Fence { rd, rs1, bits } => i_word(bits, rs1, 0, rd, 0x0f),
-        Inst::Ecall => 0x0000_0073,
-        Inst::Ebreak => 0x0010_0073,
+        Inst::Fence { rd, rs1, bits } => i_word(
+            bits,
+            rs1,
+            row_of!(Fence row_funct3),
+            rd,
+            row_of!(Fence row_opcode),
+        ),
+        Inst::Ecall => row_of!(Ecall row_word),
+        Inst::Ebreak => row_of!(Ebreak row_word),
     }
 }
 

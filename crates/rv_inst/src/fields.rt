@@ -2,7 +2,7 @@
 
 ghost use Rattle.std.specs.Prelude.{◌≡◌, ℕ, ◌+◌, ◌*◌, ◌/◌, ◌%◌, ◌^◌, ◌<◌, ◌≤◌};
 ghost use Rattle.std.specs.Int.{cast_unsigned, w16, w32};
-ghost use Rattle.rv_inst.specs.Format.{FitsBits, IsEven, signed};
+ghost use Rattle.rv_inst.specs.Format.{FitsBits, IsEven, signed, low_twelve};
 ghost use Rattle.rv_inst.specs.Fields.{b_bits, j_bits};
 
 use crate::inst::Reg;
@@ -81,6 +81,14 @@ fn signed_12(bits: u32) -> i16
     } else {
         bits as i16 - 0x1000
     }
+}
+
+/// The low twelve bits as a signed number.
+pub fn low_twelve(number: u64) -> i16
+    ensures value { result ≡ low_twelve number }
+    ensures fits { FitsBits 11 result }
+{
+    signed_12((number % 0x1000) as u32)
 }
 
 pub fn i_offset(word: u32) -> i16

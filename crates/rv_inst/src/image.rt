@@ -9,6 +9,9 @@ use std::alloc::Global;
 /// Where the first byte of an image stands.
 pub const IMAGE_START: u64 = 0x1_0000;
 
+/// The most bytes that an image has.
+pub const IMAGE_LIMIT: u64 = 0x10_0000;
+
 /// A program as it stands in memory, from `IMAGE_START` on. It is read-only.
 #[derive(PartialEq, Eq, Drop)]
 pub struct Image {

@@ -40,7 +40,7 @@ impl Reg {
 }
 
 /// The branches: opcode 0x63, a row by funct3.
-#[derive(Clone, Copy, PartialEq, Eq)]
+#[derive(Clone, Copy)]
 pub enum BranchOp {
     Beq,
     Bne,
@@ -51,7 +51,7 @@ pub enum BranchOp {
 }
 
 /// The loads: opcode 0x03, a row by funct3.
-#[derive(Clone, Copy, PartialEq, Eq)]
+#[derive(Clone, Copy)]
 pub enum LoadOp {
     Lb,
     Lh,
@@ -63,7 +63,7 @@ pub enum LoadOp {
 }
 
 /// The stores: opcode 0x23, a row by funct3.
-#[derive(Clone, Copy, PartialEq, Eq)]
+#[derive(Clone, Copy)]
 pub enum StoreOp {
     Sb,
     Sh,
@@ -72,7 +72,7 @@ pub enum StoreOp {
 }
 
 /// The operations on a register and twelve bits: opcode 0x13, and ADDIW of 0x1b.
-#[derive(Clone, Copy, PartialEq, Eq)]
+#[derive(Clone, Copy)]
 pub enum ImmOp {
     Addi,
     Slti,
@@ -84,7 +84,7 @@ pub enum ImmOp {
 }
 
 /// The shifts by an amount in the word: opcode 0x13, and the W forms of 0x1b.
-#[derive(Clone, Copy, PartialEq, Eq)]
+#[derive(Clone, Copy)]
 pub enum ShiftOp {
     Slli,
     Srli,
@@ -95,7 +95,7 @@ pub enum ShiftOp {
 }
 
 /// The operations on two registers: opcode 0x33, and the W forms of 0x3b; from `Mul` on, those of the M extension.
-#[derive(Clone, Copy, PartialEq, Eq)]
+#[derive(Clone, Copy)]
 pub enum RegOp {
     Add,
     Sub,

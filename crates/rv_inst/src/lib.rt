@@ -13,5 +13,6 @@ mod table;
 
 pub use decoding::decode;
 pub use encoding::encode;
-pub use image::{IMAGE_START, Image};
+pub use fields::low_twelve;
+pub use image::{IMAGE_LIMIT, IMAGE_START, Image};
 pub use inst::{BranchOp, ImmOp, Inst, LoadOp, Reg, RegOp, ShiftOp, StoreOp};

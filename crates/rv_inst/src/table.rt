@@ -1,5 +1,64 @@
-//! The table of operations: a row for each, as the RISC-V manual lists them. What goes by a row is written by these macros:
+//! The table of RV64IM: a row for each instruction, as the RISC-V manual lists them. What goes by a row is written by these macros:
 //! the fields of a word and the operation of such fields, the name in a listing, and the forms of the assembler.
+
+/// Hands the row of an instruction that is no operation among several of its kind to the macro of that name.
+/// A row is its name, and what its word has in the places of opcode and funct3; where nothing else is free, its whole word.
+#[macro_export]
+macro_rules! row_of {
+    (Lui $to:ident) => {
+        $to!(b"lui" 0x37 0)
+    };
+    (Auipc $to:ident) => {
+        $to!(b"auipc" 0x17 0)
+    };
+    (Jal $to:ident) => {
+        $to!(b"jal" 0x6f 0)
+    };
+    (Jalr $to:ident) => {
+        $to!(b"jalr" 0x67 0)
+    };
+    (Fence $to:ident) => {
+        $to!(b"fence" 0x0f 0)
+    };
+    (Ecall $to:ident) => {
+        $to!(b"ecall" 0x0000_0073)
+    };
+    (Ebreak $to:ident) => {
+        $to!(b"ebreak" 0x0010_0073)
+    };
+}
+
+/// The name in a row.
+#[macro_export]
+macro_rules! row_name {
+    ($name:literal $($fields:literal)*) => {
+        $name
+    };
+}
+
+/// What a row has in the place of opcode.
+#[macro_export]
+macro_rules! row_opcode {
+    ($name:literal $opcode:literal $funct3:literal) => {
+        $opcode
+    };
+}
+
+/// What a row has in the place of funct3.
+#[macro_export]
+macro_rules! row_funct3 {
+    ($name:literal $opcode:literal $funct3:literal) => {
+        $funct3
+    };
+}
+
+/// The whole word in a row.
+#[macro_export]
+macro_rules! row_word {
+    ($name:literal $word:literal) => {
+        $word
+    };
+}
 
 /// Hands the rows of all operations to the macro of that name, behind what is given it.
 /// A row is the operation, its name, and what its word has in the places of opcode, funct3 and funct7.

@@ -1,7 +1,7 @@
 -- How a thread begins, and how a call is answered.
 use Rattle.std.specs.Prelude.{ℕ, List, [], replicate, Option, Some, None}
 use Rattle.rv_inst.specs.Image.{image_start}
-use Rattle.rv_step.specs.Alu.{plus}
+use Rattle.rv_alu.specs.Alu.{plus}
 use Rattle.rv_step.specs.Step.{HartState, with_reg}
 
 -- the numbers of the registers that a call or a birth writes

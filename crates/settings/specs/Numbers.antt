@@ -3,6 +3,7 @@ use Rattle.std.specs.Prelude.{◌&&◌, ℕ, Bool, true, false, List, [], ◌∷
 use Rattle.std.specs.List.{list_all}
 use Rattle.std.specs.Str.{bytes_eq}
 use Rattle.std.specs.Str.Parse.{digits_value}
+use Rattle.slot_space.specs.Limits.{node_limit, slot_limit}
 use Rattle.words.specs.Words.{Text, is_name}
 
 -- the value, if there is one; None where there are two, or where it is no name
@@ -37,10 +38,10 @@ pub record NumberOf : Type 0 where
   pub usual : ℕ
 
 abbrev pub nodes : NumberOf
-nodes = record { name = codes "nodes"; low = 1; high = 8; usual = 1 }
+nodes = record { name = codes "nodes"; low = 1; high = node_limit; usual = 1 }
 
 abbrev pub slots : NumberOf
-slots = record { name = codes "slots"; low = 1; high = 4096; usual = 256 }
+slots = record { name = codes "slots"; low = 1; high = slot_limit; usual = 256 }
 
 abbrev pub quantum : NumberOf
 quantum = record { name = codes "quantum"; low = 1; high = 65536; usual = 1000 }

@@ -1,7 +1,7 @@
 -- Settings as numbers, and an option without where its name lies in memory.
 use Rattle.std.specs.Prelude.{◌≡◌, ◌≤◌, ℕ, true}
 use Rattle.std.specs.Option.{option_map}
-use Rattle.settings.specs.Numbers.{NumberOf, are_apart}
+use Rattle.settings.specs.Numbers.{NumberOf, are_apart, quantum, turns}
 use Rattle.settings.specs.Settings.{Chosen}
 use Rattle.settings.specs.declared.number.NumberOption.{NumberOption}
 use Rattle.settings.specs.declared.asked.Settings.{Settings}
@@ -47,7 +47,7 @@ IsBetween low high n = (low ≤ n) × (n ≤ high)
 -- schedule go to two files
 pub record IsWithinLimits (s : Settings) : Type 0 where
   pub some_quantum : 1 ≤ s.setup.quantum
-  pub small_quantum : s.setup.quantum ≤ 65536
+  pub small_quantum : s.setup.quantum ≤ quantum.high
   pub some_turns : 1 ≤ s.turns
-  pub few_turns : s.turns ≤ 1000000
+  pub few_turns : s.turns ≤ turns.high
   pub apart : are_apart s.trace s.schedule ≡ true

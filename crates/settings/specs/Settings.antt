@@ -107,7 +107,7 @@ abbrev pub settings_of : List Text → Option Chosen
 settings_of [] = None
 settings_of (word ∷ words) = some_then (verb_of word) (λ verb. settings_by verb words)
 
--- words in which this option or flag stands twice have no settings
+-- words in which this option or flag stands twice are refused
 abbrev pub IsOnceOnly : Text → Type 0
 IsOnceOnly name = (words : List Text) → 2 ≤ count_by (is_use name) words → settings_of words ≡ None
 
@@ -120,6 +120,6 @@ gives_in name _ = false
 abbrev pub gives_value : Text → Text → Bool
 gives_value name word = gives_in name (form_of word)
 
--- words that give this flag a value have no settings
+-- words that give this flag a value are refused
 abbrev pub IsWithoutValue : Text → Type 0
 IsWithoutValue name = (words : List Text) → list_any (gives_value name) words ≡ true → settings_of words ≡ None

@@ -3,7 +3,7 @@
 ghost use Rattle.std.specs.Prelude.{◌≡◌, true, Some, None, IfOk, IfSome, IsErrOf};
 ghost use Rattle.std.specs.Option.{option_map};
 ghost use Rattle.words.specs.Seen.{values_given};
-ghost use Rattle.settings.specs.Numbers.{are_apart};
+ghost use Rattle.settings.specs.Numbers.{are_apart, quantum, turns};
 ghost use Rattle.settings.specs.Settings.{always_sums, chosen_with, turns_of};
 ghost use Rattle.settings.specs.Seen.{chosen, chosen_in, option_seen, IsBetween, IsWithinLimits};
 
@@ -25,7 +25,7 @@ pub struct Settings {
     pub command: Command,
     /// The cluster. `replay` has the usual quantum, since each act has its own.
     pub setup: Setup,
-    /// The run ends after so many entries other than the nodes' beginnings. `replay` ends with its schedule.
+    /// The run ends after this many entries other than the nodes' beginnings. `replay` ends with its schedule.
     pub turns: u64,
     /// What the order of events is drawn from.
     pub seed: u64,
@@ -81,7 +81,7 @@ struct Asked<'a> {
 /// The numbers, the flags and the names of a command.
 fn asked_with<'a>(command: &Command, given: &Given<'a>) -> Option<Asked<'a>>
     ensures value { option_map (chosen_in command.now) result ≡ chosen_with command.now (values_given given.now) }
-    ensures limits { IfSome result (λ a. IsBetween 1 65536 a.setup.quantum × IsBetween 1 1000000 a.turns) }
+    ensures limits { IfSome result (λ a. IsBetween quantum.low quantum.high a.setup.quantum × IsBetween turns.low turns.high a.turns) }
     ensures apart { IfSome result (λ a. are_apart (option_map (λ s. s.now) a.trace) (option_map (λ s. s.now) a.schedule) ≡ true) }
 {
     let nodes = number_at(given, NODES)?;

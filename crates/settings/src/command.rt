@@ -23,7 +23,7 @@ pub enum Command {
     Sim(Name),
     /// To assemble the first file, and do the acts of the second one in their order.
     Replay(Name, Name),
-    /// To run a program of so many jobs, 1 to 1000.
+    /// To run a program of this many jobs, 1 to 1000.
     Stress(u32),
 }
 

@@ -6,19 +6,20 @@ ghost use Rattle.settings.specs.Numbers.{flag_at, number_at};
 ghost use Rattle.settings.specs.Seen.{option_seen};
 
 use crate::number::{NumberOption, at_most_one, number_of};
+use slot_space::{NODE_LIMIT, SLOT_LIMIT};
 use words::Given;
 
 pub(crate) const NODES: NumberOption = NumberOption {
     name: "nodes",
     low: 1,
-    high: 8,
+    high: NODE_LIMIT as u64,
     usual: 1,
 };
 
 pub(crate) const SLOTS: NumberOption = NumberOption {
     name: "slots",
     low: 1,
-    high: 4096,
+    high: SLOT_LIMIT as u64,
     usual: 256,
 };
 

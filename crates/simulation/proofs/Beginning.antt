@@ -5,8 +5,8 @@ use Rattle.std.proofs.lemmas.Bool.{lt-ltb, ne_eqb}
 use Rattle.slot_space.specs.Sets.{run}
 use Rattle.run_trace.specs.declared.entry.Act.{Act}
 use Rattle.run_trace.specs.declared.entry.Act.TheVariants.{Run}
-use Rattle.run_trace.specs.declared.node.Row.{Row}
-use Rattle.run_trace.specs.Cluster.{Net, fresh_net}
+use Rattle.run_trace.specs.declared.node.ReadyRow.{ReadyRow}
+use Rattle.run_trace.specs.Cluster.{Net}
 use Rattle.run_trace.specs.Console.{console_of, shown_by_all}
 use Rattle.run_trace.specs.Keyed.{item_of}
 use Rattle.run_trace.specs.Legality.{Legal, first_labels, boot_entries}
@@ -16,7 +16,7 @@ use Rattle.run_trace.specs.Program.{Program, nodes_of}
 use Rattle.run_trace.specs.Rules.{spots_of}
 use Rattle.run_trace.specs.Spots.{Spots, Ready, On, at_first, after_labels}
 use Rattle.run_trace.specs.Stands.{Here, listed, listed_name, row_in_life}
-use Rattle.trace_laws.proofs.Lemmas.{starts, run_whole}
+use Rattle.trace_laws.proofs.Lemmas.{stands_after}
 use Rattle.cluster.specs.Acts.{has_pick, acts_of, takes_of, moves_of, possible_acts}
 use Rattle.cluster.specs.Standing.{net_after}
 use Rattle.simulation.specs.Drawn.{possible_after}
@@ -36,11 +36,11 @@ nothing_shown p (suc (suc n)) =
     ap (λ ls. console_of p (at_first p) (boot_entries p (suc n)) ++ shown_by_all p (suc n) ls (spots_of p (at_first p) (boot_entries p (suc n)))) (no_labels p n)
     ∙ ap (λ (bytes : List ℕ). bytes ++ []) (nothing_shown p (suc n))
 
-listed_somewhere : (w : Spots) (s : Local) → Here 0 w s [] → (w.threads (tid 0 0)).life ≡ On 0 Ready → s.places.rows ≡ [] → ⊥
+listed_somewhere : (w : Spots) (s : Local) → Here 0 w s [] → (w.threads (tid 0 0)).life ≡ On 0 Ready → s.run_lists.rows ≡ [] → ⊥
 listed_somewhere w s h life none =
-    let shown : item_of is_tid listed_name (map listed s.places.rows) (tid 0 0) ≡ Some (record { tid = tid 0 0; list = 0; priority = (w.threads (tid 0 0)).guest.priority }) =
+    let shown : item_of is_tid listed_name (map listed s.run_lists.rows) (tid 0 0) ≡ Some (record { tid = tid 0 0; list = 0; priority = (w.threads (tid 0 0)).guest.priority }) =
     h.rows.shows (tid 0 0) ∙ ap (λ z. row_in_life 0 (tid 0 0) z (w.threads (tid 0 0)).guest.priority) life in
-    let nothing : item_of is_tid listed_name (map listed s.places.rows) (tid 0 0) ≡ None = ap (λ (rs : List Row). item_of is_tid listed_name (map listed rs) (tid 0 0)) none in
+    let nothing : item_of is_tid listed_name (map listed s.run_lists.rows) (tid 0 0) ≡ None = ap (λ (rs : List ReadyRow). item_of is_tid listed_name (map listed rs) (tid 0 0)) none in
     cc (shown, nothing)
 
 -- where node 0 has a thread on its run list, an act is possible
@@ -59,18 +59,18 @@ pub main_listed : (p : Program) → Legal p (boot_entries p (nodes_of p)) → ha
 main_listed p legal = by (nodes_of p) refl
   where
     here : Here 0 (spots_of p (at_first p) (boot_entries p (nodes_of p))) ((net_after p (boot_entries p (nodes_of p))).nodes 0) []
-    here = (run_whole p (at_first p) (fresh_net p) (starts p) (boot_entries p (nodes_of p)) legal.runs).stands.nodes 0
+    here = (stands_after p (boot_entries p (nodes_of p)) legal.runs).nodes 0
 
     by : (k : ℕ) → nodes_of p ≡ k → has_pick (net_after p (boot_entries p (nodes_of p))) 0 ≡ true
     by zero e = absurd (omega (arith, e, p.setup.geometry.some_node))
-    by (suc n) e = rows ((net_after p (boot_entries p (nodes_of p))).nodes 0).places.rows refl
+    by (suc n) e = rows ((net_after p (boot_entries p (nodes_of p))).nodes 0).run_lists.rows refl
       where
         ready : ((spots_of p (at_first p) (boot_entries p (nodes_of p))).threads (tid 0 0)).life ≡ On 0 Ready
         ready = ap (λ m. ((spots_of p (at_first p) (boot_entries p m)).threads (tid 0 0)).life) e ∙ main_ready p n
 
-        rows : (rs : List Row) → ((net_after p (boot_entries p (nodes_of p))).nodes 0).places.rows ≡ rs → has_pick (net_after p (boot_entries p (nodes_of p))) 0 ≡ true
+        rows : (rs : List ReadyRow) → ((net_after p (boot_entries p (nodes_of p))).nodes 0).run_lists.rows ≡ rs → has_pick (net_after p (boot_entries p (nodes_of p))) 0 ≡ true
         rows [] r = absurd (listed_somewhere (spots_of p (at_first p) (boot_entries p (nodes_of p))) ((net_after p (boot_entries p (nodes_of p))).nodes 0) here ready r)
-        rows (x ∷ xs) r = lt-ltb 0 (length ((net_after p (boot_entries p (nodes_of p))).nodes 0).places.rows) (subst (λ (ys : List Row). 0 < length ys) (sym r) (omega arith))
+        rows (x ∷ xs) r = lt-ltb 0 (length ((net_after p (boot_entries p (nodes_of p))).nodes 0).run_lists.rows) (subst (λ (ys : List ReadyRow). 0 < length ys) (sym r) (omega arith))
 
 pub begins_possible : (moves : Bool) (p : Program) → Legal p (boot_entries p (nodes_of p)) → possible_after moves p (boot_entries p (nodes_of p)) ≡ [] → ⊥
 begins_possible moves p legal none = by (nodes_of p) refl

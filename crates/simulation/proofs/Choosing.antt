@@ -10,7 +10,7 @@ use Rattle.run_trace.specs.declared.entry.Act.{Act}
 use Rattle.run_trace.specs.declared.entry.Act.TheVariants.{Run, Take, Move}
 use Rattle.run_trace.specs.declared.entry.Entry.{Entry}
 use Rattle.run_trace.specs.Program.{Program, nodes_of, quantum_limit}
-use Rattle.run_trace.specs.Places.{is_listed}
+use Rattle.run_trace.specs.RunLists.{is_listed}
 use Rattle.run_trace.specs.Cluster.{Net}
 use Rattle.node_loop.specs.Turns.{IsActInRange}
 use Rattle.node_loop.specs.declared.node.Turned.{Turned}
@@ -80,7 +80,7 @@ module _ (p : Program) (net : Net) (some : 0 < p.setup.quantum) (bounded : p.set
   other : (to n : ℕ) → not (to == n) ≡ true → to ≢ n
   other to n e same = let one : eqb to n ≡ true = eq-eqb to n same in cc (e, one)
 
-  move_possible : (n : ℕ) → n < nodes_of p → (t : Tid) → is_listed t (net.nodes n).places.rows ≡ true → AreAll (IsPossible p net) (moves_to p n t)
+  move_possible : (n : ℕ) → n < nodes_of p → (t : Tid) → is_listed t (net.nodes n).run_lists.rows ≡ true → AreAll (IsPossible p net) (moves_to p n t)
   move_possible n l t listed =
       each_mapped (λ to. (to < nodes_of p) × (not (to == n) ≡ true)) (IsPossible p net) (λ to. (n, Move t to)) (λ to h. record { node = l; range = (h.0, other to n h.1); possible = listed })
       (filter (λ to. not (to == n)) (run 0 (nodes_of p)))
@@ -89,9 +89,9 @@ module _ (p : Program) (net : Net) (some : 0 < p.setup.quantum) (bounded : p.set
   moves_possible : (moves : Bool) (n : ℕ) → n < nodes_of p → AreAll (IsPossible p net) (moves_of moves p net n)
   moves_possible false n l = tt
   moves_possible true n l =
-      each_joined (λ t. ⊤ × (is_listed t (net.nodes n).places.rows ≡ true)) (IsPossible p net) (λ t. moves_to p n t) (λ t h. move_possible n l t h.1)
+      each_joined (λ t. ⊤ × (is_listed t (net.nodes n).run_lists.rows ≡ true)) (IsPossible p net) (λ t. moves_to p n t) (λ t h. move_possible n l t h.1)
       (ready_on (net.nodes n))
-      (each_passes (λ t. ⊤) (λ t. is_listed t (net.nodes n).places.rows) (map (λ e. e.0) (net.nodes n).threads) (any_items (map (λ e. e.0) (net.nodes n).threads)))
+      (each_passes (λ t. ⊤) (λ t. is_listed t (net.nodes n).run_lists.rows) (map (λ e. e.0) (net.nodes n).threads) (any_items (map (λ e. e.0) (net.nodes n).threads)))
 
   acts_possible : (moves : Bool) (n : ℕ) → n < nodes_of p → AreAll (IsPossible p net) (acts_of moves p net n)
   acts_possible moves n l =
@@ -108,11 +108,11 @@ item_passes {A = A} P [] i a all e = absurd (let none : slice_get {X = A} [] i �
 item_passes P (x ∷ xs) zero a all e = let same : x ≡ a = cc e in subst P same all.0
 item_passes P (x ∷ xs) (suc i) a all e = item_passes P xs i a all.1 e
 
-pub chosen_possible : (moves : Bool) (c : ClusterView) (lines : List Entry) (o : Option (ℕ × Act)) (word : ℕ) (a : ℕ × Act) → StandsFor c [] lines
-    → o ≡ chosen word (possible_after moves c.program lines) → o ≡ Some a → IsPossible c.program (net_after c.program lines) a
-chosen_possible moves c lines o word a s is some =
-    item_passes (IsPossible c.program (net_after c.program lines)) (possible_after moves c.program lines) (word % length (possible_after moves c.program lines)) a
-    (each_possible c.program (net_after c.program lines) s.agrees.some_quantum s.agrees.bounded_quantum moves) (sym is ∙ some)
+pub chosen_possible : (moves : Bool) (c : ClusterView) (trace : List Entry) (o : Option (ℕ × Act)) (word : ℕ) (a : ℕ × Act) → StandsFor c [] trace
+    → o ≡ chosen word (possible_after moves c.program trace) → o ≡ Some a → IsPossible c.program (net_after c.program trace) a
+chosen_possible moves c trace o word a s is some =
+    item_passes (IsPossible c.program (net_after c.program trace)) (possible_after moves c.program trace) (word % length (possible_after moves c.program trace)) a
+    (each_possible c.program (net_after c.program trace) s.agrees.some_quantum s.agrees.bounded_quantum moves) (sym is ∙ some)
 
 pub some_chosen : (all : List (ℕ × Act)) (o : Option (ℕ × Act)) (word : ℕ) → (all ≡ [] → ⊥) → o ≡ chosen word all → o ≡ None → ⊥
 some_chosen [] o word some is none = some refl
@@ -121,12 +121,12 @@ some_chosen (x ∷ xs) o word some is none =
     cc (is, none, slice_get-get_or (x ∷ xs) (word % length (x ∷ xs)) x inside)
 
 -- an act that can be done is done
-pub draws : (moves : Bool) (old new : ClusterView) (lines : List Entry) (o : Option (ℕ × Act)) (word n : ℕ) (act : Act) (t : Turned) → StandsFor old [] lines
-    → o ≡ chosen word (possible_after moves old.program lines) → o ≡ Some (n, act) → Steps old [] lines n act new t
-    → (t ≡ Idle) ↔ (is_possible (net_after old.program (lines ++ [])) n act ≡ false) → Draws moves word lines old new
-draws moves old new lines o word n act Idle s is some h i =
-    absurd (cc (i.0 refl, ap (λ ls. is_possible (net_after old.program ls) n act) (append-nil lines), (chosen_possible moves old lines o word (n, act) s is some).possible))
-draws moves old new lines o word n act Did s is some h i = record { node = n; act = act; chosen_is = sym is ∙ some; adds = h }
+pub draws : (moves : Bool) (old new : ClusterView) (trace : List Entry) (o : Option (ℕ × Act)) (word n : ℕ) (act : Act) (t : Turned) → StandsFor old [] trace
+    → o ≡ chosen word (possible_after moves old.program trace) → o ≡ Some (n, act) → Steps old [] trace n act new t
+    → (t ≡ Idle) ↔ (is_possible (net_after old.program (trace ++ [])) n act ≡ false) → Draws moves word trace old new
+draws moves old new trace o word n act Idle s is some h i =
+    absurd (cc (i.0 refl, ap (λ ls. is_possible (net_after old.program ls) n act) (append-nil trace), (chosen_possible moves old trace o word (n, act) s is some).possible))
+draws moves old new trace o word n act Did s is some h i = record { node = n; act = act; chosen_is = sym is ∙ some; adds = h }
 
 -- ## No part of the trace came before
 

@@ -26,8 +26,8 @@ use Rattle.simulation.specs.Schedules.{AreInRange, AreFirstOf, StopsAt, RunsBy, 
 use Rattle.simulation.specs.Replayed.{IsReplaying, HasReplayed}
 use Rattle.simulation.specs.Underway.{refusal_end}
 use Rattle.run_texts.specs.declared.schedule.Scheduled.{Scheduled}
-use Rattle.simulation.specs.declared.simulation.End.{End}
-use Rattle.simulation.specs.declared.simulation.End.TheVariants as ends
+use Rattle.simulation.specs.declared.simulation.RunEnd.{RunEnd}
+use Rattle.simulation.specs.declared.simulation.RunEnd.TheVariants as ends
 use Rattle.simulation.specs.declared.simulation.Simulated.{Simulated}
 use Rattle.simulation.proofs.Running.{longer, shown_all, shown_part, none_shown, whole_prefix, legal_whole, console_whole}
 
@@ -75,9 +75,9 @@ module _ (schedule : List Scheduled) (old : ClusterView) (written : Option (List
 
   -- ## It ends where it stands
 
-  stopped : (end : End) → StopsAt p schedule (length u.later) (u.later ++ first) end → ShowsAt p written now (u.later ++ first) end → HasReplayed schedule old c written now end
+  stopped : (end : RunEnd) → StopsAt p schedule (length u.later) (u.later ++ first) end → ShowsAt p written now (u.later ++ first) end → HasReplayed schedule old c written now end
   stopped end e s = record {
-    lines = u.later ++ first;
+    entries = u.later ++ first;
     trace = u.stands.agrees.trace;
     runs = record { legal = subst (λ q. Legal q (u.later ++ first)) u.program (legal_whole c (u.later ++ first) u.stands); later = u.later; begins = refl; acts = u.acts; stops = e };
     shows = s;
@@ -101,7 +101,7 @@ module _ (schedule : List Scheduled) (old : ClusterView) (written : Option (List
 
   pub lost_by : (c2 : ClusterView) → Loses c c2 (u.later ++ first) → HasReplayed schedule old c2 written now ends.NoMemory
   lost_by c2 h = record {
-    lines = u.later ++ first;
+    entries = u.later ++ first;
     trace = h.trace;
     runs = record { legal = subst (λ q. Legal q (u.later ++ first)) u.program (legal_whole c (u.later ++ first) u.stands); later = u.later; begins = refl; acts = u.acts; stops = tt };
     shows = λ some. whole_prefix written _ now all_written;
@@ -163,16 +163,16 @@ module _ (schedule : List Scheduled) (old : ClusterView) (written : Option (List
         later_is : suc done ≡ done + 1
         later_is = omega arith
 
-    pub refused_by : (now2 : Option (List ℕ)) (refusal : WriteRefusal) (end : End) → AppendsPrefix now (drop (length (console_in c)) (console_in c2)) now2 → end ≡ refusal_end refusal
+    pub refused_by : (now2 : Option (List ℕ)) (refusal : WriteRefusal) (end : RunEnd) → AppendsPrefix now (drop (length (console_in c)) (console_in c2)) now2 → end ≡ refusal_end refusal
         → HasReplayed schedule old c2 written now2 end
     refused_by now2 refusal end h e = subst (λ z. HasReplayed schedule old c2 written now2 z) (sym e) (by refusal)
       where
         part : AppendsPrefix written (console_of p (at_first p) (x ∷ u.later ++ first)) now2
         part = subst (λ xs. AppendsPrefix written xs now2) (sym console_is) (part_shown now2 h)
 
-        ended : (end : End) → StopsAt p schedule (suc (length u.later)) (x ∷ u.later ++ first) end → ShowsAt p written now2 (x ∷ u.later ++ first) end → HasReplayed schedule old c2 written now2 end
+        ended : (end : RunEnd) → StopsAt p schedule (suc (length u.later)) (x ∷ u.later ++ first) end → ShowsAt p written now2 (x ∷ u.later ++ first) end → HasReplayed schedule old c2 written now2 end
         ended end e s = record {
-          lines = x ∷ u.later ++ first;
+          entries = x ∷ u.later ++ first;
           trace = d.stands.agrees.trace;
           runs = record { legal = subst (λ q. Legal q (x ∷ u.later ++ first)) program_is (legal_whole c2 (x ∷ u.later ++ first) d.stands); later = x ∷ u.later; begins = refl; acts = acts_now; stops = e };
           shows = s;
@@ -185,21 +185,21 @@ module _ (schedule : List Scheduled) (old : ClusterView) (written : Option (List
 
 -- ## What is handed out
 
-module _ (schedule : List Scheduled) (p : Program) (old new : ClusterView) (written now : Option (List ℕ)) (end : End) (r : HasReplayed schedule old new written now end)
-    (same : old.program ≡ p) (s : Simulated) (ended : s.end ≡ end) (trace : s.trace ≡ reverse r.lines) where
-  lines_are : reverse s.trace ≡ r.lines
-  lines_are = ap reverse trace ∙ reverse-reverse r.lines
+module _ (schedule : List Scheduled) (p : Program) (old new : ClusterView) (written now : Option (List ℕ)) (end : RunEnd) (r : HasReplayed schedule old new written now end)
+    (same : old.program ≡ p) (s : Simulated) (ended : s.end ≡ end) (trace : s.trace ≡ reverse r.entries) where
+  entries_are : reverse s.trace ≡ r.entries
+  entries_are = ap reverse trace ∙ reverse-reverse r.entries
 
   pub follows : Follows p schedule s
-  follows = inl (subst (λ ls. RunsBy p schedule ls s.end) (sym lines_are) (subst (λ e. RunsBy p schedule r.lines e) (sym ended) (subst (λ q. RunsBy q schedule r.lines end) same r.runs)))
+  follows = inl (subst (λ ls. RunsBy p schedule ls s.end) (sym entries_are) (subst (λ e. RunsBy p schedule r.entries e) (sym ended) (subst (λ q. RunsBy q schedule r.entries end) same r.runs)))
 
   pub shown_by : Shows p written now s
-  shown_by = subst (λ ls. ShowsAt p written now ls s.end) (sym lines_are) (subst (λ e. ShowsAt p written now r.lines e) (sym ended) (subst (λ q. ShowsAt q written now r.lines end) same r.shows))
+  shown_by = subst (λ ls. ShowsAt p written now ls s.end) (sym entries_are) (subst (λ e. ShowsAt p written now r.entries e) (sym ended) (subst (λ q. ShowsAt q written now r.entries end) same r.shows))
 
   pub carried_by : (given : List (Ends Packet)) → s.wires ≡ wires_of new → length (wires_of old) ≡ length given → CarriesAt p given s
   carried_by given wires wide enough =
       let left = r.leaves (λ e. enough (ended ∙ e)) in
       record {
         nodes = ap length wires ∙ (left.0 ∙ wide);
-        carried = subst (λ ls. HaveCarried p ls s.wires) (sym lines_are) (subst (λ es. HaveCarried p r.lines es) (sym wires) (subst (λ q. HaveCarried q r.lines (wires_of new)) same left.1));
+        carried = subst (λ ls. HaveCarried p ls s.wires) (sym entries_are) (subst (λ es. HaveCarried p r.entries es) (sym wires) (subst (λ q. HaveCarried q r.entries (wires_of new)) same left.1));
       }

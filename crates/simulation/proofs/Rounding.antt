@@ -22,8 +22,8 @@ use Rattle.cluster.specs.declared.deciding.State.TheVariants as states
 use Rattle.cluster.proofs.Lemmas.{next_is}
 use Rattle.simulation.specs.Ends.{ShowsAt, Shows, CarriesAt}
 use Rattle.simulation.specs.Rounds.{entries_in, EndsWith, RunsInRounds, GoesInRounds, IsGoingOn, HasGone}
-use Rattle.simulation.specs.declared.simulation.End.{End}
-use Rattle.simulation.specs.declared.simulation.End.TheVariants as ends
+use Rattle.simulation.specs.declared.simulation.RunEnd.{RunEnd}
+use Rattle.simulation.specs.declared.simulation.RunEnd.TheVariants as ends
 use Rattle.simulation.specs.declared.simulation.Simulated.{Simulated}
 use Rattle.simulation.proofs.Beginning.{main_listed}
 use Rattle.simulation.proofs.Running.{longer, shown_all, shown_part, none_shown, legal_whole, console_whole}
@@ -42,7 +42,7 @@ boot_count : (p : Program) (n : ℕ) → length (boot_entries p n) ≡ n
 boot_count p zero = refl
 boot_count p (suc n) = ap suc (boot_count p n)
 
-own_fewer : (n : ℕ) (lines : List Entry) → length (own_entries n lines) ≤ length lines
+own_fewer : (n : ℕ) (trace : List Entry) → length (own_entries n trace) ≤ length trace
 own_fewer n [] = omega arith
 own_fewer n (x ∷ xs) = by (x.node == n) (own_fewer n xs)
   where
@@ -95,15 +95,15 @@ module _ (turns : ℕ) (old : ClusterView) (written : Option (List ℕ)) (done :
   abbrev first : List Entry
   first = boot_entries p (nodes_of p)
 
-  abbrev lines : List Entry
-  lines = entries_in u.rounds ++ first
+  abbrev trace : List Entry
+  trace = entries_in u.rounds ++ first
 
   -- a node has no more entries than all nodes have
   pub room_for : HasRoomForRound c
   room_for n v at =
-      let same : length (own_entries n lines) ≡ length v.entries = ap length (u.stands.agrees.trace.entries n ∙ ap (λ o. reverse (entries_at o)) at) ∙ length-reverse v.entries in
-      let all : length lines ≡ length (entries_in u.rounds) + length first = length-append (entries_in u.rounds) first in
-      omega (arith, same, own_fewer n lines, all, boot_count p (nodes_of p), u.few, bounded, p.setup.geometry.few_nodes)
+      let same : length (own_entries n trace) ≡ length v.entries = ap length (u.stands.agrees.trace.entries n ∙ ap (λ o. reverse (entries_at o)) at) ∙ length-reverse v.entries in
+      let all : length trace ≡ length (entries_in u.rounds) + length first = length-append (entries_in u.rounds) first in
+      omega (arith, same, own_fewer n trace, all, boot_count p (nodes_of p), u.few, bounded, p.setup.geometry.few_nodes)
 
   -- there are no more rounds than turns
   pub never_all : turns ≤ done → ⊥
@@ -124,21 +124,21 @@ module _ (turns : ℕ) (old : ClusterView) (written : Option (List ℕ)) (done :
     number_is : next_round (round_in c) ≡ suc (length u.rounds)
     number_is = ap next_round u.round ∙ next_is (length u.rounds) (omega (arith, u.count, u.some, u.few, bounded))
 
-    round_is : AreOfOneRound p (last_stamp 1 (entries_in u.rounds)) (suc (length u.rounds)) lines d.entries
-    round_is = subst (λ q. AreOfOneRound q (last_stamp 1 (entries_in u.rounds)) (suc (length u.rounds)) lines d.entries) u.program
-        (subst (λ ls. AreOfOneRound c.program (last_stamp 1 (entries_in u.rounds)) (suc (length u.rounds)) ls d.entries) (append-nil lines)
-        (subst (λ k. AreOfOneRound c.program k (suc (length u.rounds)) (lines ++ []) d.entries) u.clock
-        (subst (λ k. AreOfOneRound c.program (greatest_clock c.nodes) k (lines ++ []) d.entries) number_is d.is_round)))
+    round_is : AreOfOneRound p (last_stamp 1 (entries_in u.rounds)) (suc (length u.rounds)) trace d.entries
+    round_is = subst (λ q. AreOfOneRound q (last_stamp 1 (entries_in u.rounds)) (suc (length u.rounds)) trace d.entries) u.program
+        (subst (λ ls. AreOfOneRound c.program (last_stamp 1 (entries_in u.rounds)) (suc (length u.rounds)) ls d.entries) (append-nil trace)
+        (subst (λ k. AreOfOneRound c.program k (suc (length u.rounds)) (trace ++ []) d.entries) u.clock
+        (subst (λ k. AreOfOneRound c.program (greatest_clock c.nodes) k (trace ++ []) d.entries) number_is d.is_round)))
 
     has_entry : 0 < length d.entries
     has_entry = by u.going
       where
-        by : GoesOn p lines ⊎ (u.rounds ≡ []) → 0 < length d.entries
-        by (inl g) = d.goes_on (subst (λ ls. GoesOn c.program ls) (sym (append-nil lines)) (subst (λ q. GoesOn q lines) (sym u.program) g))
+        by : GoesOn p trace ⊎ (u.rounds ≡ []) → 0 < length d.entries
+        by (inl g) = d.goes_on (subst (λ ls. GoesOn c.program ls) (sym (append-nil trace)) (subst (λ q. GoesOn q trace) (sym u.program) g))
         by (inr none) =
-            let legal : Legal p first = subst (λ rs. Legal p (entries_in rs ++ first)) none (subst (λ q. Legal q lines) u.program (legal_whole c lines u.stands)) in
-            let pick : has_pick (net_after p lines) 0 ≡ true = subst (λ rs. has_pick (net_after p (entries_in rs ++ first)) 0 ≡ true) (sym none) (main_listed p legal) in
-            some_entry p (last_stamp 1 (entries_in u.rounds)) (suc (length u.rounds)) lines d.entries pick round_is
+            let legal : Legal p first = subst (λ rs. Legal p (entries_in rs ++ first)) none (subst (λ q. Legal q trace) u.program (legal_whole c trace u.stands)) in
+            let pick : has_pick (net_after p trace) 0 ≡ true = subst (λ rs. has_pick (net_after p (entries_in rs ++ first)) 0 ≡ true) (sym none) (main_listed p legal) in
+            some_entry p (last_stamp 1 (entries_in u.rounds)) (suc (length u.rounds)) trace d.entries pick round_is
 
     count_now : length (entries_in later) ≡ length d.entries + length (entries_in u.rounds)
     count_now = length-append d.entries (entries_in u.rounds)
@@ -178,9 +178,9 @@ module _ (turns : ℕ) (old : ClusterView) (written : Option (List ℕ)) (done :
         going = subst (λ q. GoesOn q (entries_in later ++ first)) program_is at
 
     -- the run has ended with this round
-    ended : (now2 : Option (List ℕ)) (end : End) → EndsWith p turns first later end → ShowsAt p written now2 (entries_in later ++ first) end → HasGone turns old c2 written now2 end
+    ended : (now2 : Option (List ℕ)) (end : RunEnd) → EndsWith p turns first later end → ShowsAt p written now2 (entries_in later ++ first) end → HasGone turns old c2 written now2 end
     ended now2 end e s = record {
-      lines = entries_in later ++ first;
+      entries = entries_in later ++ first;
       trace = stands_now.agrees.trace;
       runs = record {
         legal = subst (λ q. Legal q (entries_in later ++ first)) program_is (legal_whole c2 (entries_in later ++ first) stands_now);
@@ -216,21 +216,21 @@ module _ (turns : ℕ) (old : ClusterView) (written : Option (List ℕ)) (done :
 
 -- ## What is handed out
 
-module _ (turns : ℕ) (p : Program) (old new : ClusterView) (written now : Option (List ℕ)) (end : End) (r : HasGone turns old new written now end)
-    (same : old.program ≡ p) (s : Simulated) (ended_so : s.end ≡ end) (trace : s.trace ≡ reverse r.lines) where
-  lines_are : reverse s.trace ≡ r.lines
-  lines_are = ap reverse trace ∙ reverse-reverse r.lines
+module _ (turns : ℕ) (p : Program) (old new : ClusterView) (written now : Option (List ℕ)) (end : RunEnd) (r : HasGone turns old new written now end)
+    (same : old.program ≡ p) (s : Simulated) (ended_so : s.end ≡ end) (trace : s.trace ≡ reverse r.entries) where
+  entries_are : reverse s.trace ≡ r.entries
+  entries_are = ap reverse trace ∙ reverse-reverse r.entries
 
   pub in_rounds : GoesInRounds p turns s
-  in_rounds = inl (subst (λ ls. RunsInRounds p turns ls s.end) (sym lines_are) (subst (λ e. RunsInRounds p turns r.lines e) (sym ended_so) (subst (λ q. RunsInRounds q turns r.lines end) same r.runs)))
+  in_rounds = inl (subst (λ ls. RunsInRounds p turns ls s.end) (sym entries_are) (subst (λ e. RunsInRounds p turns r.entries e) (sym ended_so) (subst (λ q. RunsInRounds q turns r.entries end) same r.runs)))
 
   pub shown_in : Shows p written now s
-  shown_in = subst (λ ls. ShowsAt p written now ls s.end) (sym lines_are) (subst (λ e. ShowsAt p written now r.lines e) (sym ended_so) (subst (λ q. ShowsAt q written now r.lines end) same r.shows))
+  shown_in = subst (λ ls. ShowsAt p written now ls s.end) (sym entries_are) (subst (λ e. ShowsAt p written now r.entries e) (sym ended_so) (subst (λ q. ShowsAt q written now r.entries end) same r.shows))
 
   pub carried_in : (given : List (Ends Packet)) → s.wires ≡ wires_of new → length (wires_of old) ≡ length given → CarriesAt p given s
   carried_in given wires wide enough =
       let left = r.leaves (λ e. enough (ended_so ∙ e)) in
       record {
         nodes = ap length wires ∙ (left.0 ∙ wide);
-        carried = subst (λ ls. HaveCarried p ls s.wires) (sym lines_are) (subst (λ es. HaveCarried p r.lines es) (sym wires) (subst (λ q. HaveCarried q r.lines (wires_of new)) same left.1));
+        carried = subst (λ ls. HaveCarried p ls s.wires) (sym entries_are) (subst (λ es. HaveCarried p r.entries es) (sym wires) (subst (λ q. HaveCarried q r.entries (wires_of new)) same left.1));
       }

@@ -27,8 +27,8 @@ use Rattle.simulation.specs.Ends.{WentOn, before_last, EndsAt, Runs, ShowsAt, Si
 use Rattle.outside.specs.declared.outside.WriteRefusal.{WriteRefusal}
 use Rattle.outside.specs.declared.outside.WriteRefusal.TheVariants as refusals
 use Rattle.simulation.specs.Underway.{Draws, IsUnderway, HasRun, refusal_end}
-use Rattle.simulation.specs.declared.simulation.End.{End}
-use Rattle.simulation.specs.declared.simulation.End.TheVariants as ends
+use Rattle.simulation.specs.declared.simulation.RunEnd.{RunEnd}
+use Rattle.simulation.specs.declared.simulation.RunEnd.TheVariants as ends
 use Rattle.simulation.specs.declared.simulation.Simulated.{Simulated}
 use Rattle.simulation.proofs.Beginning.{begins_possible, nothing_shown}
 
@@ -49,18 +49,18 @@ prefixed written xs ys mid now h k =
     (length xs + k.0, subst (λ zs. Appends written zs now) (sym (take-append-add xs ys k.0)) (appended written xs (take k.0 ys) mid now h k.1))
 
 -- lines that come, of which the first ones are on the output
-module _ (lines more all : List ℕ) (is : all ≡ lines ++ more) where
-  pub longer : length lines ≤ length all
-  longer = let sum : length all ≡ length lines + length more = ap length is ∙ length-append lines more in omega (arith, sum)
+module _ (trace more all : List ℕ) (is : all ≡ trace ++ more) where
+  pub longer : length trace ≤ length all
+  longer = let sum : length all ≡ length trace + length more = ap length is ∙ length-append trace more in omega (arith, sum)
 
-  new_lines : drop (length lines) all ≡ more
-  new_lines = ap (drop (length lines)) is ∙ drop-append_seam lines more
+  new_lines : drop (length trace) all ≡ more
+  new_lines = ap (drop (length trace)) is ∙ drop-append_seam trace more
 
-  pub shown_all : (written now now2 : Option (List ℕ)) → Appends written lines now → Appends now (drop (length lines) all) now2 → Appends written all now2
-  shown_all written now now2 u h = subst (λ xs. Appends written xs now2) (sym is) (appended written lines more now now2 u (subst (λ xs. Appends now xs now2) new_lines h))
+  pub shown_all : (written now now2 : Option (List ℕ)) → Appends written trace now → Appends now (drop (length trace) all) now2 → Appends written all now2
+  shown_all written now now2 u h = subst (λ xs. Appends written xs now2) (sym is) (appended written trace more now now2 u (subst (λ xs. Appends now xs now2) new_lines h))
 
-  pub shown_part : (written now now2 : Option (List ℕ)) → Appends written lines now → AppendsPrefix now (drop (length lines) all) now2 → AppendsPrefix written all now2
-  shown_part written now now2 u h = subst (λ xs. AppendsPrefix written xs now2) (sym is) (prefixed written lines more now now2 u (subst (λ xs. AppendsPrefix now xs now2) new_lines h))
+  pub shown_part : (written now now2 : Option (List ℕ)) → Appends written trace now → AppendsPrefix now (drop (length trace) all) now2 → AppendsPrefix written all now2
+  shown_part written now now2 u h = subst (λ xs. AppendsPrefix written xs now2) (sym is) (prefixed written trace more now now2 u (subst (λ xs. AppendsPrefix now xs now2) new_lines h))
 
 -- ## No part of the trace came before
 
@@ -185,9 +185,9 @@ module _ (moves : Bool) (seed : ℕ) (old : ClusterView) (written : Option (List
         later_is = omega arith
 
     -- the run has ended with this act
-    ended : (turns : ℕ) (now2 : Option (List ℕ)) (end : End) → done < turns → EndsAt p turns first (x ∷ u.later) end → ShowsAt p written now2 (x ∷ u.later ++ first) end → HasRun moves turns seed old c2 written now2 end
+    ended : (turns : ℕ) (now2 : Option (List ℕ)) (end : RunEnd) → done < turns → EndsAt p turns first (x ∷ u.later) end → ShowsAt p written now2 (x ∷ u.later ++ first) end → HasRun moves turns seed old c2 written now2 end
     ended turns now2 end l e s = record {
-      lines = x ∷ u.later ++ first;
+      entries = x ∷ u.later ++ first;
       trace = d.adds.stands.agrees.trace;
       runs = record {
         legal = subst (λ q. Legal q (x ∷ u.later ++ first)) program_is (legal_whole c2 (x ∷ u.later ++ first) d.adds.stands);
@@ -201,7 +201,7 @@ module _ (moves : Bool) (seed : ℕ) (old : ClusterView) (written : Option (List
       leaves = λ enough. (d.adds.wide ∙ u.wide, subst (λ q. HaveCarried q (x ∷ u.later ++ first) (wires_of c2)) program_is d.adds.stands.agrees.carried);
     }
 
-    pub refused : (turns : ℕ) (now2 : Option (List ℕ)) (refusal : WriteRefusal) (end : End) → done < turns → AppendsPrefix now (drop (length (console_in c)) (console_in c2)) now2 → end ≡ refusal_end refusal
+    pub refused : (turns : ℕ) (now2 : Option (List ℕ)) (refusal : WriteRefusal) (end : RunEnd) → done < turns → AppendsPrefix now (drop (length (console_in c)) (console_in c2)) now2 → end ≡ refusal_end refusal
         → HasRun moves turns seed old c2 written now2 end
     refused turns now2 refusal end l h e = subst (λ z. HasRun moves turns seed old c2 written now2 z) (sym e) (by refusal)
       where
@@ -229,7 +229,7 @@ module _ (moves : Bool) (seed : ℕ) (old : ClusterView) (written : Option (List
   before [] h = tt
   before (x ∷ later) h = h.0
 
-  stops : (turns : ℕ) (end : End) → done ≤ turns → EndsAt p turns first u.later end → Runs moves p turns seed (u.later ++ first) end
+  stops : (turns : ℕ) (end : RunEnd) → done ≤ turns → EndsAt p turns first u.later end → Runs moves p turns seed (u.later ++ first) end
   stops turns end l e = record {
     legal = subst (λ q. Legal q (u.later ++ first)) u.program (legal_whole c (u.later ++ first) u.stands);
     later = u.later;
@@ -244,7 +244,7 @@ module _ (moves : Bool) (seed : ℕ) (old : ClusterView) (written : Option (List
 
   pub out_of_turns : (turns : ℕ) → done ≡ turns → HasRun moves turns seed old c written now ends.OutOfTurns
   out_of_turns turns e = record {
-    lines = u.later ++ first;
+    entries = u.later ++ first;
     trace = u.stands.agrees.trace;
     runs = stops turns ends.OutOfTurns (omega (arith, e)) (u.went_on, u.count ∙ e);
     shows = all_written;
@@ -253,7 +253,7 @@ module _ (moves : Bool) (seed : ℕ) (old : ClusterView) (written : Option (List
 
   pub lost : (turns : ℕ) (c2 : ClusterView) → done < turns → Loses c c2 (u.later ++ first) → HasRun moves turns seed old c2 written now ends.NoMemory
   lost turns c2 l h = record {
-    lines = u.later ++ first;
+    entries = u.later ++ first;
     trace = h.trace;
     runs = stops turns ends.NoMemory (omega (arith, l)) (before u.later u.went_on);
     shows = λ some. whole_prefix written _ now all_written;
@@ -262,21 +262,21 @@ module _ (moves : Bool) (seed : ℕ) (old : ClusterView) (written : Option (List
 
 -- ## What is handed out
 
-module _ (moves : Bool) (turns seed : ℕ) (p : Program) (old new : ClusterView) (written now : Option (List ℕ)) (end : End) (r : HasRun moves turns seed old new written now end)
-    (same : old.program ≡ p) (s : Simulated) (ended : s.end ≡ end) (trace : s.trace ≡ reverse r.lines) where
-  lines_are : reverse s.trace ≡ r.lines
-  lines_are = ap reverse trace ∙ reverse-reverse r.lines
+module _ (moves : Bool) (turns seed : ℕ) (p : Program) (old new : ClusterView) (written now : Option (List ℕ)) (end : RunEnd) (r : HasRun moves turns seed old new written now end)
+    (same : old.program ≡ p) (s : Simulated) (ended : s.end ≡ end) (trace : s.trace ≡ reverse r.entries) where
+  entries_are : reverse s.trace ≡ r.entries
+  entries_are = ap reverse trace ∙ reverse-reverse r.entries
 
   pub simulated : Simulates moves p turns seed s
-  simulated = inl (subst (λ ls. Runs moves p turns seed ls s.end) (sym lines_are) (subst (λ e. Runs moves p turns seed r.lines e) (sym ended) (subst (λ q. Runs moves q turns seed r.lines end) same r.runs)))
+  simulated = inl (subst (λ ls. Runs moves p turns seed ls s.end) (sym entries_are) (subst (λ e. Runs moves p turns seed r.entries e) (sym ended) (subst (λ q. Runs moves q turns seed r.entries end) same r.runs)))
 
   pub shown : Shows p written now s
-  shown = subst (λ ls. ShowsAt p written now ls s.end) (sym lines_are) (subst (λ e. ShowsAt p written now r.lines e) (sym ended) (subst (λ q. ShowsAt q written now r.lines end) same r.shows))
+  shown = subst (λ ls. ShowsAt p written now ls s.end) (sym entries_are) (subst (λ e. ShowsAt p written now r.entries e) (sym ended) (subst (λ q. ShowsAt q written now r.entries end) same r.shows))
 
   pub carried : (given : List (Ends Packet)) → s.wires ≡ wires_of new → length (wires_of old) ≡ length given → CarriesAt p given s
   carried given wires wide enough =
       let left = r.leaves (λ e. enough (ended ∙ e)) in
       record {
         nodes = ap length wires ∙ (left.0 ∙ wide);
-        carried = subst (λ ls. HaveCarried p ls s.wires) (sym lines_are) (subst (λ es. HaveCarried p r.lines es) (sym wires) (subst (λ q. HaveCarried q r.lines (wires_of new)) same left.1));
+        carried = subst (λ ls. HaveCarried p ls s.wires) (sym entries_are) (subst (λ es. HaveCarried p r.entries es) (sym wires) (subst (λ q. HaveCarried q r.entries (wires_of new)) same left.1));
       }

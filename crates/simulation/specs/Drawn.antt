@@ -26,11 +26,11 @@ chosen word acts = slice_get acts (word % length acts)
 
 -- the acts that are possible after this trace; moves only where they are asked for
 abbrev pub possible_after : Bool → Program → List Entry → List (ℕ × Act)
-possible_after moves p lines = possible_acts moves p (net_after p lines)
+possible_after moves p trace = possible_acts moves p (net_after p trace)
 
 -- the k-th act after this trace: chosen by the word, with its stamp and its round
-pub record IsDrawn (moves : Bool) (p : Program) (word k : ℕ) (lines : List Entry) (x : Entry) : Type 0 where
-  pub act : chosen word (possible_after moves p lines) ≡ Some (x.node, x.act)
+pub record IsDrawn (moves : Bool) (p : Program) (word k : ℕ) (trace : List Entry) (x : Entry) : Type 0 where
+  pub act : chosen word (possible_after moves p trace) ≡ Some (x.node, x.act)
   pub stamp : x.stamp ≡ suc k
   pub round : x.round ≡ k
 

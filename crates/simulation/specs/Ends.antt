@@ -11,8 +11,8 @@ use Rattle.wires.specs.declared.ends.Ends.{Ends}
 use Rattle.cluster.specs.Outcomes.{IsDoneAt, IsStuckAt}
 use Rattle.cluster.specs.Standing.{HaveCarried}
 use Rattle.simulation.specs.Drawn.{AreDrawn}
-use Rattle.simulation.specs.declared.simulation.End.{End}
-use Rattle.simulation.specs.declared.simulation.End.TheVariants.{Done, Stalled, OutOfTurns, NotPossible, WriteFault, NoMemory}
+use Rattle.simulation.specs.declared.simulation.RunEnd.{RunEnd}
+use Rattle.simulation.specs.declared.simulation.RunEnd.TheVariants.{Done, Stalled, OutOfTurns, NotPossible, WriteFault, NoMemory}
 use Rattle.simulation.specs.declared.simulation.Simulated.{Simulated}
 
 -- after none of these acts the program was done or stuck
@@ -26,7 +26,7 @@ before_last [] = []
 before_last (x ∷ later) = later
 
 -- what the last act has come to; after each act before it the run went on
-abbrev pub EndsAt : Program → (turns : ℕ) → List Entry → List Entry → End → Type 0
+abbrev pub EndsAt : Program → (turns : ℕ) → List Entry → List Entry → RunEnd → Type 0
 EndsAt p turns first later Done = (later ≡ [] → ⊥) × WentOn p first (before_last later) × IsDoneAt p (later ++ first)
 EndsAt p turns first later Stalled = (later ≡ [] → ⊥) × WentOn p first (before_last later) × IsStuckAt p (later ++ first)
 EndsAt p turns first later OutOfTurns = WentOn p first later × (length later ≡ turns)
@@ -35,10 +35,10 @@ EndsAt p turns first later WriteFault = WentOn p first (before_last later)
 EndsAt p turns first later NoMemory = WentOn p first (before_last later)
 
 -- a run with these turns and this seed: its trace, newest entry first, and its end
-pub record Runs (moves : Bool) (p : Program) (turns seed : ℕ) (lines : List Entry) (end : End) : Type 0 where
-  pub legal : Legal p lines
+pub record Runs (moves : Bool) (p : Program) (turns seed : ℕ) (trace : List Entry) (end : RunEnd) : Type 0 where
+  pub legal : Legal p trace
   pub later : List Entry
-  pub begins : lines ≡ later ++ boot_entries p (nodes_of p)
+  pub begins : trace ≡ later ++ boot_entries p (nodes_of p)
   pub drawn : AreDrawn moves p seed (boot_entries p (nodes_of p)) later
   pub few : length later ≤ turns
   pub ends : EndsAt p turns (boot_entries p (nodes_of p)) later end
@@ -49,13 +49,13 @@ Simulates moves p turns seed s = Runs moves p turns seed (reverse s.trace) s.end
 
 -- the lines of a trace are on the output, or after a refused write or want of memory a first part of them; nothing is said
 -- of a trace that wasn't gathered
-abbrev pub ShowsAt : Program → Option (List ℕ) → Option (List ℕ) → List Entry → End → Type 0
-ShowsAt p written now lines Done = Appends written (console_of p (at_first p) lines) now
-ShowsAt p written now lines Stalled = Appends written (console_of p (at_first p) lines) now
-ShowsAt p written now lines OutOfTurns = Appends written (console_of p (at_first p) lines) now
-ShowsAt p written now lines (NotPossible line) = Appends written (console_of p (at_first p) lines) now
-ShowsAt p written now lines WriteFault = AppendsPrefix written (console_of p (at_first p) lines) now
-ShowsAt p written now lines NoMemory = lines ≢ [] → AppendsPrefix written (console_of p (at_first p) lines) now
+abbrev pub ShowsAt : Program → Option (List ℕ) → Option (List ℕ) → List Entry → RunEnd → Type 0
+ShowsAt p written now trace Done = Appends written (console_of p (at_first p) trace) now
+ShowsAt p written now trace Stalled = Appends written (console_of p (at_first p) trace) now
+ShowsAt p written now trace OutOfTurns = Appends written (console_of p (at_first p) trace) now
+ShowsAt p written now trace (NotPossible line) = Appends written (console_of p (at_first p) trace) now
+ShowsAt p written now trace WriteFault = AppendsPrefix written (console_of p (at_first p) trace) now
+ShowsAt p written now trace NoMemory = trace ≢ [] → AppendsPrefix written (console_of p (at_first p) trace) now
 
 abbrev pub Shows : Program → Option (List ℕ) → Option (List ℕ) → Simulated → Type 0
 Shows p written now s = ShowsAt p written now (reverse s.trace) s.end

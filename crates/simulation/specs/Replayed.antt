@@ -10,7 +10,7 @@ use Rattle.simulation.specs.Ends.{ShowsAt}
 use Rattle.simulation.specs.Schedules.{AreFirstOf, RunsBy}
 use Rattle.simulation.specs.Underway.{LeavesAt}
 use Rattle.run_texts.specs.declared.schedule.Scheduled.{Scheduled}
-use Rattle.simulation.specs.declared.simulation.End.{End}
+use Rattle.simulation.specs.declared.simulation.RunEnd.{RunEnd}
 
 -- after so many acts of a run that began as old
 pub record IsReplaying (schedule : List Scheduled) (old : ClusterView) (written : Option (List ℕ)) (done : ℕ) (c : ClusterView) (now : Option (List ℕ)) : Type 0 where
@@ -25,9 +25,9 @@ pub record IsReplaying (schedule : List Scheduled) (old : ClusterView) (written 
   pub wide : length (wires_of c) ≡ length (wires_of old)
 
 -- a run that began as old has ended
-pub record HasReplayed (schedule : List Scheduled) (old new : ClusterView) (written now : Option (List ℕ)) (end : End) : Type 0 where
-  pub lines : List Entry
-  pub trace : HasTrace new lines
-  pub runs : RunsBy old.program schedule lines end
-  pub shows : ShowsAt old.program written now lines end
-  pub leaves : LeavesAt old.program old new lines end
+pub record HasReplayed (schedule : List Scheduled) (old new : ClusterView) (written now : Option (List ℕ)) (end : RunEnd) : Type 0 where
+  pub entries : List Entry
+  pub trace : HasTrace new entries
+  pub runs : RunsBy old.program schedule entries end
+  pub shows : ShowsAt old.program written now entries end
+  pub leaves : LeavesAt old.program old new entries end

@@ -10,8 +10,8 @@ use Rattle.cluster.specs.Standing.{StandsFor, HasTrace}
 use Rattle.cluster.specs.View.{ClusterView, console_in, greatest_clock, round_in, wires_of}
 use Rattle.simulation.specs.Ends.{ShowsAt}
 use Rattle.simulation.specs.Underway.{LeavesAt}
-use Rattle.simulation.specs.declared.simulation.End.{End}
-use Rattle.simulation.specs.declared.simulation.End.TheVariants.{Done, Stalled, OutOfTurns, NotPossible, WriteFault, NoMemory}
+use Rattle.simulation.specs.declared.simulation.RunEnd.{RunEnd}
+use Rattle.simulation.specs.declared.simulation.RunEnd.TheVariants.{Done, Stalled, OutOfTurns, NotPossible, WriteFault, NoMemory}
 use Rattle.simulation.specs.declared.simulation.Simulated.{Simulated}
 
 -- the entries of these rounds
@@ -38,7 +38,7 @@ WentOnFor p turns first [] = ⊤
 WentOnFor p turns first (round ∷ before) = WentOnFor p turns first before × HasTurns p turns first (entries_in (round ∷ before))
 
 -- what the newest round has come to; after each before it the run went on
-abbrev pub EndsWith : Program → (turns : ℕ) → List Entry → List (List Entry) → End → Type 0
+abbrev pub EndsWith : Program → (turns : ℕ) → List Entry → List (List Entry) → RunEnd → Type 0
 EndsWith p turns first [] end = ⊥
 EndsWith p turns first (round ∷ before) Done = WentOnFor p turns first before × IsDoneAt p (entries_in (round ∷ before) ++ first)
 EndsWith p turns first (round ∷ before) Stalled = WentOnFor p turns first before × IsStuckAt p (entries_in (round ∷ before) ++ first)
@@ -49,10 +49,10 @@ EndsWith p turns first (round ∷ before) WriteFault = WentOnFor p turns first b
 EndsWith p turns first (round ∷ before) NoMemory = ⊥
 
 -- a run with these turns: its trace, newest entry first, and its end
-pub record RunsInRounds (p : Program) (turns : ℕ) (lines : List Entry) (end : End) : Type 0 where
-  pub legal : Legal p lines
+pub record RunsInRounds (p : Program) (turns : ℕ) (trace : List Entry) (end : RunEnd) : Type 0 where
+  pub legal : Legal p trace
   pub rounds : List (List Entry)
-  pub begins : lines ≡ entries_in rounds ++ boot_entries p (nodes_of p)
+  pub begins : trace ≡ entries_in rounds ++ boot_entries p (nodes_of p)
   pub are_rounds : AreRounds p (boot_entries p (nodes_of p)) rounds
   pub ends : EndsWith p turns (boot_entries p (nodes_of p)) rounds end
 
@@ -80,9 +80,9 @@ pub record IsGoingOn (turns : ℕ) (old : ClusterView) (written : Option (List �
   pub wide : length (wires_of c) ≡ length (wires_of old)
 
 -- a run that began as old has ended
-pub record HasGone (turns : ℕ) (old new : ClusterView) (written now : Option (List ℕ)) (end : End) : Type 0 where
-  pub lines : List Entry
-  pub trace : HasTrace new lines
-  pub runs : RunsInRounds old.program turns lines end
-  pub shows : ShowsAt old.program written now lines end
-  pub leaves : LeavesAt old.program old new lines end
+pub record HasGone (turns : ℕ) (old new : ClusterView) (written now : Option (List ℕ)) (end : RunEnd) : Type 0 where
+  pub entries : List Entry
+  pub trace : HasTrace new entries
+  pub runs : RunsInRounds old.program turns entries end
+  pub shows : ShowsAt old.program written now entries end
+  pub leaves : LeavesAt old.program old new entries end

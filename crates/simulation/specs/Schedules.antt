@@ -8,8 +8,8 @@ use Rattle.cluster.specs.Acts.{is_possible}
 use Rattle.cluster.specs.Outcomes.{IsDoneAt, IsStuckAt}
 use Rattle.cluster.specs.Standing.{net_after}
 use Rattle.run_texts.specs.declared.schedule.Scheduled.{Scheduled}
-use Rattle.simulation.specs.declared.simulation.End.{End}
-use Rattle.simulation.specs.declared.simulation.End.TheVariants.{Done, Stalled, OutOfTurns, NotPossible, WriteFault, NoMemory}
+use Rattle.simulation.specs.declared.simulation.RunEnd.{RunEnd}
+use Rattle.simulation.specs.declared.simulation.RunEnd.TheVariants.{Done, Stalled, OutOfTurns, NotPossible, WriteFault, NoMemory}
 use Rattle.simulation.specs.declared.simulation.Simulated.{Simulated}
 
 -- the numbers of each act are those of a node, a processor and so on of the program's cluster
@@ -31,22 +31,22 @@ AreFirstOf schedule (x ∷ later) = AreFirstOf schedule later
     × ((s : Scheduled) × (slice_get schedule (length later) ≡ Some s) × IsOf (suc (length later)) s x)
 
 -- what has ended a run that has done so many acts and left this trace
-abbrev pub StopsAt : Program → List Scheduled → (done : ℕ) → List Entry → End → Type 0
-StopsAt p schedule done lines Done = (done ≡ length schedule) × IsDoneAt p lines
-StopsAt p schedule done lines Stalled = (done ≡ length schedule) × IsStuckAt p lines
-StopsAt p schedule done lines OutOfTurns = (done ≡ length schedule) × (IsDoneAt p lines → ⊥) × (IsStuckAt p lines → ⊥)
-StopsAt p schedule done lines (NotPossible line) =
-    (s : Scheduled) × (slice_get schedule done ≡ Some s) × (s.line ≡ line) × (is_possible (net_after p lines) s.node s.act ≡ false)
-StopsAt p schedule done lines WriteFault = 0 < done
-StopsAt p schedule done lines NoMemory = ⊤
+abbrev pub StopsAt : Program → List Scheduled → (done : ℕ) → List Entry → RunEnd → Type 0
+StopsAt p schedule done trace Done = (done ≡ length schedule) × IsDoneAt p trace
+StopsAt p schedule done trace Stalled = (done ≡ length schedule) × IsStuckAt p trace
+StopsAt p schedule done trace OutOfTurns = (done ≡ length schedule) × (IsDoneAt p trace → ⊥) × (IsStuckAt p trace → ⊥)
+StopsAt p schedule done trace (NotPossible line) =
+    (s : Scheduled) × (slice_get schedule done ≡ Some s) × (s.line ≡ line) × (is_possible (net_after p trace) s.node s.act ≡ false)
+StopsAt p schedule done trace WriteFault = 0 < done
+StopsAt p schedule done trace NoMemory = ⊤
 
 -- a run by this schedule: its trace, newest entry first, and its end
-pub record RunsBy (p : Program) (schedule : List Scheduled) (lines : List Entry) (end : End) : Type 0 where
-  pub legal : Legal p lines
+pub record RunsBy (p : Program) (schedule : List Scheduled) (trace : List Entry) (end : RunEnd) : Type 0 where
+  pub legal : Legal p trace
   pub later : List Entry
-  pub begins : lines ≡ later ++ boot_entries p (nodes_of p)
+  pub begins : trace ≡ later ++ boot_entries p (nodes_of p)
   pub acts : AreFirstOf schedule later
-  pub stops : StopsAt p schedule (length later) lines end
+  pub stops : StopsAt p schedule (length later) trace end
 
 -- what has come of a run: where there was no memory to begin or to gather its entries there is no trace
 abbrev pub Follows : Program → List Scheduled → Simulated → Type 0

@@ -10,4 +10,4 @@ mod simulation;
 
 pub use rounds::run_in_rounds;
 pub use schedule::replay;
-pub use simulation::{End, Simulated, simulate};
+pub use simulation::{RunEnd, Simulated, simulate};

@@ -11,7 +11,7 @@ ghost use Rattle.cluster.specs.View.{greatest_clock, round_in};
 ghost use Rattle.simulation.specs.Ends.{Shows, CarriesAt};
 ghost use Rattle.simulation.specs.Rounds.{GoesInRounds, HasGone};
 
-use crate::simulation::{End, Simulated, none, show};
+use crate::simulation::{RunEnd, Simulated, none, show};
 use basics::NoMemory;
 use cluster::{Cluster, State};
 use node_loop::Gate;
@@ -42,7 +42,7 @@ pub fn run_in_rounds<R: Threads + Sync, K: Sink, G: Gate>(
     ensures ran { GoesInRounds (program setup.now image) turns result }
     ensures shown { Shows (program setup.now image) (K.written out.old) (K.written out.new) result }
     ensures carried { CarriesAt (program setup.now image) wires result }
-    ensures failed { result.end ≡ End.WriteFault → Rose (K.faults out.old) (K.faults out.new) }
+    ensures failed { result.end ≡ RunEnd.WriteFault → Rose (K.faults out.old) (K.faults out.new) }
     ensures later { K.faults out.old ≤ K.faults out.new }
 {
     let mut cluster = match Cluster::boot(alloc, setup, image, wires) {
@@ -66,12 +66,12 @@ fn do_rounds<R: Threads + Sync, K: Sink, G: Gate>(
     turns: u64,
     out: &mut K,
     gate: &G,
-) -> Result<End, NoMemory>
+) -> Result<RunEnd, NoMemory>
     requires begun { StandsFor cluster.old [] (boot_entries cluster.old.program (nodes_of cluster.old.program)) }
     requires first { (greatest_clock cluster.old.nodes ≡ 1) × (round_in cluster.old ≡ 0) }
     requires turns { (0 < turns) × (turns ≤ 1000000) }
     ensures ran { IfOk result (λ end. HasGone turns cluster.old cluster.new (K.written out.old) (K.written out.new) end) }
-    ensures failed { IfOk result (λ end. end ≡ End.WriteFault → Rose (K.faults out.old) (K.faults out.new)) }
+    ensures failed { IfOk result (λ end. end ≡ RunEnd.WriteFault → Rose (K.faults out.old) (K.faults out.new)) }
     ensures later { K.faults out.old ≤ K.faults out.new }
 {
     for done in 0..turns {
@@ -79,16 +79,16 @@ fn do_rounds<R: Threads + Sync, K: Sink, G: Gate>(
         cluster.round_threads(rt, gate)?;
         match show(cluster, shown, out) {
             Ok(()) => {}
-            Err(WriteRefusal::Failed) => return Ok(End::WriteFault),
+            Err(WriteRefusal::Failed) => return Ok(RunEnd::WriteFault),
             Err(WriteRefusal::NoMemory) => return Err(NoMemory),
         }
         match cluster.verdict() {
-            State::Done => return Ok(End::Done),
-            State::Stalled => return Ok(End::Stalled),
+            State::Done => return Ok(RunEnd::Done),
+            State::Stalled => return Ok(RunEnd::Stalled),
             State::Going => {}
         }
         if cluster.turns() >= turns {
-            return Ok(End::OutOfTurns);
+            return Ok(RunEnd::OutOfTurns);
         }
     }
     unreachable!()

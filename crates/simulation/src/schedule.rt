@@ -12,7 +12,7 @@ ghost use Rattle.simulation.specs.Ends.{Shows, CarriesAt};
 ghost use Rattle.simulation.specs.Schedules.{AreInRange, Follows};
 ghost use Rattle.simulation.specs.Replayed.{HasReplayed};
 
-use crate::simulation::{End, Simulated, none, show};
+use crate::simulation::{RunEnd, Simulated, none, show};
 use basics::NoMemory;
 use cluster::{Cluster, State};
 use node_loop::Turned;
@@ -42,7 +42,7 @@ pub fn replay<K: Sink>(
     ensures replayed { Follows (program setup.now image) schedule.now result }
     ensures shown { Shows (program setup.now image) (K.written out.old) (K.written out.new) result }
     ensures carried { CarriesAt (program setup.now image) wires result }
-    ensures failed { result.end ≡ End.WriteFault → Rose (K.faults out.old) (K.faults out.new) }
+    ensures failed { result.end ≡ RunEnd.WriteFault → Rose (K.faults out.old) (K.faults out.new) }
     ensures later { K.faults out.old ≤ K.faults out.new }
 {
     let mut cluster = match Cluster::boot(alloc, setup, image, wires) {
@@ -57,30 +57,30 @@ pub fn replay<K: Sink>(
 }
 
 // Does act after act.
-fn do_acts<K: Sink>(cluster: &mut Cluster, schedule: &[Scheduled], out: &mut K) -> End
+fn do_acts<K: Sink>(cluster: &mut Cluster, schedule: &[Scheduled], out: &mut K) -> RunEnd
     requires begun { StandsFor cluster.old [] (boot_entries cluster.old.program (nodes_of cluster.old.program)) }
     requires first { (greatest_clock cluster.old.nodes ≡ 1) × (round_in cluster.old ≡ 0) }
     requires few { length schedule.now ≤ 1000000 }
     requires range { AreInRange cluster.old.program schedule.now }
     ensures ran { HasReplayed schedule.now cluster.old cluster.new (K.written out.old) (K.written out.new) result }
-    ensures failed { result ≡ End.WriteFault → Rose (K.faults out.old) (K.faults out.new) }
+    ensures failed { result ≡ RunEnd.WriteFault → Rose (K.faults out.old) (K.faults out.new) }
     ensures later { K.faults out.old ≤ K.faults out.new }
 {
     for next in schedule {
         let shown = cluster.console().len();
         match cluster.step(next.node, next.act) {
             Ok(Turned::Did) => {}
-            Ok(Turned::Idle) => return End::NotPossible(next.line),
-            Err(NoMemory) => return End::NoMemory,
+            Ok(Turned::Idle) => return RunEnd::NotPossible(next.line),
+            Err(NoMemory) => return RunEnd::NoMemory,
         }
         match show(cluster, shown, out) {
             Ok(()) => {}
-            Err(refusal) => return End::from(refusal),
+            Err(refusal) => return RunEnd::from(refusal),
         }
     }
     match cluster.verdict() {
-        State::Done => End::Done,
-        State::Stalled => End::Stalled,
-        State::Going => End::OutOfTurns,
+        State::Done => RunEnd::Done,
+        State::Stalled => RunEnd::Stalled,
+        State::Going => RunEnd::OutOfTurns,
     }
 }

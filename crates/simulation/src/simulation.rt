@@ -30,7 +30,7 @@ const STREAM: u64 = 54;
 
 /// What has ended a run.
 #[derive(Clone, Copy, PartialEq, Eq)]
-pub enum End {
+pub enum RunEnd {
     /// A thread has called halt, or no thread lives and nothing is under way.
     Done,
     /// Threads live, and each waits for what doesn't come.
@@ -45,15 +45,15 @@ pub enum End {
     NoMemory,
 }
 
-impl From<WriteRefusal> for End {
+impl From<WriteRefusal> for RunEnd {
     ghost use Rattle.simulation.specs.Underway.{refusal_end};
 
     ghost from_gives = { λ refusal end. end ≡ refusal_end refusal };
 
-    fn from(refusal: WriteRefusal) -> End {
+    fn from(refusal: WriteRefusal) -> RunEnd {
         match refusal {
-            WriteRefusal::Failed => End::WriteFault,
-            WriteRefusal::NoMemory => End::NoMemory,
+            WriteRefusal::Failed => RunEnd::WriteFault,
+            WriteRefusal::NoMemory => RunEnd::NoMemory,
         }
     }
 }
@@ -61,7 +61,7 @@ impl From<WriteRefusal> for End {
 /// A run that has ended.
 #[derive(Drop)]
 pub struct Simulated {
-    pub end: End,
+    pub end: RunEnd,
     /// Its entries, oldest first.
     pub trace: Items<Entry>,
     /// The links of its nodes, which have carried its packets; at want of memory maybe none.
@@ -88,7 +88,7 @@ pub fn simulate<K: Sink>(
     ensures simulated { Simulates moves (program setup.now image) turns seed result }
     ensures shown { Shows (program setup.now image) (K.written out.old) (K.written out.new) result }
     ensures carried { CarriesAt (program setup.now image) wires result }
-    ensures failed { result.end ≡ End.WriteFault → Rose (K.faults out.old) (K.faults out.new) }
+    ensures failed { result.end ≡ RunEnd.WriteFault → Rose (K.faults out.old) (K.faults out.new) }
     ensures later { K.faults out.old ≤ K.faults out.new }
 {
     let mut cluster = match Cluster::boot(alloc, setup, image, wires) {
@@ -104,22 +104,22 @@ pub fn simulate<K: Sink>(
 
 // A run of which there is nothing, for want of memory.
 pub(crate) fn none(alloc: Global) -> Simulated
-    ensures { (result.trace ≡ []) × (result.end ≡ End.NoMemory) }
+    ensures { (result.trace ≡ []) × (result.end ≡ RunEnd.NoMemory) }
 {
     Simulated {
-        end: End::NoMemory,
+        end: RunEnd::NoMemory,
         trace: Items::new(Vec::new(alloc)),
         wires: Wires::none(alloc),
     }
 }
 
 // Draws act after act.
-fn run<K: Sink>(cluster: &mut Cluster, turns: u64, seed: u64, moves: bool, out: &mut K) -> End
+fn run<K: Sink>(cluster: &mut Cluster, turns: u64, seed: u64, moves: bool, out: &mut K) -> RunEnd
     requires begun { StandsFor cluster.old [] (boot_entries cluster.old.program (nodes_of cluster.old.program)) }
     requires first { (greatest_clock cluster.old.nodes ≡ 1) × (round_in cluster.old ≡ 0) }
     requires turns { (0 < turns) × (turns ≤ 1000000) }
     ensures ran { HasRun moves turns seed cluster.old cluster.new (K.written out.old) (K.written out.new) result }
-    ensures failed { result ≡ End.WriteFault → Rose (K.faults out.old) (K.faults out.new) }
+    ensures failed { result ≡ RunEnd.WriteFault → Rose (K.faults out.old) (K.faults out.new) }
     ensures later { K.faults out.old ≤ K.faults out.new }
 {
     let mut words = generator(seed);
@@ -127,19 +127,19 @@ fn run<K: Sink>(cluster: &mut Cluster, turns: u64, seed: u64, moves: bool, out: 
         let shown = cluster.console().len();
         match draw(cluster, words.next_word(), moves) {
             Ok(()) => {}
-            Err(NoMemory) => return End::NoMemory,
+            Err(NoMemory) => return RunEnd::NoMemory,
         }
         match show(cluster, shown, out) {
             Ok(()) => {}
-            Err(refusal) => return End::from(refusal),
+            Err(refusal) => return RunEnd::from(refusal),
         }
         match cluster.verdict() {
-            State::Done => return End::Done,
-            State::Stalled => return End::Stalled,
+            State::Done => return RunEnd::Done,
+            State::Stalled => return RunEnd::Stalled,
             State::Going => {}
         }
     }
-    End::OutOfTurns
+    RunEnd::OutOfTurns
 }
 
 // The generator of a seed.

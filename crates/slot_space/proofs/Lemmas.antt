@@ -3,6 +3,7 @@ use Rattle.std.proofs.Common.{[], arith, Bool, List, None, Some, cond, eqb, fals
 use Rattle.std.specs.Prelude.{nat_lt}
 use Rattle.std.specs.List.{filter}
 use Rattle.std.proofs.lemmas.Bool.{eqb-true}
+use Rattle.slot_space.specs.Limits.{slot_limit}
 use Rattle.slot_space.specs.Sets.{AreBelow, IsSlotSet, IsAscending, has, has_run, insert, least_from, lowest_run, meets, minus, run, union}
 use Rattle.slot_space.specs.WordsBack
 use Rattle.slot_space.proofs.Sets
@@ -43,7 +44,7 @@ meets-common = Sets.meets-common
 
 -- ## Ascending lists
 
--- a list that ascends does so with one slot more
+-- a list that ascends still does with one more slot
 pub ascending-insert : (x : ℕ) (ys : List ℕ) → IsAscending ys → IsAscending (insert x ys)
 ascending-insert = Ascending.ascending-insert
 
@@ -63,7 +64,7 @@ ascending-run = Ascending.ascending-run
 pub same_members : (xs ys : List ℕ) → IsAscending xs → IsAscending ys → ((s : ℕ) → has s xs ≡ has s ys) → xs ≡ ys
 same_members = Ascending.same_members
 
--- members below a limit stay below it with one slot more that is
+-- members below a limit stay below it with one more slot that is
 pub below-insert : (limit x : ℕ) (ys : List ℕ) → x < limit → AreBelow limit ys → AreBelow limit (insert x ys)
 below-insert = Ascending.below-insert
 
@@ -144,4 +145,4 @@ insert-left_out x xs asc is = same_members _ _ (ascending-insert x (minus xs (x 
 
 -- a set of slots without one of them is a set of slots
 pub proper-left_out : (x : ℕ) (xs : List ℕ) → IsSlotSet xs → IsSlotSet (minus xs (x ∷ []))
-proper-left_out x xs proper = record { ascending = ascending-minus xs (x ∷ []) proper.ascending; small = below-minus 4096 xs (x ∷ []) proper.small }
+proper-left_out x xs proper = record { ascending = ascending-minus xs (x ∷ []) proper.ascending; small = below-minus slot_limit xs (x ∷ []) proper.small }

@@ -13,9 +13,13 @@ slot_size = 65536
 abbrev pub slot_limit : ℕ
 slot_limit = 4096
 
+-- the bytes of the most slots
+abbrev pub slots_len : ℕ
+slots_len = slot_size * slot_limit
+
 -- the address after the last of the most slots
 abbrev pub slots_end : ℕ
-slots_end = slots_start + slot_size * slot_limit
+slots_end = slots_start + slots_len
 
 -- the most nodes that there are
 abbrev pub node_limit : ℕ

@@ -37,6 +37,20 @@ pub(crate) fn clear_bit(words: &mut [u64], s: usize)
     words[s / 64] = word & !(1 << (s % 64));
 }
 
+/// Sets bit s, or clears it.
+fn write_bit(words: &mut [u64], s: usize, bit: bool)
+    requires within { s < 64 * length words.old }
+    requires words { AreWords words.old }
+    ensures bits { (k : ℕ) → bit_of words.new k ≡ (if s == k then bit else bit_of words.old k) }
+    ensures words { AreWords words.new }
+{
+    if bit {
+        set_bit(words, s);
+    } else {
+        clear_bit(words, s);
+    }
+}
+
 /// Sets the bits of the other row too.
 pub(crate) fn set_all(words: &mut [u64], others: &[u64])
     requires long { length others.now ≡ length words.old }
@@ -61,29 +75,16 @@ pub(crate) fn clear_all(words: &mut [u64], others: &[u64])
     }
 }
 
-/// Sets `count` bits from `first` on.
-pub(crate) fn set_run(words: &mut [u64], first: usize, count: usize)
+/// Makes `count` bits from `first` on ones, or zeros.
+pub(crate) fn write_run(words: &mut [u64], first: usize, count: usize, bit: bool)
     requires within { first + count ≤ 64 * length words.old }
     requires small { first + count < 2 ^ 64 }
     requires words { AreWords words.old }
-    ensures bits { (k : ℕ) → bit_of words.new k ≡ (if has k (run first count) then true else bit_of words.old k) }
+    ensures bits { (k : ℕ) → bit_of words.new k ≡ (if has k (run first count) then bit else bit_of words.old k) }
     ensures words { AreWords words.new }
 {
     for s in first..first + count {
-        set_bit(words, s);
-    }
-}
-
-/// Clears `count` bits from `first` on.
-pub(crate) fn clear_run(words: &mut [u64], first: usize, count: usize)
-    requires within { first + count ≤ 64 * length words.old }
-    requires small { first + count < 2 ^ 64 }
-    requires words { AreWords words.old }
-    ensures bits { (k : ℕ) → bit_of words.new k ≡ (if has k (run first count) then false else bit_of words.old k) }
-    ensures words { AreWords words.new }
-{
-    for s in first..first + count {
-        clear_bit(words, s);
+        write_bit(words, s, bit);
     }
 }
 

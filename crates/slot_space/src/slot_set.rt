@@ -111,7 +111,7 @@ impl SlotSet {
         requires { first + count ≤ slot_limit }
         ensures { self.new ≡ union self.old (run first count) }
     {
-        bits::set_run(&mut self.words, first.0 as usize, count as usize);
+        bits::write_run(&mut self.words, first.0 as usize, count as usize, true);
     }
 
     /// Takes the slots from `first` to `first + count - 1` out.
@@ -119,7 +119,7 @@ impl SlotSet {
         requires { first + count ≤ slot_limit }
         ensures { self.new ≡ minus self.old (run first count) }
     {
-        bits::clear_run(&mut self.words, first.0 as usize, count as usize);
+        bits::write_run(&mut self.words, first.0 as usize, count as usize, false);
     }
 
     /// Gives all members out, and is empty then.

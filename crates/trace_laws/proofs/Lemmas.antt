@@ -1,26 +1,26 @@
--- Lemmas of legal traces. Other crates cite these alone.
+-- Lemmas of legal traces. Other crates cite these alone, in lemmas of their own; a function calls the law instead.
 use Rattle.std.proofs.Common.{List, Some, [], false, map, true, ℕ, ◌++◌, ◌+◌, ◌<◌, ◌∷◌, ◌≡◌}
 use Rattle.run_trace.specs.Cluster.{Event, Merges, Net, Runs, fresh_net, net_of, own, received, sent, state}
+use Rattle.run_trace.specs.Console.{console_of, printed}
 use Rattle.run_trace.specs.Guests.{Thread, is_unwaiting}
-use Rattle.run_trace.specs.Histories.{IsInOrder, Turn, clock, sent_to, taken_from, turn_state}
+use Rattle.run_trace.specs.Histories.{IsInOrder, Turn, sent_to, taken_from, turn_state}
 use Rattle.run_trace.specs.Holding.{IsOn}
 use Rattle.run_trace.specs.Keyed.{item_of}
 use Rattle.run_trace.specs.Legality.{AreRising, Begins, IsTold, Legal, boot_entries}
 use Rattle.run_trace.specs.Names.{is_tid}
 use Rattle.run_trace.specs.Outcome.{AllLinksEmpty, IsStuck, Lives}
-use Rattle.run_trace.specs.Places.{best_on, is_listed}
+use Rattle.run_trace.specs.RunLists.{best_on, is_listed}
 use Rattle.run_trace.specs.Program.{Program, nodes_of, tree_of}
 use Rattle.run_trace.specs.Rules.{spots_of}
 use Rattle.run_trace.specs.Spots.{Spots, at_first}
 use Rattle.run_trace.specs.Stands.{Stands, listed, listed_name}
 use Rattle.run_trace.specs.Trace.{Fits, IsRun, entry_of, events_of, net_after_trace}
 use Rattle.run_trace.specs.declared.entry.Entry.{Entry}
-use Rattle.run_trace.specs.declared.node.Row.{Row}
+use Rattle.run_trace.specs.declared.node.ReadyRow.{ReadyRow}
 use Rattle.slot_space.specs.declared.names.Tid.{Tid}
 use Rattle.std.specs.Prelude.{is_some, length, ◌↔◌}
 use Rattle.trace_laws.specs.Beginnings.{BeginsSo}
 use Rattle.trace_laws.specs.Gathers.{Gathers, events_in, own_turns}
-use Rattle.run_trace.specs.declared.entry.Act.TheVariants.{Run}
 use Rattle.trace_laws.specs.Obeys.{world_at}
 use Rattle.run_trace.specs.Telling.{world_of}
 use Rattle.trace_laws.proofs.Merging.Weave
@@ -40,11 +40,11 @@ pub use Rattle.trace_laws.proofs.Outcomes.Wholes.{Whole}
 
 -- ## The beginning
 
--- each node begins with what the beginning of a trace says of it
+-- each node begins with what the beginning of a trace says of it (the law `begun`)
 pub begins_so : (p : Program) (n : ℕ) → n < nodes_of p → BeginsSo p n
 begins_so = Beginnings.begins_so
 
--- the entries with which all nodes begin are a legal trace
+-- the entries with which all nodes begin are a legal trace (the law `begun`)
 pub beginnings_legal : (p : Program) → Legal p (boot_entries p (nodes_of p))
 beginnings_legal = Beginnings.beginnings_legal
 
@@ -60,14 +60,14 @@ gathers_merges = Bounded.gathers_merges
 pub determined : (prog : Program) (base : Net) (events : List Event) → Runs prog base events → events_of prog base (map entry_of events) ≡ events
 determined = Determined.determined
 
--- a trace is a run with one entry more exactly where the entry is what the machine does there
+-- a trace is a run with one entry more exactly where the entry is what the machine does there (the law `judged`)
 pub fits_exactly : (prog : Program) (base : Net) (x : Entry) (xs : List Entry) → IsRun prog base (x ∷ xs) ↔ (IsRun prog base xs × Fits prog (net_after_trace prog base xs) x)
 fits_exactly = Determined.fits_exactly
 
 -- ## Legal traces
 
--- a run from the start, in order, that begins as it must and whose rounds rise, is legal
-pub whole : (p : Program) (lines : List Entry) → IsInOrder lines → Begins p lines → AreRising lines → IsRun p (fresh_net p) lines → Legal p lines
+-- a run from the beginning, in order, that begins as it must and whose rounds never fall, is legal (the law `whole`)
+pub whole : (p : Program) (trace : List Entry) → IsInOrder trace → Begins p trace → AreRising trace → IsRun p (fresh_net p) trace → Legal p trace
 whole = Legals.whole
 
 -- ## One run of many histories
@@ -82,46 +82,46 @@ link_is = Merge.link_is
 
 -- ## Nodes past the last
 
--- no run touches a node past the last
-pub run_inside : (p : Program) (lines : List Entry) → IsRun p (fresh_net p) lines → Inside p (spots_of p (at_first p) lines) (net_after_trace p (fresh_net p) lines)
+-- no run touches a node past the last (the law `inside`)
+pub run_inside : (p : Program) (trace : List Entry) → IsRun p (fresh_net p) trace → Inside p (spots_of p (at_first p) trace) (net_after_trace p (fresh_net p) trace)
 run_inside = NothingOutside.run_inside
 
 -- ## Rows and their parts
 
 -- a thread is on a run list exactly where the list has an item of its name
-pub listed_found : (rows : List Row) (t : Tid) → is_listed t rows ≡ is_some (item_of is_tid listed_name (map listed rows) t)
+pub listed_found : (rows : List ReadyRow) (t : Tid) → is_listed t rows ≡ is_some (item_of is_tid listed_name (map listed rows) t)
 listed_found = Parts.listed_found
 
 -- ## Run lists and threads
 
--- a thread on a node stands on its run list exactly where it does not wait
-pub listed_is : (p : Program) (w : Spots) (net : Net) → Stands p w net → (n : ℕ) (t : Tid) (x : Thread) → IsOn net n t x → is_listed t (net.nodes n).places.rows ≡ is_unwaiting x
+-- a thread on a node stands on its run list exactly where it waits for nothing (the law `ready`)
+pub listed_is : (p : Program) (w : Spots) (net : Net) → Stands p w net → (n : ℕ) (t : Tid) (x : Thread) → IsOn net n t x → is_listed t (net.nodes n).run_lists.rows ≡ is_unwaiting x
 listed_is = RunLists.listed_is
 
--- a thread on the run list of a node is on that node
-pub listed_there : (p : Program) (w : Spots) (net : Net) → Stands p w net → (n : ℕ) (t : Tid) → is_listed t (net.nodes n).places.rows ≡ true → (x : Thread) × IsOn net n t x
+-- a thread on the run list of a node is on that node (the law `ready`)
+pub listed_there : (p : Program) (w : Spots) (net : Net) → Stands p w net → (n : ℕ) (t : Tid) → is_listed t (net.nodes n).run_lists.rows ≡ true → (x : Thread) × IsOn net n t x
 listed_there = RunLists.listed_there
 
--- where the run list has a row, each processor has a choice
-pub some_pick : (p : Program) (w : Spots) (net : Net) → Stands p w net → (n vp : ℕ) → ((net.nodes n).places.rows ≡ [] → ⊥) → (r : Row) × (best_on (tree_of p) vp (net.nodes n).places.rows ≡ Some r)
+-- where the run list has a row, each processor has a pick (the law `picked`)
+pub some_pick : (p : Program) (w : Spots) (net : Net) → Stands p w net → (n vp : ℕ) → ((net.nodes n).run_lists.rows ≡ [] → ⊥) → (r : ReadyRow) × (best_on (tree_of p) vp (net.nodes n).run_lists.rows ≡ Some r)
 some_pick = RunLists.some_pick
 
 -- ## Where nothing goes on
 
--- where no run list has a row, nothing is on the way and no node has halted, a living thread is stuck
-pub stuck : (p : Program) (w : Spots) (net : Net) (s : Stands p w net) → ((n : ℕ) → (net.nodes n).places.rows ≡ []) → AllLinksEmpty net → ((n : ℕ) → (net.nodes n).halted ≡ false) → (t : Tid) → Lives (w.threads t).life → IsStuck w net
+-- where no run list has a row, nothing is under way and no node has halted, a thread that lives makes the trace stuck (the law `quiet`)
+pub stuck : (p : Program) (w : Spots) (net : Net) (s : Stands p w net) → ((n : ℕ) → (net.nodes n).run_lists.rows ≡ []) → AllLinksEmpty net → ((n : ℕ) → (net.nodes n).halted ≡ false) → (t : Tid) → Lives (w.threads t).life → IsStuck w net
 stuck = Stillness.stuck
 
--- where nothing is on the way a living thread is on some node
+-- where nothing is under way a thread that lives is on some node (the law `quiet`)
 pub is_somewhere : (p : Program) (w : Spots) (net : Net) (s : Stands p w net) → AllLinksEmpty net → (t : Tid) → Lives (w.threads t).life → (n : ℕ) × (x : Thread) × IsOn net n t x
 is_somewhere = Stillness.is_somewhere
 
--- a thread that is on a node lives
+-- a thread that is on a node lives (the law `quiet`)
 pub lives_there : (p : Program) (w : Spots) (net : Net) (s : Stands p w net) → (t : Tid) (n : ℕ) (x : Thread) → IsOn net n t x → Lives (w.threads t).life
 lives_there = Stillness.lives_there
 
--- a processor's choice is on the node
-pub picked_there : (p : Program) (w : Spots) (net : Net) (s : Stands p w net) → (n vp : ℕ) (r : Row) → best_on (tree_of p) vp (net.nodes n).places.rows ≡ Some r → (x : Thread) × IsOn net n r.tid x
+-- a processor's pick is on the node (the law `picked`)
+pub picked_there : (p : Program) (w : Spots) (net : Net) (s : Stands p w net) → (n vp : ℕ) (r : ReadyRow) → best_on (tree_of p) vp (net.nodes n).run_lists.rows ≡ Some r → (x : Thread) × IsOn net n r.tid x
 picked_there = Stillness.picked_there
 
 -- a node has halted exactly where the labels say so
@@ -130,19 +130,26 @@ halts_are = Stillness.halts_are
 
 -- ## What holds after each run
 
--- before the first entry the labels and the machine agree
+-- before the first entry the nodes and links stand for nothing told (the law `started`)
 pub starts : (p : Program) → Stands p (at_first p) (fresh_net p)
 starts = Wholes.starts
 
--- whatever a run does, the labels keep the rules and agree with the machine
-pub run_whole : (p : Program) (old : Spots) (base : Net) → Stands p old base → (lines : List Entry) → IsRun p base lines → Whole p old base lines
+-- whatever a run does, its labels keep the rules, and nodes and links stand for what they tell (the law `legal`)
+pub run_whole : (p : Program) (old : Spots) (base : Net) → Stands p old base → (trace : List Entry) → IsRun p base trace → Whole p old base trace
 run_whole = Wholes.run_whole
+
+-- from the beginning: what nodes and links stand for, and what is printed (the law `legal`)
+pub stands_after : (p : Program) (trace : List Entry) → IsRun p (fresh_net p) trace → Stands p (spots_of p (at_first p) trace) (net_after_trace p (fresh_net p) trace)
+stands_after = Wholes.stands_after
+
+pub console_after : (p : Program) (trace : List Entry) → IsRun p (fresh_net p) trace → printed (events_of p (fresh_net p) trace) ≡ console_of p (at_first p) trace
+console_after = Wholes.console_after
 
 -- a node's own events are those of its own turns
 pub own_events : (n : ℕ) (es : List Turn) → own n (events_in es) ≡ events_in (own_turns n es)
 own_events = Bounded.own_events
 
--- turns that gather are a run of the cluster
+-- turns that gather are a run of the cluster (the law `gathered`)
 pub gathered : (prog : Program) (base : Net) (c : ℕ) (clocks : ℕ → ℕ) (turns : List Turn) → Gathers prog base c clocks turns → Runs prog base (events_in turns)
 gathered = Bounded.gathered
 
@@ -163,6 +170,6 @@ received_own = Weave.received_own
 pub sent_own : (i j : ℕ) (events : List Event) → sent i j events ≡ sent_to j (own i events)
 sent_own = Weave.sent_own
 
--- nodes and links are what the labels tell
-pub told_after : (p : Program) (old : Spots) (base : Net) → Stands p old base → (lines : List Entry) → IsRun p base lines → IsTold p (world_of p (world_at old base) lines) (net_after_trace p base lines)
+-- nodes and links are what the labels tell (the law `told`)
+pub told_after : (p : Program) (old : Spots) (base : Net) → Stands p old base → (trace : List Entry) → IsRun p base trace → IsTold p (world_of p (world_at old base) trace) (net_after_trace p base trace)
 told_after = Legals.told_after

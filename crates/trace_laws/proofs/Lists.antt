@@ -2,6 +2,7 @@
 pub mod KeyedLemmas
 pub mod Births
 pub mod Subjects
+pub mod Stages
 pub mod Parts
 pub mod Picking
 pub mod Arriving

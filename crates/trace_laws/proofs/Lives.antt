@@ -2,5 +2,7 @@
 pub mod RunLemmas
 pub mod Heaps
 pub mod OwnLives
+pub mod Tales
+pub mod OwnReplies
 pub mod OwnLabels
 pub mod SameLives

@@ -8,9 +8,9 @@ use Rattle.run_trace.specs.declared.entry.Act.TheVariants.{Boot, Run, Take, Move
 use Rattle.run_trace.specs.declared.entry.Entry.{Entry}
 use Rattle.run_trace.specs.declared.label.Label.{Label}
 use Rattle.run_trace.specs.declared.label.Label.TheVariants.{Ran, Left, Down, Burst}
-use Rattle.run_trace.specs.declared.node.Row.{Row}
+use Rattle.run_trace.specs.declared.node.ReadyRow.{ReadyRow}
 use Rattle.run_trace.specs.Program.{Program, tree_of}
-use Rattle.run_trace.specs.Places.{IsBest, is_listed}
+use Rattle.run_trace.specs.RunLists.{IsBest, is_listed}
 use Rattle.run_trace.specs.Cluster.{Net}
 use Rattle.run_trace.specs.Trace.{net_after_trace, sends_or, done_for}
 use Rattle.run_trace.specs.Spots.{Life, Spots, after_label}
@@ -38,15 +38,15 @@ abbrev pub RunsNext : Tid → ℕ → List Label → Type 0
 RunsNext t vp labels =
     (shifts : List Label) × AllShift shifts × (count : ℕ) × (stop : Stop) × (more : List Label) × (labels ≡ shifts ++ Ran t vp count stop ∷ more)
 
-abbrev pub PicksBest : Program → Act → List Row → List Label → Type 0
-PicksBest p (Run vp quantum) rows labels = (r : Row) × IsBest (tree_of p) vp r rows × RunsNext r.tid vp labels
+abbrev pub PicksBest : Program → Act → List ReadyRow → List Label → Type 0
+PicksBest p (Run vp quantum) rows labels = (r : ReadyRow) × IsBest (tree_of p) vp r rows × RunsNext r.tid vp labels
 PicksBest p Boot rows labels = ⊤
 PicksBest p (Take from) rows labels = ⊤
 PicksBest p (Move t to) rows labels = (is_listed t rows ≡ true) × (labels ≡ Left t to ∷ [])
 
 abbrev pub Picks : Program → Net → List Entry → Type 0
 Picks p base [] = ⊤
-Picks p base (x ∷ xs) = Picks p base xs × PicksBest p x.act ((net_after_trace p base xs).nodes x.node).places.rows x.labels
+Picks p base (x ∷ xs) = Picks p base xs × PicksBest p x.act ((net_after_trace p base xs).nodes x.node).run_lists.rows x.labels
 
 -- ## Carried: an entry sends what its labels cause, and nothing else
 
@@ -77,7 +77,7 @@ ObeyEach rule p o n (l ∷ ls) w = rule p o n l w × ObeyEach rule p (saying l o
 abbrev pub world_at : Spots → Net → World
 world_at w net = record {
   spots = w;
-  lists = λ n. map listed (net.nodes n).places.rows;
+  lists = λ n. map listed (net.nodes n).run_lists.rows;
   links = net.links;
   begun = λ n. (net.nodes n).booted;
 }
@@ -89,12 +89,12 @@ Obey rule p old base (x ∷ xs) = Obey rule p old base xs
     × ObeyEach rule p (occasion x (world_at (spots_of p old xs) (net_after_trace p base xs))) x.node x.labels (world_at (spots_of p old xs) (net_after_trace p base xs))
 
 -- the rules, for a trace after what was told of old, of a cluster that had come to base
-pub record ObeysFrom (p : Program) (old : Spots) (base : Net) (lines : List Entry) : Type 0 where
-  pub solo : Obey SoloRule p old base lines
-  pub holders : Obey HoldersRule p old base lines
-  pub life : Obey LifeRule p old base lines
-  pub replies : Obey RepliesRule p old base lines
-  pub grants : Obey GrantsRule p old base lines
-  pub picks : Picks p base lines
-  pub carried : Carried p old base lines
-  pub settled : EachSettled p old lines
+pub record ObeysFrom (p : Program) (old : Spots) (base : Net) (trace : List Entry) : Type 0 where
+  pub solo : Obey SoloRule p old base trace
+  pub holders : Obey HoldersRule p old base trace
+  pub life : Obey LifeRule p old base trace
+  pub replies : Obey RepliesRule p old base trace
+  pub grants : Obey GrantsRule p old base trace
+  pub picks : Picks p base trace
+  pub carried : Carried p old base trace
+  pub settled : EachSettled p old trace

@@ -10,7 +10,7 @@ ghost use Rattle.marcel_core.specs.declared.end.End.{End};
 ghost use Rattle.run_trace.specs.declared.entry.Act.{Act};
 ghost use Rattle.run_trace.specs.declared.entry.Entry.{Entry};
 ghost use Rattle.run_trace.specs.declared.label.Label.{Label};
-ghost use Rattle.run_trace.specs.declared.node.Row.{Row};
+ghost use Rattle.run_trace.specs.declared.node.ReadyRow.{ReadyRow};
 ghost use Rattle.run_trace.specs.Program.{Program, code_of, nodes_of, tree_of};
 ghost use Rattle.trace_laws.specs.Beginnings.{BeginsSo};
 ghost use Rattle.trace_laws.specs.Gathers.{events_in, Gathers};
@@ -20,7 +20,7 @@ ghost use Rattle.run_trace.specs.Cluster.{Event, Net, Merges, Runs, fresh_net, s
 ghost use Rattle.run_trace.specs.Console.{console_of, printed};
 ghost use Rattle.run_trace.specs.Guests.{Guest, Run, Thread, is_unwaiting, run_of};
 ghost use Rattle.run_trace.specs.Histories.{IsInOrder, Joins, taken_from, sent_to, Turn};
-ghost use Rattle.run_trace.specs.Holding.{EachHeldOnce, IsAt, IsOn, Place};
+ghost use Rattle.run_trace.specs.Holding.{EachHeldOnce, IsAt, IsOn, Location};
 ghost use Rattle.trace_laws.specs.Obeys.{ObeysFrom};
 ghost use Rattle.run_trace.specs.Legality.{AreRising, Begins, boot_entries, IsTold, Legal};
 ghost use Rattle.run_trace.specs.Local.{Local, fresh, nothing};
@@ -29,7 +29,7 @@ ghost use Rattle.run_trace.specs.declared.packet.Packet.{Packet};
 ghost use Rattle.run_trace.specs.declared.packet.Body.{Body};
 ghost use Rattle.run_trace.specs.declared.entry.Act.TheVariants.{Take};
 ghost use Rattle.run_trace.specs.Outcome.{AllLinksEmpty, IsStuck, Lives};
-ghost use Rattle.run_trace.specs.Places.{best_on, is_listed};
+ghost use Rattle.run_trace.specs.RunLists.{best_on, is_listed};
 ghost use Rattle.run_trace.specs.Rules.{spots_of};
 ghost use Rattle.run_trace.specs.Same.{HasEnded, HasLivedLike, HasWritten, lived};
 ghost use Rattle.run_trace.specs.Spots.{On, Ready, Spots, Stage, at_first};
@@ -56,9 +56,9 @@ pub fn gathered()
 
 /// Local runs that fit on the links are together one run, and it comes to their states and to what is under way.
 pub fn joined()
-    ensures run { (p : Program) (base : Net) (lines : List Entry) (histories : ℕ → List Event) → Joins p base lines histories → IsRun p base lines }
-    ensures nodes { (p : Program) (base : Net) (lines : List Entry) (histories : ℕ → List Event) → Joins p base lines histories → (n : ℕ) → (net_after_trace p base lines).nodes n ≡ state p n (base.nodes n) (histories n) }
-    ensures links { (p : Program) (base : Net) (lines : List Entry) (histories : ℕ → List Event) → Joins p base lines histories → (i j : ℕ) → taken_from i (histories j) ++ (net_after_trace p base lines).links i j ≡ base.links i j ++ sent_to j (histories i) }
+    ensures run { (p : Program) (base : Net) (trace : List Entry) (histories : ℕ → List Event) → Joins p base trace histories → IsRun p base trace }
+    ensures nodes { (p : Program) (base : Net) (trace : List Entry) (histories : ℕ → List Event) → Joins p base trace histories → (n : ℕ) → (net_after_trace p base trace).nodes n ≡ state p n (base.nodes n) (histories n) }
+    ensures links { (p : Program) (base : Net) (trace : List Entry) (histories : ℕ → List Event) → Joins p base trace histories → (i j : ℕ) → taken_from i (histories j) ++ (net_after_trace p base trace).links i j ≡ base.links i j ++ sent_to j (histories i) }
 {}
 
 /// What a judge has to test: a trace is a run exactly where the trace before its newest entry is, and that entry fits.
@@ -74,9 +74,9 @@ pub fn started()
 /// Each event of a run obeys the rules and keeps that nodes and links are exactly their parts of what the labels tell;
 /// what it puts on the console are the lines that its labels show.
 pub fn legal()
-    ensures obeys { (p : Program) (old : Spots) (base : Net) → Stands p old base → (lines : List Entry) → IsRun p base lines → ObeysFrom p old base lines }
-    ensures stands { (p : Program) (old : Spots) (base : Net) → Stands p old base → (lines : List Entry) → IsRun p base lines → Stands p (spots_of p old lines) (net_after_trace p base lines) }
-    ensures console { (p : Program) (old : Spots) (base : Net) → Stands p old base → (lines : List Entry) → IsRun p base lines → printed (events_of p base lines) ≡ console_of p old lines }
+    ensures obeys { (p : Program) (old : Spots) (base : Net) → Stands p old base → (trace : List Entry) → IsRun p base trace → ObeysFrom p old base trace }
+    ensures stands { (p : Program) (old : Spots) (base : Net) → Stands p old base → (trace : List Entry) → IsRun p base trace → Stands p (spots_of p old trace) (net_after_trace p base trace) }
+    ensures console { (p : Program) (old : Spots) (base : Net) → Stands p old base → (trace : List Entry) → IsRun p base trace → printed (events_of p base trace) ≡ console_of p old trace }
 {}
 
 /// The rules leave nothing free: two traces that keep them, after the same past, and that have the same stamps, nodes, rounds and
@@ -88,33 +88,33 @@ pub fn one_trace()
 /// The rules and the machine are two definitions of one thing: of a trace, and of one entry after a trace, so the first entry that
 /// the machine can't make is the first that the rules refuse. And a trace that keeps the rules goes on with each act that may be.
 pub fn rules_and_machine()
-    ensures same { (p : Program) (old : Spots) (base : Net) → Stands p old base → (lines : List Entry) → KeepsRules p (world_at old base) lines ↔ IsRun p base lines }
+    ensures same { (p : Program) (old : Spots) (base : Net) → Stands p old base → (trace : List Entry) → KeepsRules p (world_at old base) trace ↔ IsRun p base trace }
     ensures entry { (p : Program) (old : Spots) (base : Net) → Stands p old base → (x : Entry) (xs : List Entry) → IsRun p base xs → IsEntry p (world_of p (world_at old base) xs) x ↔ Fits p (net_after_trace p base xs) x }
-    ensures goes_on { (p : Program) (old : Spots) (base : Net) → Stands p old base → (lines : List Entry) → KeepsRules p (world_at old base) lines → (stamp n round : ℕ) (a : Act) (to_do : List Item) → may_act p n ((world_of p (world_at old base) lines).begun n) a ≡ true → Starts p stamp n a (world_of p (world_at old base) lines) to_do → (ls : List Label) × KeepsRules p (world_at old base) ((record { stamp = stamp; node = n; round = round; act = a; labels = ls }) ∷ lines) }
+    ensures goes_on { (p : Program) (old : Spots) (base : Net) → Stands p old base → (trace : List Entry) → KeepsRules p (world_at old base) trace → (stamp n round : ℕ) (a : Act) (to_do : List Item) → may_act p n ((world_of p (world_at old base) trace).begun n) a ≡ true → Starts p stamp n a (world_of p (world_at old base) trace) to_do → (ls : List Label) × KeepsRules p (world_at old base) ((record { stamp = stamp; node = n; round = round; act = a; labels = ls }) ∷ trace) }
 {}
 
 /// After a run nodes and links are exactly what the labels tell.
 pub fn told()
-    ensures { (p : Program) (old : Spots) (base : Net) → Stands p old base → (lines : List Entry) → IsRun p base lines → IsTold p (world_of p (world_at old base) lines) (net_after_trace p base lines) }
+    ensures { (p : Program) (old : Spots) (base : Net) → Stands p old base → (trace : List Entry) → IsRun p base trace → IsTold p (world_of p (world_at old base) trace) (net_after_trace p base trace) }
 {}
 
 /// Order, beginnings and rounds, with the run or with the rules, give the whole of legality: for one sequence of events, and for nodes side by side.
 pub fn whole()
-    ensures sequential { (p : Program) (lines : List Entry) → IsInOrder lines → Begins p lines → AreRising lines → IsRun p (fresh_net p) lines → Legal p lines }
-    ensures by_rules { (p : Program) (lines : List Entry) → IsInOrder lines → Begins p lines → AreRising lines → KeepsRules p (first_world p) lines → Legal p lines }
-    ensures side_by_side { (p : Program) (lines : List Entry) (histories : ℕ → List Event) → Begins p lines → AreRising lines → Joins p (fresh_net p) lines histories → Legal p lines }
+    ensures sequential { (p : Program) (trace : List Entry) → IsInOrder trace → Begins p trace → AreRising trace → IsRun p (fresh_net p) trace → Legal p trace }
+    ensures by_rules { (p : Program) (trace : List Entry) → IsInOrder trace → Begins p trace → AreRising trace → KeepsRules p (first_world p) trace → Legal p trace }
+    ensures side_by_side { (p : Program) (trace : List Entry) (histories : ℕ → List Event) → Begins p trace → AreRising trace → Joins p (fresh_net p) trace histories → Legal p trace }
 {}
 
 /// After a legal trace no slot has two holders, and no thread is at two places.
 pub fn one_holder()
-    ensures slots { (p : Program) (lines : List Entry) → Legal p lines → EachHeldOnce (net_after_trace p (fresh_net p) lines) }
-    ensures places { (p : Program) (lines : List Entry) → Legal p lines → (t : Tid) (a b : Place) (g h : Guest) → IsAt (net_after_trace p (fresh_net p) lines) a t g → IsAt (net_after_trace p (fresh_net p) lines) b t h → (a ≡ b) × (g ≡ h) }
+    ensures slots { (p : Program) (trace : List Entry) → Legal p trace → EachHeldOnce (net_after_trace p (fresh_net p) trace) }
+    ensures places { (p : Program) (trace : List Entry) → Legal p trace → (t : Tid) (a b : Location) (g h : Guest) → IsAt (net_after_trace p (fresh_net p) trace) a t g → IsAt (net_after_trace p (fresh_net p) trace) b t h → (a ≡ b) × (g ≡ h) }
 {}
 
 /// After a legal trace a thread's registers, memory and blocks are, wherever it is, those of its code run alone with the
 /// replies that it was told.
 pub fn alone()
-    ensures { (p : Program) (lines : List Entry) → Legal p lines → EachRunsAlone p (net_after_trace p (fresh_net p) lines) lines }
+    ensures { (p : Program) (trace : List Entry) → Legal p trace → EachRunsAlone p (net_after_trace p (fresh_net p) trace) trace }
 {}
 
 /// No thread can tell where it is, who it is or what has moved, but by asking: in two legal traces of one image, whatever their
@@ -122,8 +122,8 @@ pub fn alone()
 /// replies, and have done as many instructions have the same registers, bytes and blocks, wherever they are, and have written
 /// the same lines; and if both have ended, they have ended the same way.
 pub fn same_wherever()
-    ensures guest { (p q : Program) (xs ys : List Entry) → Legal p xs → Legal q ys → code_of p ≡ code_of q → (t u : Tid) → HasLivedLike (lived t xs) (lived u ys) → (a b : Place) (g h : Guest) → IsAt (net_after_trace p (fresh_net p) xs) a t g → IsAt (net_after_trace q (fresh_net q) ys) b u h → g.solo ≡ h.solo }
-    ensures lines { (p q : Program) (xs ys : List Entry) → Legal p xs → Legal q ys → code_of p ≡ code_of q → (t u : Tid) → HasLivedLike (lived t xs) (lived u ys) → (before : List (List ℕ)) × (next : List ℕ) × HasWritten p xs t before next × HasWritten q ys u before next }
+    ensures guest { (p q : Program) (xs ys : List Entry) → Legal p xs → Legal q ys → code_of p ≡ code_of q → (t u : Tid) → HasLivedLike (lived t xs) (lived u ys) → (a b : Location) (g h : Guest) → IsAt (net_after_trace p (fresh_net p) xs) a t g → IsAt (net_after_trace q (fresh_net q) ys) b u h → g.solo ≡ h.solo }
+    ensures trace { (p q : Program) (xs ys : List Entry) → Legal p xs → Legal q ys → code_of p ≡ code_of q → (t u : Tid) → HasLivedLike (lived t xs) (lived u ys) → (before : List (List ℕ)) × (next : List ℕ) × HasWritten p xs t before next × HasWritten q ys u before next }
     ensures ends { (p q : Program) (xs ys : List Entry) → Legal p xs → Legal q ys → code_of p ≡ code_of q → (t u : Tid) → HasLivedLike (lived t xs) (lived u ys) → (e f : End) → HasEnded ((spots_of p (at_first p) xs).threads t).life e → HasEnded ((spots_of q (at_first q) ys).threads u).life f → e ≡ f }
 {}
 
@@ -140,7 +140,7 @@ pub fn begun()
 
 /// No packet that a run takes is a stray.
 pub fn expected()
-    ensures { (p : Program) (old : Spots) (base : Net) → Stands p old base → (lines : List Entry) → IsRun p base lines → AllExpected p base lines }
+    ensures { (p : Program) (old : Spots) (base : Net) → Stands p old base → (trace : List Entry) → IsRun p base trace → AllExpected p base trace }
 {}
 
 /// A packet that a node doesn't expect, or whose stamp no trace reaches, changes nothing, says nothing and sends nothing.
@@ -159,7 +159,7 @@ pub fn unforged()
 /// each that lives joins one that hasn't ended. A thread that is on a node lives, and where nothing is under
 /// way each that lives is on one.
 pub fn quiet()
-    ensures stuck { (p : Program) (w : Spots) (net : Net) → Stands p w net → ((n : ℕ) → (net.nodes n).places.rows ≡ []) → AllLinksEmpty net → ((n : ℕ) → (net.nodes n).halted ≡ false) → (t : Tid) → Lives (w.threads t).life → IsStuck w net }
+    ensures stuck { (p : Program) (w : Spots) (net : Net) → Stands p w net → ((n : ℕ) → (net.nodes n).run_lists.rows ≡ []) → AllLinksEmpty net → ((n : ℕ) → (net.nodes n).halted ≡ false) → (t : Tid) → Lives (w.threads t).life → IsStuck w net }
     ensures somewhere { (p : Program) (w : Spots) (net : Net) → Stands p w net → AllLinksEmpty net → (t : Tid) → Lives (w.threads t).life → (n : ℕ) × (x : Thread) × IsOn net n t x }
     ensures lives { (p : Program) (w : Spots) (net : Net) → Stands p w net → (t : Tid) (n : ℕ) (x : Thread) → IsOn net n t x → Lives (w.threads t).life }
 {}
@@ -167,9 +167,9 @@ pub fn quiet()
 /// In a run from the beginning, whatever is no node of the cluster is as before the first event: nothing is there, and no link
 /// leads there or from there. Each thread that is on a node is on a node of the cluster.
 pub fn inside()
-    ensures nodes { (p : Program) (lines : List Entry) → IsRun p (fresh_net p) lines → (n : ℕ) → nodes_of p ≤ n → (net_after_trace p (fresh_net p) lines).nodes n ≡ fresh p n }
-    ensures links { (p : Program) (lines : List Entry) → IsRun p (fresh_net p) lines → (i j : ℕ) → (nodes_of p ≤ i) ⊎ (nodes_of p ≤ j) → (net_after_trace p (fresh_net p) lines).links i j ≡ [] }
-    ensures lives { (p : Program) (lines : List Entry) → IsRun p (fresh_net p) lines → (t : Tid) (n : ℕ) (stage : Stage) → ((spots_of p (at_first p) lines).threads t).life ≡ On n stage → n < nodes_of p }
+    ensures nodes { (p : Program) (trace : List Entry) → IsRun p (fresh_net p) trace → (n : ℕ) → nodes_of p ≤ n → (net_after_trace p (fresh_net p) trace).nodes n ≡ fresh p n }
+    ensures links { (p : Program) (trace : List Entry) → IsRun p (fresh_net p) trace → (i j : ℕ) → (nodes_of p ≤ i) ⊎ (nodes_of p ≤ j) → (net_after_trace p (fresh_net p) trace).links i j ≡ [] }
+    ensures lives { (p : Program) (trace : List Entry) → IsRun p (fresh_net p) trace → (t : Tid) (n : ℕ) (stage : Stage) → ((spots_of p (at_first p) trace).threads t).life ≡ On n stage → n < nodes_of p }
 {}
 
 /// Of the lists that cover a processor each but a leaf has the next one below it, and a leaf covers no other processor.
@@ -181,14 +181,14 @@ pub fn levels()
 /// The thread that a processor picks from its node's run lists is on that node; and there is one wherever somebody can run, since
 /// as yet all stand on the root list.
 pub fn picked()
-    ensures some { (p : Program) (w : Spots) (net : Net) → Stands p w net → (n vp : ℕ) → ((net.nodes n).places.rows ≡ [] → ⊥) → (r : Row) × (best_on (tree_of p) vp (net.nodes n).places.rows ≡ Some r) }
-    ensures there { (p : Program) (w : Spots) (net : Net) → Stands p w net → (n vp : ℕ) (r : Row) → best_on (tree_of p) vp (net.nodes n).places.rows ≡ Some r → (x : Thread) × IsOn net n r.tid x }
+    ensures some { (p : Program) (w : Spots) (net : Net) → Stands p w net → (n vp : ℕ) → ((net.nodes n).run_lists.rows ≡ [] → ⊥) → (r : ReadyRow) × (best_on (tree_of p) vp (net.nodes n).run_lists.rows ≡ Some r) }
+    ensures there { (p : Program) (w : Spots) (net : Net) → Stands p w net → (n vp : ℕ) (r : ReadyRow) → best_on (tree_of p) vp (net.nodes n).run_lists.rows ≡ Some r → (x : Thread) × IsOn net n r.tid x }
 {}
 
 /// A thread that is on a node is on its run list exactly where it waits for nothing, and each on the run list is on the node.
 /// By the labels alone: a thread is on a node's run list exactly where it is ready there.
 pub fn ready()
-    ensures unwaiting { (p : Program) (w : Spots) (net : Net) → Stands p w net → (n : ℕ) (t : Tid) (x : Thread) → IsOn net n t x → is_listed t (net.nodes n).places.rows ≡ is_unwaiting x }
-    ensures there { (p : Program) (w : Spots) (net : Net) → Stands p w net → (n : ℕ) (t : Tid) → is_listed t (net.nodes n).places.rows ≡ true → (x : Thread) × IsOn net n t x }
-    ensures told { (p : Program) (old : Spots) (base : Net) → Stands p old base → (lines : List Entry) → KeepsRules p (world_at old base) lines → (n : ℕ) (t : Tid) → (is_on_list t ((world_of p (world_at old base) lines).lists n) ≡ true) ↔ (((world_of p (world_at old base) lines).spots.threads t).life ≡ On n Ready) }
+    ensures unwaiting { (p : Program) (w : Spots) (net : Net) → Stands p w net → (n : ℕ) (t : Tid) (x : Thread) → IsOn net n t x → is_listed t (net.nodes n).run_lists.rows ≡ is_unwaiting x }
+    ensures there { (p : Program) (w : Spots) (net : Net) → Stands p w net → (n : ℕ) (t : Tid) → is_listed t (net.nodes n).run_lists.rows ≡ true → (x : Thread) × IsOn net n t x }
+    ensures told { (p : Program) (old : Spots) (base : Net) → Stands p old base → (trace : List Entry) → KeepsRules p (world_at old base) trace → (n : ℕ) (t : Tid) → (is_on_list t ((world_of p (world_at old base) trace).lists n) ≡ true) ↔ (((world_of p (world_at old base) trace).spots.threads t).life ≡ On n Ready) }
 {}

@@ -25,7 +25,7 @@ use Rattle.trace_text.specs.Calls.{CallRow, calls, numbered, call_numbered}
 use Rattle.trace_text.specs.Words.{bytes_text, kind_text, stop_text, first_text, act_words}
 use Rattle.trace_text.specs.Lines.{head_words, said_words, asked_words, label_words}
 use Rattle.trace_text.specs.Fits.{AreBytes, AreLong, FitsAct, FitsFirst, FitsSaid, FitsAsked, Fits, FitsHead}
-use Rattle.trace_text.specs.Reading.{number_at, kind_at, stop_at, first_at, extra_at, longs, said, asked_of, headed}
+use Rattle.trace_text.specs.Reading.{number_at, kind_at, stop_at, first_at, extra_at, longs, said, asked_of, headed, one, act, why, end, extra}
 use Rattle.trace_text.specs.Texts.{line_in}
 use Rattle.trace_text.proofs.OneWord.{own, some, number_again, tid_again, slots_again, bytes_again, reply_again, not_none}
 use Rattle.trace_text.proofs.Sound.{IsKnown, all_known}
@@ -98,12 +98,14 @@ unfolding extra_at
 result_is bs h = rw (bytes_again bs h) refl
 
 longs_again : (xs : List ℕ) (n : ℕ) (rest : List (List ℕ)) → length xs ≡ n → AreLong xs → longs n (map decimal xs ++ rest) ≡ Some (xs, rest)
+unfolding one
 longs_again [] zero rest e h = refl
 longs_again [] (suc n) rest e h = absurd (omega (arith, e))
 longs_again (x ∷ xs) zero rest e h = absurd (omega (arith, e))
 longs_again (x ∷ xs) (suc n) rest e h = rw (n64 x h.0, longs_again xs n rest (omega (arith, e)) h.1) refl
 
 said_again : (says : Bool) (bytes : List ℕ) → FitsSaid says bytes → said says (said_words says bytes) ≡ Some (bytes, [])
+unfolding one
 said_again false bytes h = rw h refl
 said_again true bytes h = rw (bytes_again bytes h) refl
 
@@ -119,6 +121,7 @@ numbered_known (s ∷ rs) n r all e =
     ]
 
 asked_again : (t : Tid) (call : ℕ) (args bytes : List ℕ) (o : Option CallRow) → call_numbered call ≡ o → FitsAsked o call args bytes → asked_of t (asked_words o call args bytes) ≡ Some (Asked t call args bytes, [])
+unfolding one
 asked_again t call args bytes None e h = rw (h.1, h.2, n64 call h.0, e) refl
 asked_again t call args bytes (Some r) e h =
     let known = numbered_known calls call r all_known e in
@@ -127,6 +130,7 @@ asked_again t call args bytes (Some r) e h =
 -- ---- a label's line
 
 pub label_again : (l : Label) → Fits l → line_in (label_words l) ≡ Some (Said l)
+unfolding one why end extra
 label_again (Born t whys.Main entry a0 a1 sp slot) f = rw (tid_again t f.0, n64 entry f.2, n64 a0 f.3, n64 a1 f.4, n64 sp f.5, n16 slot f.6) refl
 label_again (Born t (whys.Create by) entry a0 a1 sp slot) f = rw (tid_again t f.0, tid_again by f.1, n64 entry f.2, n64 a0 f.3, n64 a1 f.4, n64 sp f.5, n16 slot f.6) refl
 label_again (Born t (whys.Inside by bubble) entry a0 a1 sp slot) f = rw (tid_again t f.0, tid_again by f.1.0, n32 bubble f.1.1, n64 entry f.2, n64 a0 f.3, n64 a1 f.4, n64 sp f.5, n16 slot f.6) refl
@@ -160,6 +164,7 @@ label_again (Halted t) f = rw (tid_again t f) refl
 -- ---- a head's line
 
 act_again : (stamp node round : ℕ) (a : Act) → (stamp < 2 ^ 64) × (node < 2 ^ 8) × (round < 2 ^ 64) × FitsAct a → line_in (codes "@" ∷ decimal stamp ∷ decimal node ∷ decimal round ∷ act_words a) ≡ Some (Head (headed stamp node round a))
+unfolding one act
 act_again stamp node round acts.Boot f = rw (n64 stamp f.0, n8 node f.1, n64 round f.2) refl
 act_again stamp node round (acts.Run vp quantum) f = rw (n64 stamp f.0, n8 node f.1, n64 round f.2, n8 vp f.3.0, n32 quantum f.3.1) refl
 act_again stamp node round (acts.Take from) f = rw (n64 stamp f.0, n8 node f.1, n64 round f.2, n8 from f.3) refl

@@ -24,7 +24,7 @@ use Rattle.trace_text.specs.Calls.{CallRow, calls, named, call_named, call_numbe
 use Rattle.trace_text.specs.Words.{tid_text, slots_text, bytes_text, reply_text, kind_text, stop_text, first_text, act_words, why_words, end_words, extra_words}
 use Rattle.trace_text.specs.Lines.{head_words, said_words, asked_words, label_words}
 use Rattle.trace_text.specs.Fits.{FitsTid, FitsSlots, AreBytes, AreLong, FitsAct, FitsWhy, FitsEnd, FitsExtra, FitsFirst, FitsSaid, FitsAsked, Fits, FitsHead}
-use Rattle.trace_text.specs.Reading.{◌>>=◌, number_at, tid_at, slots_at, bytes_at, reply_at, kind_at, stop_at, first_at, extra_at, Reader, after, gives, one, choose, pick, long, word, short, small, tid, slots, reply, stop, act, act_forms, why, why_forms, end, extra, longs, said, unknown, unknown_by, asked_by, asked_of, list_forms, thread_forms, plain_forms, plain_named, label_named, head, headed}
+use Rattle.trace_text.specs.Reading.{◌>>=◌, number_at, tid_at, slots_at, bytes_at, reply_at, kind_at, stop_at, first_at, extra_at, Reader, after, gives, one, choose, pick, long, word, short, small, tid, slots, reply, stop, act, act_forms, why, why_forms, end, extra, longs, said, unknown, unknown_by, asked_by, asked_of, list_forms, lent_forms, bubble_forms, thread_forms, plain_forms, plain_named, label_named, head, headed}
 use Rattle.trace_text.proofs.OneWord.{plain, some, some_is, bind_some, only_some, number_sound, tid_sound, slots_sound, bytes_sound, reply_sound}
 
 -- What this reader gives behind the words of `pre` fits, and these words with all that it read are those of what it gives.
@@ -54,6 +54,7 @@ gives_leads {X} {F} {words} {pre} x fits same = record {
 }
 
 one_sound : {X : Type 0} (F : X → Type 0) (text : X → List ℕ) (at : List ℕ → Option X) → ((w : List ℕ) (x : X) → at w ≡ Some x → F x × (text x ≡ w)) → (ws : List (List ℕ)) (x : X) (rest : List (List ℕ)) → one at ws ≡ Some (x, rest) → F x × (text x ∷ rest ≡ ws)
+unfolding one
 one_sound F text at sound [] x rest e = absurd cc
 one_sound F text at sound (w ∷ ws) x rest e =
     let y = bind_some (at w) (λ y. some (pair y ws)) (x, rest) e in
@@ -180,6 +181,7 @@ by_reply next h = after_leads (λ n. n < 2 ^ 64) (λ n. reply_text n ∷ []) rep
 -- ---- acts, whys, ends and extras
 
 act_leads : Leads FitsAct act_words [] act
+unfolding act
 act_leads = pick_leads FitsAct act_words act_forms (
   gives_leads acts.Boot tt refl,
   (
@@ -195,6 +197,7 @@ act_leads = pick_leads FitsAct act_words act_forms (
 )
 
 why_leads : Leads FitsWhy why_words [] why
+unfolding why
 why_leads = pick_leads FitsWhy why_words why_forms (
   gives_leads whys.Main tt refl,
   (
@@ -216,6 +219,7 @@ fault_leads : (k : FaultKind) → Leads FitsEnd end_words (kind_text k ∷ []) (
 fault_leads k = by_long _ (λ pc p. gives_leads (ends.Fault k pc) p refl)
 
 end_sound : (ws : List (List ℕ)) (x : End) (rest : List (List ℕ)) → end ws ≡ Some (x, rest) → FitsEnd x × (end_words x ++ rest ≡ ws)
+unfolding end
 end_sound [] x rest e = absurd cc
 end_sound (w ∷ ws) x rest e =
     elim (cases_Bool (bytes_eq w (codes "exit"))) [
@@ -256,6 +260,7 @@ extra_at_sound (c ∷ w) x e =
     ]
 
 extra_sound : (ws : List (List ℕ)) (x : Extra) (rest : List (List ℕ)) → extra ws ≡ Some (x, rest) → FitsExtra x × (extra_words x ++ rest ≡ ws)
+unfolding extra
 extra_sound [] x rest e =
     let p = pair_is extras.Nothing x [] rest e in
     let here : FitsExtra extras.Nothing × (extra_words extras.Nothing ++ [] ≡ []) = (tt, refl) in
@@ -365,18 +370,33 @@ list_leads = (
     (
       by_tid _ (λ t p. by_slots _ (λ ns f. gives_leads (Gave t ns) (p, f) refl)),
       (
-        by_small _ (λ to p. by_slots _ (λ ns f. gives_leads (Lent to ns) (p, f) refl)),
-        (
-          by_small _ (λ to p. by_slots _ (λ ns f. gives_leads (InHand to ns) (p, f) refl)),
-          (
-            by_small _ (λ to p. by_slots _ (λ ns f. gives_leads (Returned to ns) (p, f) refl)),
-            (
-              by_slots _ (λ ns f. gives_leads (Home ns) f refl),
-              tt,
-            ),
-          ),
-        ),
+        by_slots _ (λ ns f. gives_leads (Home ns) f refl),
+        tt,
       ),
+    ),
+  ),
+)
+
+lent_leads : AllLead Fits label_words [] lent_forms
+lent_leads = (
+  by_small _ (λ to p. by_slots _ (λ ns f. gives_leads (Lent to ns) (p, f) refl)),
+  (
+    by_small _ (λ to p. by_slots _ (λ ns f. gives_leads (InHand to ns) (p, f) refl)),
+    (
+      by_small _ (λ to p. by_slots _ (λ ns f. gives_leads (Returned to ns) (p, f) refl)),
+      tt,
+    ),
+  ),
+)
+
+bubble_leads : AllLead Fits label_words [] bubble_forms
+bubble_leads = (
+  by_word _ (λ bubble p. by_small _ (λ list q. gives_leads (Down bubble list) (p, q) refl)),
+  (
+    by_word _ (λ bubble p. by_small _ (λ list q. gives_leads (Burst bubble list) (p, q) refl)),
+    (
+      by_word _ (λ bubble p. by_word _ (λ count q. gives_leads (Gathered bubble count) (p, q) refl)),
+      tt,
     ),
   ),
 )
@@ -417,16 +437,7 @@ plain_leads = (
             by_tid _ (λ t p. by_short _ (λ count q. after_leads FitsFirst (λ f. first_text f ∷ []) (one first_at) first_leads _ (λ first f. gives_leads (Decided t count first) (p, q, f) refl))),
             (
               by_tid _ (λ t p. by_word _ (λ count q. by_reply _ (λ code r. gives_leads (Dropped t count code) (p, q, r) refl))),
-              (
-                by_word _ (λ bubble p. by_small _ (λ list q. gives_leads (Down bubble list) (p, q) refl)),
-                (
-                  by_word _ (λ bubble p. by_small _ (λ list q. gives_leads (Burst bubble list) (p, q) refl)),
-                  (
-                    by_word _ (λ bubble p. by_word _ (λ count q. gives_leads (Gathered bubble count) (p, q) refl)),
-                    tt,
-                  ),
-                ),
-              ),
+              tt,
             ),
           ),
         ),
@@ -435,13 +446,19 @@ plain_leads = (
   ),
 )
 
+bubble_sound : (w : List ℕ) (ws : List (List ℕ)) (x : Label) (rest : List (List ℕ)) → choose bubble_forms (choose thread_forms None w ws) w ws ≡ Some (x, rest) → Fits x × (label_words x ++ rest ≡ w ∷ ws)
+bubble_sound w ws x rest e =
+    choose_sound Fits label_words bubble_forms (choose thread_forms None w ws) w ws x rest bubble_leads (λ f. choose_sound Fits label_words thread_forms None w ws x rest thread_leads (λ no. nothing x rest no) f) e
+
 plain_sound : (w : List ℕ) (ws : List (List ℕ)) (x : Label) (rest : List (List ℕ)) → plain_named w ws ≡ Some (x, rest) → Fits x × (label_words x ++ rest ≡ w ∷ ws)
-plain_sound w ws x rest e =
-    choose_sound Fits label_words plain_forms (choose thread_forms None w ws) w ws x rest plain_leads (λ f. choose_sound Fits label_words thread_forms None w ws x rest thread_leads (λ no. nothing x rest no) f) e
+plain_sound w ws x rest e = choose_sound Fits label_words plain_forms (choose bubble_forms (choose thread_forms None w ws) w ws) w ws x rest plain_leads (λ f. bubble_sound w ws x rest f) e
+
+lent_sound : (w : List ℕ) (ws : List (List ℕ)) (x : Label) (rest : List (List ℕ)) → choose lent_forms (plain_named w ws) w ws ≡ Some (x, rest) → Fits x × (label_words x ++ rest ≡ w ∷ ws)
+lent_sound w ws x rest e = choose_sound Fits label_words lent_forms (plain_named w ws) w ws x rest lent_leads (λ f. plain_sound w ws x rest f) e
 
 -- a label that is read, and the words behind it
 pub label_sound : (w : List ℕ) (ws : List (List ℕ)) (x : Label) (rest : List (List ℕ)) → label_named w ws ≡ Some (x, rest) → Fits x × (label_words x ++ rest ≡ w ∷ ws)
-label_sound w ws x rest e = choose_sound Fits label_words list_forms (plain_named w ws) w ws x rest list_leads (λ f. plain_sound w ws x rest f) e
+label_sound w ws x rest e = choose_sound Fits label_words list_forms (choose lent_forms (plain_named w ws) w ws) w ws x rest list_leads (λ f. lent_sound w ws x rest f) e
 
 -- ---- heads
 

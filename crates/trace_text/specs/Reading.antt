@@ -123,7 +123,7 @@ abbrev pub gives : {X : Type 0} → X → Reader X
 gives x ws = Some (x, ws)
 
 -- by one word
-abbrev pub one : {X : Type 0} → (List ℕ → Option X) → Reader X
+unfoldable pub one : {X : Type 0} → (List ℕ → Option X) → Reader X
 one at [] = None
 one at (w ∷ ws) = at w >>= λ x. Some (x, ws)
 
@@ -172,7 +172,7 @@ act_forms =
     ∷ (codes "move", after tid (λ t. after small (λ to. gives (acts.Move t to))))
     ∷ []
 
-abbrev pub act : Reader Act
+unfoldable pub act : Reader Act
 act = pick act_forms
 
 abbrev pub why_forms : List (List ℕ × Reader Why)
@@ -183,10 +183,10 @@ why_forms =
     ∷ (codes "service", after tid (λ by. after word (λ count. gives (whys.Service by count))))
     ∷ []
 
-abbrev pub why : Reader Why
+unfoldable pub why : Reader Why
 why = pick why_forms
 
-abbrev pub end : Reader End
+unfoldable pub end : Reader End
 end [] = None
 end (w ∷ ws) =
     if bytes_eq w (codes "exit") then after long (λ value. gives (ends.Exit value)) ws
@@ -199,7 +199,7 @@ extra_at (c ∷ bs) =
     else number_at 18446744073709551615 (c ∷ bs) >>= λ second. Some (extras.Second second)
 
 -- nothing where no word is left
-abbrev pub extra : Reader Extra
+unfoldable pub extra : Reader Extra
 extra [] = Some (extras.Nothing, [])
 extra (w ∷ ws) = extra_at w >>= λ x. Some (x, ws)
 
@@ -290,10 +290,23 @@ list_forms =
     (codes "asked", asked_in)
     ∷ (codes "judged", judged_in)
     ∷ (codes "gave", gave_in)
-    ∷ (codes "lent", lent_in)
+    ∷ (codes "home", home_in)
+    ∷ []
+
+-- labels of a node and slots
+abbrev pub lent_forms : List (List ℕ × Reader Label)
+lent_forms =
+    (codes "lent", lent_in)
     ∷ (codes "inhand", inhand_in)
     ∷ (codes "returned", returned_in)
-    ∷ (codes "home", home_in)
+    ∷ []
+
+-- labels of a bubble
+abbrev pub bubble_forms : List (List ℕ × Reader Label)
+bubble_forms =
+    (codes "down", down_in)
+    ∷ (codes "burst", burst_in)
+    ∷ (codes "gathered", gathered_in)
     ∷ []
 
 -- labels of a thread alone
@@ -317,16 +330,13 @@ plain_forms =
     ∷ (codes "born", born_in)
     ∷ (codes "decided", decided_in)
     ∷ (codes "dropped", dropped_in)
-    ∷ (codes "down", down_in)
-    ∷ (codes "burst", burst_in)
-    ∷ (codes "gathered", gathered_in)
     ∷ []
 
 abbrev pub plain_named : List ℕ → Reader Label
-plain_named w ws = choose plain_forms (choose thread_forms None w ws) w ws
+plain_named w ws = choose plain_forms (choose bubble_forms (choose thread_forms None w ws) w ws) w ws
 
 abbrev pub label_named : List ℕ → Reader Label
-label_named w ws = choose list_forms (plain_named w ws) w ws
+label_named w ws = choose list_forms (choose lent_forms (plain_named w ws) w ws) w ws
 
 abbrev pub label : Reader Label
 label [] = None

@@ -14,6 +14,8 @@ use Rattle.run_trace.specs.declared.label.Why.{Why}
 use Rattle.run_trace.specs.declared.label.Why.TheVariants as whys
 use Rattle.run_trace.specs.declared.label.Extra.{Extra}
 use Rattle.run_trace.specs.declared.label.Extra.TheVariants as extras
+use Rattle.trace_text.specs.declared.writing.Word.{Word}
+use Rattle.trace_text.specs.declared.writing.Word.TheVariants as word
 
 -- a thread's name
 abbrev pub tid_text : Tid → List ℕ
@@ -57,6 +59,15 @@ stop_text (stops.Fault kind) = kind_text kind
 abbrev pub first_text : Option ℕ → List ℕ
 first_text None = codes "-"
 first_text (Some slot) = decimal slot
+
+-- a word as the code hands it on, without where it lies in memory
+abbrev pub word_text : Word → List ℕ
+word_text (word.Text letters) = letters.now
+word_text (word.Number n) = decimal n
+word_text (word.Thread t) = tid_text t.now
+word_text (word.Slots slots) = slots_text slots.now
+word_text (word.First first) = first_text first
+word_text (word.Reply reply) = reply_text reply
 
 -- ---- what takes several words
 

@@ -2,11 +2,10 @@
 
 ghost use Rattle.std.specs.Prelude.{◌≡◌, IfOk, None};
 ghost use Rattle.std.specs.Option.{option_map};
-ghost use Rattle.trace_text.specs.Reading.{left, given, ran_in, asked_in, judged_in, gave_in, lent_in, inhand_in, returned_in, home_in, born_in, took_in, left_in, ended_in, decided_in, dropped_in, down_in, burst_in, gathered_in, choose, thread_forms, plain_named, label_named};
+ghost use Rattle.trace_text.specs.Reading.{left, given, ran_in, asked_in, judged_in, gave_in, home_in, born_in, took_in, left_in, ended_in, decided_in, dropped_in, choose, lent_forms, bubble_forms, thread_forms, plain_named, label_named};
 
-use crate::one_word::first_at;
 use crate::several::{
-    asked_of, end, extra, long, next_word, reply, short, slots, small, stop, tid, why, word,
+    asked_of, end, extra, first, long, reply, short, slots, small, stop, tid, why, word,
 };
 use run_trace::Label;
 use slot_space::{NodeNo, SlotNo};
@@ -18,9 +17,15 @@ fn ran(rest: &[u8]) -> Option<(Label, &[u8])>
     let Some((t, rest)) = tid(rest) else {
         return None
     };
-    let (vp, rest) = small(rest)?;
-    let (count, rest) = word(rest)?;
-    let (stop, rest) = stop(rest)?;
+    let Some((vp, rest)) = small(rest) else {
+        return None
+    };
+    let Some((count, rest)) = word(rest) else {
+        return None
+    };
+    let Some((stop, rest)) = stop(rest) else {
+        return None
+    };
     Some((Label::Ran { t, vp, count, stop }, rest))
 }
 
@@ -42,10 +47,11 @@ fn judged<'a>(alloc: Global, rest: &'a [u8]) -> Result<Option<(Label, &'a [u8])>
     let Some((reply, rest)) = reply(rest) else {
         return Ok(None)
     };
-    let Some((extra, rest)) = extra(alloc, rest)? else {
-        return Ok(None)
-    };
-    Ok(Some((Label::Judged { t, reply, extra }, rest)))
+    match extra(alloc, rest) {
+        Ok(Some((extra, rest))) => Ok(Some((Label::Judged { t, reply, extra }, rest))),
+        Ok(None) => Ok(None),
+        Err(error) => Err(error),
+    }
 }
 
 fn gave<'a>(alloc: Global, rest: &'a [u8]) -> Result<Option<(Label, &'a [u8])>, AllocError>
@@ -54,73 +60,54 @@ fn gave<'a>(alloc: Global, rest: &'a [u8]) -> Result<Option<(Label, &'a [u8])>, 
     let Some((t, rest)) = tid(rest) else {
         return Ok(None)
     };
-    let Some((slots, rest)) = slots(alloc, rest)? else {
-        return Ok(None)
-    };
-    Ok(Some((Label::Gave { t, slots }, rest)))
+    match slots(alloc, rest) {
+        Ok(Some((slots, rest))) => Ok(Some((Label::Gave { t, slots }, rest))),
+        Ok(None) => Ok(None),
+        Err(error) => Err(error),
+    }
 }
 
-fn lent<'a>(alloc: Global, rest: &'a [u8]) -> Result<Option<(Label, &'a [u8])>, AllocError>
-    ensures { IfOk result (λ o. lent_in (left 32 rest.now) ≡ option_map given o) }
+fn lent_named<'a>(
+    alloc: Global,
+    name: &[u8],
+    rest: &'a [u8],
+) -> Result<Option<(Label, &'a [u8])>, AllocError>
+    ensures { IfOk result (λ o. choose lent_forms None name.now (left 32 rest.now) ≡ option_map given o) }
 {
-    let Some((to, rest)) = small(rest) else {
+    let Some((node, rest)) = small(rest) else {
         return Ok(None)
     };
-    let Some((slots, rest)) = slots(alloc, rest)? else {
-        return Ok(None)
+    let (slots, rest) = match slots(alloc, rest) {
+        Ok(Some(read)) => read,
+        Ok(None) => return Ok(None),
+        Err(error) => return Err(error),
     };
-    Ok(Some((
-        Label::Lent {
-            to: NodeNo(to),
-            slots,
-        },
-        rest,
-    )))
-}
-
-fn inhand<'a>(alloc: Global, rest: &'a [u8]) -> Result<Option<(Label, &'a [u8])>, AllocError>
-    ensures { IfOk result (λ o. inhand_in (left 32 rest.now) ≡ option_map given o) }
-{
-    let Some((lender, rest)) = small(rest) else {
-        return Ok(None)
-    };
-    let Some((slots, rest)) = slots(alloc, rest)? else {
-        return Ok(None)
-    };
-    Ok(Some((
-        Label::InHand {
-            lender: NodeNo(lender),
-            slots,
-        },
-        rest,
-    )))
-}
-
-fn returned<'a>(alloc: Global, rest: &'a [u8]) -> Result<Option<(Label, &'a [u8])>, AllocError>
-    ensures { IfOk result (λ o. returned_in (left 32 rest.now) ≡ option_map given o) }
-{
-    let Some((to, rest)) = small(rest) else {
-        return Ok(None)
-    };
-    let Some((slots, rest)) = slots(alloc, rest)? else {
-        return Ok(None)
-    };
-    Ok(Some((
-        Label::Returned {
-            to: NodeNo(to),
-            slots,
-        },
-        rest,
-    )))
+    let node = NodeNo(node);
+    if name == b"lent".as_slice() {
+        Ok(Some((Label::Lent { to: node, slots }, rest)))
+    } else if name == b"inhand".as_slice() {
+        Ok(Some((
+            Label::InHand {
+                lender: node,
+                slots,
+            },
+            rest,
+        )))
+    } else if name == b"returned".as_slice() {
+        Ok(Some((Label::Returned { to: node, slots }, rest)))
+    } else {
+        Ok(None)
+    }
 }
 
 fn home<'a>(alloc: Global, rest: &'a [u8]) -> Result<Option<(Label, &'a [u8])>, AllocError>
     ensures { IfOk result (λ o. home_in (left 32 rest.now) ≡ option_map given o) }
 {
-    let Some((slots, rest)) = slots(alloc, rest)? else {
-        return Ok(None)
-    };
-    Ok(Some((Label::Home { slots }, rest)))
+    match slots(alloc, rest) {
+        Ok(Some((slots, rest))) => Ok(Some((Label::Home { slots }, rest))),
+        Ok(None) => Ok(None),
+        Err(error) => Err(error),
+    }
 }
 
 fn born(rest: &[u8]) -> Option<(Label, &[u8])>
@@ -132,11 +119,21 @@ fn born(rest: &[u8]) -> Option<(Label, &[u8])>
     let Some((why, rest)) = why(rest) else {
         return None
     };
-    let (entry, rest) = long(rest)?;
-    let (a0, rest) = long(rest)?;
-    let (a1, rest) = long(rest)?;
-    let (sp, rest) = long(rest)?;
-    let (slot, rest) = short(rest)?;
+    let Some((entry, rest)) = long(rest) else {
+        return None
+    };
+    let Some((a0, rest)) = long(rest) else {
+        return None
+    };
+    let Some((a1, rest)) = long(rest) else {
+        return None
+    };
+    let Some((sp, rest)) = long(rest) else {
+        return None
+    };
+    let Some((slot, rest)) = short(rest) else {
+        return None
+    };
     let label = Label::Born {
         t,
         why,
@@ -155,8 +152,12 @@ fn took(rest: &[u8]) -> Option<(Label, &[u8])>
     let Some((t, rest)) = tid(rest) else {
         return None
     };
-    let (first, rest) = short(rest)?;
-    let (count, rest) = short(rest)?;
+    let Some((first, rest)) = short(rest) else {
+        return None
+    };
+    let Some((count, rest)) = short(rest) else {
+        return None
+    };
     let label = Label::Took {
         t,
         first: SlotNo(first),
@@ -171,7 +172,9 @@ fn departed(rest: &[u8]) -> Option<(Label, &[u8])>
     let Some((t, rest)) = tid(rest) else {
         return None
     };
-    let (to, rest) = small(rest)?;
+    let Some((to, rest)) = small(rest) else {
+        return None
+    };
     Some((Label::Left { t, to: NodeNo(to) }, rest))
 }
 
@@ -181,7 +184,9 @@ fn ended(rest: &[u8]) -> Option<(Label, &[u8])>
     let Some((t, rest)) = tid(rest) else {
         return None
     };
-    let (end, rest) = end(rest)?;
+    let Some((end, rest)) = end(rest) else {
+        return None
+    };
     Some((Label::Ended { t, end }, rest))
 }
 
@@ -191,9 +196,12 @@ fn decided(rest: &[u8]) -> Option<(Label, &[u8])>
     let Some((t, rest)) = tid(rest) else {
         return None
     };
-    let (count, rest) = short(rest)?;
-    let (first, rest) = next_word(rest)?;
-    let first = first_at(first)?;
+    let Some((count, rest)) = short(rest) else {
+        return None
+    };
+    let Some((first, rest)) = first(rest) else {
+        return None
+    };
     Some((Label::Decided { t, count, first }, rest))
 }
 
@@ -203,33 +211,37 @@ fn dropped(rest: &[u8]) -> Option<(Label, &[u8])>
     let Some((t, rest)) = tid(rest) else {
         return None
     };
-    let (count, rest) = word(rest)?;
-    let (reply, rest) = reply(rest)?;
+    let Some((count, rest)) = word(rest) else {
+        return None
+    };
+    let Some((reply, rest)) = reply(rest) else {
+        return None
+    };
     Some((Label::Dropped { t, count, reply }, rest))
 }
 
-fn down(rest: &[u8]) -> Option<(Label, &[u8])>
-    ensures { down_in (left 32 rest.now) ≡ option_map given result }
+fn bubble_named<'a>(name: &[u8], rest: &'a [u8]) -> Option<(Label, &'a [u8])>
+    ensures { choose bubble_forms None name.now (left 32 rest.now) ≡ option_map given result }
 {
-    let (bubble, rest) = word(rest)?;
-    let (list, rest) = small(rest)?;
-    Some((Label::Down { bubble, list }, rest))
-}
-
-fn burst(rest: &[u8]) -> Option<(Label, &[u8])>
-    ensures { burst_in (left 32 rest.now) ≡ option_map given result }
-{
-    let (bubble, rest) = word(rest)?;
-    let (list, rest) = small(rest)?;
-    Some((Label::Burst { bubble, list }, rest))
-}
-
-fn gathered(rest: &[u8]) -> Option<(Label, &[u8])>
-    ensures { gathered_in (left 32 rest.now) ≡ option_map given result }
-{
-    let (bubble, rest) = word(rest)?;
-    let (count, rest) = word(rest)?;
-    Some((Label::Gathered { bubble, count }, rest))
+    let Some((bubble, rest)) = word(rest) else {
+        return None
+    };
+    if name == b"gathered".as_slice() {
+        let Some((count, rest)) = word(rest) else {
+            return None
+        };
+        return Some((Label::Gathered { bubble, count }, rest));
+    }
+    let Some((list, rest)) = small(rest) else {
+        return None
+    };
+    if name == b"down".as_slice() {
+        Some((Label::Down { bubble, list }, rest))
+    } else if name == b"burst".as_slice() {
+        Some((Label::Burst { bubble, list }, rest))
+    } else {
+        None
+    }
 }
 
 fn thread_named<'a>(name: &[u8], rest: &'a [u8]) -> Option<(Label, &'a [u8])>
@@ -273,11 +285,11 @@ fn plain_named<'a>(name: &[u8], rest: &'a [u8]) -> Option<(Label, &'a [u8])>
     } else if name == b"dropped".as_slice() {
         dropped(rest)
     } else if name == b"down".as_slice() {
-        down(rest)
+        bubble_named(name, rest)
     } else if name == b"burst".as_slice() {
-        burst(rest)
+        bubble_named(name, rest)
     } else if name == b"gathered".as_slice() {
-        gathered(rest)
+        bubble_named(name, rest)
     } else {
         thread_named(name, rest)
     }
@@ -297,14 +309,14 @@ pub(crate) fn label_named<'a>(
         judged(alloc, rest)
     } else if name == b"gave".as_slice() {
         gave(alloc, rest)
-    } else if name == b"lent".as_slice() {
-        lent(alloc, rest)
-    } else if name == b"inhand".as_slice() {
-        inhand(alloc, rest)
-    } else if name == b"returned".as_slice() {
-        returned(alloc, rest)
     } else if name == b"home".as_slice() {
         home(alloc, rest)
+    } else if name == b"lent".as_slice() {
+        lent_named(alloc, name, rest)
+    } else if name == b"inhand".as_slice() {
+        lent_named(alloc, name, rest)
+    } else if name == b"returned".as_slice() {
+        lent_named(alloc, name, rest)
     } else {
         Ok(plain_named(name, rest))
     }

@@ -12,4 +12,4 @@ mod writing;
 
 pub use error::TextError;
 pub use lines::read_trace;
-pub use writing::{push_number, push_tid, trace_text};
+pub use writing::{Word, push_number, push_words, trace_text};

@@ -36,9 +36,15 @@ pub(crate) struct Reading {
 fn head(alloc: Global, rest: &[u8]) -> Option<(Entry, &[u8])>
     ensures { head (left 32 rest.now) ≡ option_map given result }
 {
-    let (stamp, rest) = long(rest)?;
-    let (node, rest) = small(rest)?;
-    let (round, rest) = long(rest)?;
+    let Some((stamp, rest)) = long(rest) else {
+        return None
+    };
+    let Some((node, rest)) = small(rest) else {
+        return None
+    };
+    let Some((round, rest)) = long(rest) else {
+        return None
+    };
     let Some((act, rest)) = act(rest) else {
         return None
     };
@@ -69,8 +75,10 @@ fn head_line(alloc: Global, rest: &[u8]) -> Option<Line>
 fn label_line(alloc: Global, name: &[u8], rest: &[u8]) -> Result<Option<Line>, AllocError>
     ensures { IfOk result (λ o. label_line name.now (left 32 rest.now) ≡ o) }
 {
-    let Some((label, rest)) = label_named(alloc, name, rest)? else {
-        return Ok(None)
+    let (label, rest) = match label_named(alloc, name, rest) {
+        Ok(Some(read)) => read,
+        Ok(None) => return Ok(None),
+        Err(error) => return Err(error),
     };
     if !rest.is_empty() {
         return Ok(None);
@@ -140,7 +148,9 @@ fn next_line(text: &[u8]) -> Option<(&[u8], &[u8])>
     ensures last { result ≡ None → parts 10 text.now ≡ text.now ∷ [] }
 {
     let (line, behind) = cut(b'\n', text);
-    let (_, behind) = behind.split_first()?;
+    let Some((_, behind)) = behind.split_first() else {
+        return None
+    };
     Some((line, behind))
 }
 

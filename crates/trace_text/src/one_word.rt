@@ -33,7 +33,10 @@ pub(crate) fn cut(c: u8, bytes: &[u8]) -> (&[u8], &[u8])
 fn with_digit(value: u64, digit: u8) -> Option<u64>
     ensures { result ≡ only_if (nat_lt (value * 10 + digit) (2 ^ 64)) (value * 10 + digit) }
 {
-    value.checked_mul(10)?.checked_add(digit as u64)
+    match value.checked_mul(10) {
+        None => None,
+        Some(tens) => tens.checked_add(digit as u64),
+    }
 }
 
 /// The number of these digits, if each is one and the number has 64 bits.
@@ -63,7 +66,9 @@ pub(crate) fn number_at(last: u64, digits: &[u8]) -> Option<u64>
     if digits.is_empty() || digits[0] == b'0' && digits.len() != 1 {
         return None;
     }
-    let value = value_of(digits)?;
+    let Some(value) = value_of(digits) else {
+        return None
+    };
     if value <= last { Some(value) } else { None }
 }
 
@@ -72,16 +77,22 @@ pub(crate) fn tid_at(bytes: &[u8]) -> Option<Tid>
     ensures { result ≡ tid_at bytes.now }
 {
     let (home, behind) = cut(b'.', bytes);
-    let (_, behind) = behind.split_first()?;
+    let Some((_, behind)) = behind.split_first() else {
+        return None
+    };
     let (seq, behind) = cut(b'.', behind);
     if !behind.is_empty() {
         return None;
     }
-    let home = number_at(0xff, home)? as u8;
-    let seq = number_at(0xffff_ffff, seq)? as u32;
+    let Some(home) = number_at(0xff, home) else {
+        return None
+    };
+    let Some(seq) = number_at(0xffff_ffff, seq) else {
+        return None
+    };
     Some(Tid {
-        home: NodeNo(home),
-        seq,
+        home: NodeNo(home as u8),
+        seq: seq as u32,
     })
 }
 
@@ -117,9 +128,10 @@ pub(crate) fn slots_at(alloc: Global, bytes: &[u8]) -> Result<Option<Items<SlotN
     if bytes == b"-".as_slice() {
         return Ok(Some(Items::new(Vec::new(alloc))));
     }
-    match slots_in(alloc, bytes)? {
-        None => Ok(None),
-        Some(slots) => Ok(Some(Items::new(slots))),
+    match slots_in(alloc, bytes) {
+        Ok(Some(slots)) => Ok(Some(Items::new(slots))),
+        Ok(None) => Ok(None),
+        Err(error) => Err(error),
     }
 }
 
@@ -162,9 +174,10 @@ pub(crate) fn bytes_at(alloc: Global, word: &[u8]) -> Result<Option<Items<u8>>, 
     if word == b"-".as_slice() {
         return Ok(Some(Items::new(Vec::new(alloc))));
     }
-    match pairs_in(alloc, word)? {
-        None => Ok(None),
-        Some(bytes) => Ok(Some(Items::new(bytes))),
+    match pairs_in(alloc, word) {
+        Ok(Some(bytes)) => Ok(Some(Items::new(bytes))),
+        Ok(None) => Ok(None),
+        Err(error) => Err(error),
     }
 }
 
@@ -172,11 +185,15 @@ pub(crate) fn bytes_at(alloc: Global, word: &[u8]) -> Result<Option<Items<u8>>, 
 pub(crate) fn reply_at(word: &[u8]) -> Option<u64>
     ensures { result ≡ reply_at word.now }
 {
-    let (first, behind) = word.split_first()?;
+    let Some((first, behind)) = word.split_first() else {
+        return None
+    };
     if *first != b'-' {
         return number_at((1 << 63) - 1, word);
     }
-    let magnitude = number_at(1 << 63, behind)?;
+    let Some(magnitude) = number_at(1 << 63, behind) else {
+        return None
+    };
     if magnitude == 0 {
         return None;
     }
@@ -213,7 +230,7 @@ pub(crate) fn stop_at(word: &[u8]) -> Option<Stop>
     } else if word == b"call".as_slice() {
         Some(Stop::Call)
     } else {
-        Some(Stop::Fault(kind_at(word)?))
+        kind_at(word).map(Stop::Fault)
     }
 }
 
@@ -224,8 +241,10 @@ pub(crate) fn first_at(word: &[u8]) -> Option<Option<SlotNo>>
     if word == b"-".as_slice() {
         return Some(None);
     }
-    let slot = number_at(0xffff, word)?;
-    Some(Some(SlotNo(slot as u16)))
+    match number_at(0xffff, word) {
+        None => None,
+        Some(slot) => Some(Some(SlotNo(slot as u16))),
+    }
 }
 
 #[tactic(auto, unfolding(crate::specs::Reading::extra_at))]
@@ -238,8 +257,9 @@ pub(crate) fn extra_at(alloc: Global, word: &[u8]) -> Result<Option<Extra>, Allo
     if *first != b'x' {
         return Ok(number_at(u64::MAX, word).map(Extra::Second));
     }
-    match bytes_at(alloc, behind)? {
-        None => Ok(None),
-        Some(bytes) => Ok(Some(Extra::Bytes(bytes))),
+    match bytes_at(alloc, behind) {
+        Ok(Some(bytes)) => Ok(Some(Extra::Bytes(bytes))),
+        Ok(None) => Ok(None),
+        Err(error) => Err(error),
     }
 }

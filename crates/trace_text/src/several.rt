@@ -3,10 +3,10 @@
 ghost use Rattle.std.specs.Prelude.{◌≡◌, ◌≤◌, ℕ, List, map, IfOk, IfSome};
 ghost use Rattle.std.specs.Option.{option_map};
 ghost use Rattle.trace_text.specs.Calls.{row_of, call_named, call_numbered};
-ghost use Rattle.trace_text.specs.Reading.{left, given, first_word, one, number, long, word, short, small, tid, slots, reply, stop, act, why, end, extra, longs, said, unknown, asked_by, asked_of, kind_at, bytes_at, extra_at, slots_at, reply_at};
+ghost use Rattle.trace_text.specs.Reading.{left, given, first_word, one, number, long, word, short, small, tid, slots, reply, stop, act, why, end, extra, longs, said, unknown, asked_by, asked_of, kind_at, bytes_at, extra_at, first_at, slots_at, reply_at};
 
 use crate::one_word::{
-    bytes_at, cut, extra_at, kind_at, number_at, reply_at, slots_at, stop_at, tid_at,
+    bytes_at, cut, extra_at, first_at, kind_at, number_at, reply_at, slots_at, stop_at, tid_at,
 };
 use crate::rows::{Row, call_named, call_numbered};
 use basics::Items;
@@ -21,16 +21,24 @@ use std::alloc::{AllocError, Global};
 pub(crate) fn next_word(rest: &[u8]) -> Option<(&[u8], &[u8])>
     ensures { first_word (left 32 rest.now) ≡ option_map (λ p. (p.0.now, left 32 p.1.now)) result }
 {
-    let (_, words) = rest.split_first()?;
+    let Some((_, words)) = rest.split_first() else {
+        return None
+    };
     Some(cut(b' ', words))
 }
 
+#[tactic(auto, unfolding(crate::specs::Reading::one))]
 pub(crate) fn number(last: u64, rest: &[u8]) -> Option<(u64, &[u8])>
     ensures value { number last (left 32 rest.now) ≡ option_map given result }
     ensures least { IfSome result (λ p. p.0 ≤ last) }
 {
-    let (word, rest) = next_word(rest)?;
-    Some((number_at(last, word)?, rest))
+    let Some((word, rest)) = next_word(rest) else {
+        return None
+    };
+    let Some(n) = number_at(last, word) else {
+        return None
+    };
+    Some((n, rest))
 }
 
 pub(crate) fn long(rest: &[u8]) -> Option<(u64, &[u8])>
@@ -42,45 +50,81 @@ pub(crate) fn long(rest: &[u8]) -> Option<(u64, &[u8])>
 pub(crate) fn word(rest: &[u8]) -> Option<(u32, &[u8])>
     ensures { word (left 32 rest.now) ≡ option_map given result }
 {
-    let (n, rest) = number(0xffff_ffff, rest)?;
+    let Some((n, rest)) = number(0xffff_ffff, rest) else {
+        return None
+    };
     Some((n as u32, rest))
 }
 
 pub(crate) fn short(rest: &[u8]) -> Option<(u16, &[u8])>
     ensures { short (left 32 rest.now) ≡ option_map given result }
 {
-    let (n, rest) = number(0xffff, rest)?;
+    let Some((n, rest)) = number(0xffff, rest) else {
+        return None
+    };
     Some((n as u16, rest))
 }
 
 pub(crate) fn small(rest: &[u8]) -> Option<(u8, &[u8])>
     ensures { small (left 32 rest.now) ≡ option_map given result }
 {
-    let (n, rest) = number(0xff, rest)?;
+    let Some((n, rest)) = number(0xff, rest) else {
+        return None
+    };
     Some((n as u8, rest))
 }
 
+#[tactic(auto, unfolding(crate::specs::Reading::one))]
 pub(crate) fn tid(rest: &[u8]) -> Option<(Tid, &[u8])>
     ensures { tid (left 32 rest.now) ≡ option_map given result }
 {
-    let (word, rest) = next_word(rest)?;
-    Some((tid_at(word)?, rest))
+    let Some((word, rest)) = next_word(rest) else {
+        return None
+    };
+    let Some(t) = tid_at(word) else { return None };
+    Some((t, rest))
 }
 
+#[tactic(auto, unfolding(crate::specs::Reading::one))]
 pub(crate) fn reply(rest: &[u8]) -> Option<(u64, &[u8])>
     ensures { reply (left 32 rest.now) ≡ option_map given result }
 {
-    let (word, rest) = next_word(rest)?;
-    Some((reply_at(word)?, rest))
+    let Some((word, rest)) = next_word(rest) else {
+        return None
+    };
+    let Some(reply) = reply_at(word) else {
+        return None
+    };
+    Some((reply, rest))
 }
 
+#[tactic(auto, unfolding(crate::specs::Reading::one))]
 pub(crate) fn stop(rest: &[u8]) -> Option<(Stop, &[u8])>
     ensures { stop (left 32 rest.now) ≡ option_map given result }
 {
-    let (word, rest) = next_word(rest)?;
-    Some((stop_at(word)?, rest))
+    let Some((word, rest)) = next_word(rest) else {
+        return None
+    };
+    let Some(stop) = stop_at(word) else {
+        return None
+    };
+    Some((stop, rest))
 }
 
+#[tactic(auto, unfolding(crate::specs::Reading::one))]
+pub(crate) fn first(rest: &[u8]) -> Option<(Option<SlotNo>, &[u8])>
+    ensures { one first_at (left 32 rest.now) ≡ option_map given result }
+{
+    let Some((word, rest)) = next_word(rest) else {
+        return None
+    };
+    let Some(first) = first_at(word) else {
+        return None
+    };
+    Some((first, rest))
+}
+
+#[tactic(auto, unfolding(crate::specs::Reading::one))]
 pub(crate) fn slots<'a>(
     alloc: Global,
     rest: &'a [u8],
@@ -90,40 +134,55 @@ pub(crate) fn slots<'a>(
     let Some((word, rest)) = next_word(rest) else {
         return Ok(None)
     };
-    match slots_at(alloc, word)? {
-        None => Ok(None),
-        Some(slots) => Ok(Some((slots, rest))),
+    match slots_at(alloc, word) {
+        Ok(Some(slots)) => Ok(Some((slots, rest))),
+        Ok(None) => Ok(None),
+        Err(error) => Err(error),
     }
 }
 
+#[tactic(auto, unfolding(crate::specs::Reading::act))]
 pub(crate) fn act(rest: &[u8]) -> Option<(Act, &[u8])>
     ensures { act (left 32 rest.now) ≡ option_map given result }
 {
-    let (name, rest) = next_word(rest)?;
+    let Some((name, rest)) = next_word(rest) else {
+        return None
+    };
     if name == b"boot".as_slice() {
         Some((Act::Boot, rest))
     } else if name == b"run".as_slice() {
-        let (vp, rest) = small(rest)?;
-        let (quantum, rest) = word(rest)?;
+        let Some((vp, rest)) = small(rest) else {
+            return None
+        };
+        let Some((quantum, rest)) = word(rest) else {
+            return None
+        };
         Some((Act::Run(vp, quantum), rest))
     } else if name == b"take".as_slice() {
-        let (from, rest) = small(rest)?;
+        let Some((from, rest)) = small(rest) else {
+            return None
+        };
         Some((Act::Take(NodeNo(from)), rest))
     } else if name == b"move".as_slice() {
         let Some((t, rest)) = tid(rest) else {
             return None
         };
-        let (to, rest) = small(rest)?;
+        let Some((to, rest)) = small(rest) else {
+            return None
+        };
         Some((Act::Move(t, NodeNo(to)), rest))
     } else {
         None
     }
 }
 
+#[tactic(auto, unfolding(crate::specs::Reading::why))]
 pub(crate) fn why(rest: &[u8]) -> Option<(Why, &[u8])>
     ensures { why (left 32 rest.now) ≡ option_map given result }
 {
-    let (name, rest) = next_word(rest)?;
+    let Some((name, rest)) = next_word(rest) else {
+        return None
+    };
     if name == b"main".as_slice() {
         Some((Why::Main, rest))
     } else if name == b"create".as_slice() {
@@ -135,32 +194,46 @@ pub(crate) fn why(rest: &[u8]) -> Option<(Why, &[u8])>
         let Some((by, rest)) = tid(rest) else {
             return None
         };
-        let (bubble, rest) = word(rest)?;
+        let Some((bubble, rest)) = word(rest) else {
+            return None
+        };
         Some((Why::Inside(by, bubble), rest))
     } else if name == b"service".as_slice() {
         let Some((by, rest)) = tid(rest) else {
             return None
         };
-        let (count, rest) = word(rest)?;
+        let Some((count, rest)) = word(rest) else {
+            return None
+        };
         Some((Why::Service(by, count), rest))
     } else {
         None
     }
 }
 
+#[tactic(auto, unfolding(crate::specs::Reading::end))]
 pub(crate) fn end(rest: &[u8]) -> Option<(End, &[u8])>
     ensures { end (left 32 rest.now) ≡ option_map given result }
 {
-    let (name, rest) = next_word(rest)?;
+    let Some((name, rest)) = next_word(rest) else {
+        return None
+    };
     if name == b"exit".as_slice() {
-        let (value, rest) = long(rest)?;
+        let Some((value, rest)) = long(rest) else {
+            return None
+        };
         return Some((End::Exit(value), rest));
     }
-    let kind = kind_at(name)?;
-    let (pc, rest) = long(rest)?;
+    let Some(kind) = kind_at(name) else {
+        return None
+    };
+    let Some((pc, rest)) = long(rest) else {
+        return None
+    };
     Some((End::Fault { kind, pc }, rest))
 }
 
+#[tactic(auto, unfolding(crate::specs::Reading::extra))]
 pub(crate) fn extra<'a>(
     alloc: Global,
     rest: &'a [u8],
@@ -170,9 +243,10 @@ pub(crate) fn extra<'a>(
     let Some((word, rest)) = next_word(rest) else {
         return Ok(Some((Extra::Nothing, rest)))
     };
-    match extra_at(alloc, word)? {
-        None => Ok(None),
-        Some(extra) => Ok(Some((extra, rest))),
+    match extra_at(alloc, word) {
+        Ok(Some(extra)) => Ok(Some((extra, rest))),
+        Ok(None) => Ok(None),
+        Err(error) => Err(error),
     }
 }
 
@@ -198,6 +272,7 @@ fn longs<'a>(
     Ok(Some((numbers, rest)))
 }
 
+#[tactic(auto, unfolding(crate::specs::Reading::one))]
 fn said<'a>(
     alloc: Global,
     says: bool,
@@ -211,16 +286,19 @@ fn said<'a>(
     let Some((word, rest)) = next_word(rest) else {
         return Ok(None)
     };
-    match bytes_at(alloc, word)? {
-        None => Ok(None),
-        Some(bytes) => Ok(Some((bytes, rest))),
+    match bytes_at(alloc, word) {
+        Ok(Some(bytes)) => Ok(Some((bytes, rest))),
+        Ok(None) => Ok(None),
+        Err(error) => Err(error),
     }
 }
 
 fn unknown(alloc: Global, t: Tid, rest: &[u8]) -> Option<(Label, &[u8])>
     ensures { unknown t (left 32 rest.now) ≡ option_map given result }
 {
-    let (call, rest) = long(rest)?;
+    let Some((call, rest)) = long(rest) else {
+        return None
+    };
     match call_numbered(call) {
         Some(_) => None,
         None => Some((
@@ -243,11 +321,15 @@ fn asked_by<'a>(
 ) -> Result<Option<(Label, &'a [u8])>, AllocError>
     ensures { IfOk result (λ o. asked_by t (row_of row) (left 32 rest.now) ≡ option_map given o) }
 {
-    let Some((args, rest)) = longs(alloc, row.arguments, rest)? else {
-        return Ok(None)
+    let (args, rest) = match longs(alloc, row.arguments, rest) {
+        Ok(Some(read)) => read,
+        Ok(None) => return Ok(None),
+        Err(error) => return Err(error),
     };
-    let Some((bytes, rest)) = said(alloc, row.says, rest)? else {
-        return Ok(None)
+    let (bytes, rest) = match said(alloc, row.says, rest) {
+        Ok(Some(read)) => read,
+        Ok(None) => return Ok(None),
+        Err(error) => return Err(error),
     };
     Ok(Some((
         Label::Asked {

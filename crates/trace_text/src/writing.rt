@@ -4,7 +4,7 @@ ghost use Rattle.std.specs.Prelude.{◌≡◌, ◌++◌, ◌∷◌, [], ◌<◌,
 ghost use Rattle.std.specs.List.{flat_map};
 ghost use Rattle.std.specs.Option.{option_map};
 ghost use Rattle.trace_text.specs.Calls.{row_of};
-ghost use Rattle.trace_text.specs.Words.{tid_text, slots_text, glyph, byte_text, bytes_text, reply_text, kind_text, stop_text, first_text, act_words, why_words, end_words, extra_words};
+ghost use Rattle.trace_text.specs.Words.{tid_text, slots_text, glyph, byte_text, bytes_text, reply_text, kind_text, stop_text, first_text, act_words, why_words, end_words, extra_words, word_text};
 ghost use Rattle.trace_text.specs.Lines.{spaced, words_text, head_words, said_words, asked_words, label_words, line_text, entry_lines, trace_lines, trace_text};
 
 use crate::rows::{Row, call_numbered};
@@ -16,6 +16,21 @@ use rv_step::{FaultKind, Stop};
 use slot_space::{SlotNo, Tid};
 use std::alloc::{AllocError, Global};
 
+/// A word of a line.
+#[derive(Clone, Copy)]
+pub enum Word<'a> {
+    /// These letters.
+    Text(&'a [u8]),
+    Number(u64),
+    /// A thread's name.
+    Thread(&'a Tid),
+    Slots(&'a [SlotNo]),
+    /// A slot, or none.
+    First(Option<SlotNo>),
+    /// What a thread has in a0, which is signed.
+    Reply(u64),
+}
+
 /// Appends a number in decimal digits.
 pub fn push_number(out: &mut Vec<u8>, n: u64) -> Result<(), AllocError>
     ensures { OnOk result (out.new.items ≡ out.old.items ++ decimal n) }
@@ -24,7 +39,7 @@ pub fn push_number(out: &mut Vec<u8>, n: u64) -> Result<(), AllocError>
 }
 
 /// Appends a thread's name.
-pub fn push_tid(out: &mut Vec<u8>, t: &Tid) -> Result<(), AllocError>
+fn push_tid(out: &mut Vec<u8>, t: &Tid) -> Result<(), AllocError>
     ensures { OnOk result (out.new.items ≡ out.old.items ++ tid_text t.now) }
 {
     push_number(out, t.home.0 as u64)?;
@@ -32,36 +47,13 @@ pub fn push_tid(out: &mut Vec<u8>, t: &Tid) -> Result<(), AllocError>
     push_number(out, t.seq as u64)
 }
 
-// Each `next_` appends a blank, and then what its name says.
-
-fn next_word(out: &mut Vec<u8>, word: &[u8]) -> Result<(), AllocError>
-    ensures { OnOk result (out.new.items ≡ out.old.items ++ 32 ∷ word.now) }
-{
-    out.push(b' ')?;
-    out.extend_from_slice(word)
-}
-
-fn next_number(out: &mut Vec<u8>, n: u64) -> Result<(), AllocError>
-    ensures { OnOk result (out.new.items ≡ out.old.items ++ 32 ∷ decimal n) }
-{
-    out.push(b' ')?;
-    push_number(out, n)
-}
-
-fn next_tid(out: &mut Vec<u8>, t: &Tid) -> Result<(), AllocError>
-    ensures { OnOk result (out.new.items ≡ out.old.items ++ 32 ∷ tid_text t.now) }
-{
-    out.push(b' ')?;
-    push_tid(out, t)
-}
-
-fn next_slots(out: &mut Vec<u8>, slots: &[SlotNo]) -> Result<(), AllocError>
-    ensures { OnOk result (out.new.items ≡ out.old.items ++ 32 ∷ slots_text slots.now) }
+fn push_slots(out: &mut Vec<u8>, slots: &[SlotNo]) -> Result<(), AllocError>
+    ensures { OnOk result (out.new.items ≡ out.old.items ++ slots_text slots.now) }
 {
     let Some((first, others)) = slots.split_first() else {
-        return next_word(out, b"-")
+        return out.extend_from_slice(b"-")
     };
-    next_number(out, first.0 as u64)?;
+    push_number(out, first.0 as u64)?;
     for slot in others {
         out.push(b',')?;
         push_number(out, slot.0 as u64)?;
@@ -88,14 +80,39 @@ fn push_bytes(out: &mut Vec<u8>, bytes: &[u8]) -> Result<(), AllocError>
     Ok(())
 }
 
-fn next_reply(out: &mut Vec<u8>, reply: u64) -> Result<(), AllocError>
-    ensures { OnOk result (out.new.items ≡ out.old.items ++ 32 ∷ reply_text reply) }
+fn push_reply(out: &mut Vec<u8>, reply: u64) -> Result<(), AllocError>
+    ensures { OnOk result (out.new.items ≡ out.old.items ++ reply_text reply) }
 {
     if reply < 1 << 63 {
-        return next_number(out, reply);
+        return push_number(out, reply);
     }
-    out.extend_from_slice(b" -")?;
+    out.push(b'-')?;
     push_number(out, u64::MAX - reply + 1)
+}
+
+fn push_word(out: &mut Vec<u8>, word: &Word) -> Result<(), AllocError>
+    ensures { OnOk result (out.new.items ≡ out.old.items ++ word_text word.now) }
+{
+    match word {
+        Word::Text(letters) => out.extend_from_slice(letters),
+        Word::Number(n) => push_number(out, *n),
+        Word::Thread(t) => push_tid(out, t),
+        Word::Slots(slots) => push_slots(out, slots),
+        Word::First(None) => out.extend_from_slice(b"-"),
+        Word::First(Some(slot)) => push_number(out, slot.0 as u64),
+        Word::Reply(reply) => push_reply(out, *reply),
+    }
+}
+
+/// Appends words, each behind a blank.
+pub fn push_words(out: &mut Vec<u8>, words: &[Word]) -> Result<(), AllocError>
+    ensures { OnOk result (out.new.items ≡ out.old.items ++ spaced (map word_text words.now)) }
+{
+    for word in words {
+        out.push(b' ')?;
+        push_word(out, word)?;
+    }
+    Ok(())
 }
 
 fn kind_text(kind: FaultKind) -> &'static [u8]
@@ -121,26 +138,28 @@ fn stop_text(stop: Stop) -> &'static [u8]
     }
 }
 
-/// Appends an act, each of its words behind a blank.
 fn push_act(out: &mut Vec<u8>, act: &Act) -> Result<(), AllocError>
     ensures { OnOk result (out.new.items ≡ out.old.items ++ spaced (act_words act.now)) }
 {
     match act {
-        Act::Boot => next_word(out, b"boot"),
-        Act::Run(vp, quantum) => {
-            next_word(out, b"run")?;
-            next_number(out, *vp as u64)?;
-            next_number(out, *quantum as u64)
-        }
-        Act::Take(from) => {
-            next_word(out, b"take")?;
-            next_number(out, from.0 as u64)
-        }
-        Act::Move(t, to) => {
-            next_word(out, b"move")?;
-            next_tid(out, t)?;
-            next_number(out, to.0 as u64)
-        }
+        Act::Boot => push_words(out, &[Word::Text(b"boot")]),
+        Act::Run(vp, quantum) => push_words(
+            out,
+            &[
+                Word::Text(b"run"),
+                Word::Number(*vp as u64),
+                Word::Number(*quantum as u64),
+            ],
+        ),
+        Act::Take(from) => push_words(out, &[Word::Text(b"take"), Word::Number(from.0 as u64)]),
+        Act::Move(t, to) => push_words(
+            out,
+            &[
+                Word::Text(b"move"),
+                Word::Thread(t),
+                Word::Number(to.0 as u64),
+            ],
+        ),
     }
 }
 
@@ -148,21 +167,24 @@ fn push_why(out: &mut Vec<u8>, why: &Why) -> Result<(), AllocError>
     ensures { OnOk result (out.new.items ≡ out.old.items ++ spaced (why_words why.now)) }
 {
     match why {
-        Why::Main => next_word(out, b"main"),
-        Why::Create(by) => {
-            next_word(out, b"create")?;
-            next_tid(out, by)
-        }
-        Why::Inside(by, bubble) => {
-            next_word(out, b"in")?;
-            next_tid(out, by)?;
-            next_number(out, *bubble as u64)
-        }
-        Why::Service(by, count) => {
-            next_word(out, b"service")?;
-            next_tid(out, by)?;
-            next_number(out, *count as u64)
-        }
+        Why::Main => push_words(out, &[Word::Text(b"main")]),
+        Why::Create(by) => push_words(out, &[Word::Text(b"create"), Word::Thread(by)]),
+        Why::Inside(by, bubble) => push_words(
+            out,
+            &[
+                Word::Text(b"in"),
+                Word::Thread(by),
+                Word::Number(*bubble as u64),
+            ],
+        ),
+        Why::Service(by, count) => push_words(
+            out,
+            &[
+                Word::Text(b"service"),
+                Word::Thread(by),
+                Word::Number(*count as u64),
+            ],
+        ),
     }
 }
 
@@ -170,14 +192,11 @@ fn push_end(out: &mut Vec<u8>, end: &End) -> Result<(), AllocError>
     ensures { OnOk result (out.new.items ≡ out.old.items ++ spaced (end_words end.now)) }
 {
     match end {
-        End::Exit(value) => {
-            next_word(out, b"exit")?;
-            next_number(out, *value)
-        }
-        End::Fault { kind, pc } => {
-            next_word(out, kind_text(*kind))?;
-            next_number(out, *pc)
-        }
+        End::Exit(value) => push_words(out, &[Word::Text(b"exit"), Word::Number(*value)]),
+        End::Fault { kind, pc } => push_words(
+            out,
+            &[Word::Text(kind_text(*kind)), Word::Number(*pc)],
+        ),
     }
 }
 
@@ -186,7 +205,7 @@ fn push_extra(out: &mut Vec<u8>, extra: &Extra) -> Result<(), AllocError>
 {
     match extra {
         Extra::Nothing => Ok(()),
-        Extra::Second(second) => next_number(out, *second),
+        Extra::Second(second) => push_words(out, &[Word::Number(*second)]),
         Extra::Bytes(bytes) => {
             out.extend_from_slice(b" x")?;
             push_bytes(out, bytes.as_slice())
@@ -198,7 +217,8 @@ fn push_numbers(out: &mut Vec<u8>, numbers: &[u64]) -> Result<(), AllocError>
     ensures { OnOk result (out.new.items ≡ out.old.items ++ spaced (map decimal numbers.now)) }
 {
     for number in numbers {
-        next_number(out, *number)?;
+        out.push(b' ')?;
+        push_number(out, *number)?;
     }
     Ok(())
 }
@@ -213,11 +233,10 @@ fn push_asked(
     ensures { OnOk result (out.new.items ≡ out.old.items ++ spaced (asked_words (option_map row_of row) call args.now bytes.now)) }
 {
     let Some(row) = row else {
-        next_word(out, b"unknown")?;
-        next_number(out, call)?;
+        push_words(out, &[Word::Text(b"unknown"), Word::Number(call)])?;
         return push_numbers(out, args)
     };
-    next_word(out, row.name)?;
+    push_words(out, &[Word::Text(row.name)])?;
     push_numbers(out, args)?;
     if !row.says {
         return Ok(());
@@ -226,58 +245,12 @@ fn push_asked(
     push_bytes(out, bytes)
 }
 
-fn push_born(
-    out: &mut Vec<u8>,
-    why: &Why,
-    entry: u64,
-    a0: u64,
-    a1: u64,
-    sp: u64,
-    slot: u64,
-) -> Result<(), AllocError>
-    ensures { OnOk result (out.new.items ≡ out.old.items ++ spaced (why_words why.now ++ decimal entry ∷ decimal a0 ∷ decimal a1 ∷ decimal sp ∷ decimal slot ∷ [])) }
+/// Appends a label's name and words behind it.
+fn push_named(out: &mut Vec<u8>, name: &[u8], words: &[Word]) -> Result<(), AllocError>
+    ensures { OnOk result (out.new.items ≡ out.old.items ++ (name.now ++ spaced (map word_text words.now))) }
 {
-    push_why(out, why)?;
-    next_number(out, entry)?;
-    next_number(out, a0)?;
-    next_number(out, a1)?;
-    next_number(out, sp)?;
-    next_number(out, slot)
-}
-
-// A word and a thread's name.
-fn push_of(out: &mut Vec<u8>, word: &[u8], t: &Tid) -> Result<(), AllocError>
-    ensures { OnOk result (out.new.items ≡ out.old.items ++ (word.now ++ 32 ∷ tid_text t.now)) }
-{
-    out.extend_from_slice(word)?;
-    next_tid(out, t)
-}
-
-// A word and two numbers.
-fn push_two(out: &mut Vec<u8>, word: &[u8], first: u64, second: u64) -> Result<(), AllocError>
-    ensures { OnOk result (out.new.items ≡ out.old.items ++ (word.now ++ 32 ∷ (decimal first ++ 32 ∷ decimal second))) }
-{
-    out.extend_from_slice(word)?;
-    next_number(out, first)?;
-    next_number(out, second)
-}
-
-// A word, a node and slots.
-fn push_lent(out: &mut Vec<u8>, word: &[u8], node: u64, slots: &[SlotNo]) -> Result<(), AllocError>
-    ensures { OnOk result (out.new.items ≡ out.old.items ++ (word.now ++ 32 ∷ (decimal node ++ 32 ∷ slots_text slots.now))) }
-{
-    out.extend_from_slice(word)?;
-    next_number(out, node)?;
-    next_slots(out, slots)
-}
-
-fn next_first(out: &mut Vec<u8>, first: Option<SlotNo>) -> Result<(), AllocError>
-    ensures { OnOk result (out.new.items ≡ out.old.items ++ 32 ∷ first_text first) }
-{
-    match first {
-        None => next_word(out, b"-"),
-        Some(slot) => next_number(out, slot.0 as u64),
-    }
+    out.extend_from_slice(name)?;
+    push_words(out, words)
 }
 
 fn push_label(out: &mut Vec<u8>, label: &Label) -> Result<(), AllocError>
@@ -293,22 +266,27 @@ fn push_label(out: &mut Vec<u8>, label: &Label) -> Result<(), AllocError>
             sp,
             slot,
         } => {
-            push_of(out, b"born", t)?;
-            push_born(out, why, *entry, *a0, *a1, *sp, slot.0 as u64)
+            push_named(out, b"born", &[Word::Thread(t)])?;
+            push_why(out, why)?;
+            push_numbers(out, &[*entry, *a0, *a1, *sp, slot.0 as u64])
         }
-        Label::Ran { t, vp, count, stop } => {
-            push_of(out, b"ran", t)?;
-            next_number(out, *vp as u64)?;
-            next_number(out, *count as u64)?;
-            next_word(out, stop_text(*stop))
-        }
+        Label::Ran { t, vp, count, stop } => push_named(
+            out,
+            b"ran",
+            &[
+                Word::Thread(t),
+                Word::Number(*vp as u64),
+                Word::Number(*count as u64),
+                Word::Text(stop_text(*stop)),
+            ],
+        ),
         Label::Asked {
             t,
             call,
             args,
             bytes,
         } => {
-            push_of(out, b"asked", t)?;
+            push_named(out, b"asked", &[Word::Thread(t)])?;
             push_asked(
                 out,
                 call_numbered(*call),
@@ -317,74 +295,103 @@ fn push_label(out: &mut Vec<u8>, label: &Label) -> Result<(), AllocError>
                 bytes.as_slice(),
             )
         }
-        Label::Heard(t) => push_of(out, b"heard", t),
+        Label::Heard(t) => push_named(out, b"heard", &[Word::Thread(t)]),
         Label::Judged { t, reply, extra } => {
-            push_of(out, b"judged", t)?;
-            next_reply(out, *reply)?;
+            push_named(out, b"judged", &[Word::Thread(t), Word::Reply(*reply)])?;
             push_extra(out, extra)
         }
-        Label::Told(t) => push_of(out, b"told", t),
-        Label::Took { t, first, count } => {
-            push_of(out, b"took", t)?;
-            next_number(out, first.0 as u64)?;
-            next_number(out, *count as u64)
-        }
-        Label::Gave { t, slots } => {
-            push_of(out, b"gave", t)?;
-            next_slots(out, slots.as_slice())
-        }
+        Label::Told(t) => push_named(out, b"told", &[Word::Thread(t)]),
+        Label::Took { t, first, count } => push_named(
+            out,
+            b"took",
+            &[
+                Word::Thread(t),
+                Word::Number(first.0 as u64),
+                Word::Number(*count as u64),
+            ],
+        ),
+        Label::Gave { t, slots } => push_named(
+            out,
+            b"gave",
+            &[Word::Thread(t), Word::Slots(slots.as_slice())],
+        ),
         Label::Ended { t, end } => {
-            push_of(out, b"ended", t)?;
+            push_named(out, b"ended", &[Word::Thread(t)])?;
             push_end(out, end)
         }
-        Label::Known(t) => push_of(out, b"known", t),
-        Label::Left { t, to } => {
-            push_of(out, b"left", t)?;
-            next_number(out, to.0 as u64)
-        }
-        Label::Came(t) => push_of(out, b"came", t),
-        Label::Lent { to, slots } => push_lent(out, b"lent", to.0 as u64, slots.as_slice()),
-        Label::InHand { lender, slots } => push_lent(
+        Label::Known(t) => push_named(out, b"known", &[Word::Thread(t)]),
+        Label::Left { t, to } => push_named(
+            out,
+            b"left",
+            &[Word::Thread(t), Word::Number(to.0 as u64)],
+        ),
+        Label::Came(t) => push_named(out, b"came", &[Word::Thread(t)]),
+        Label::Lent { to, slots } => push_named(
+            out,
+            b"lent",
+            &[Word::Number(to.0 as u64), Word::Slots(slots.as_slice())],
+        ),
+        Label::InHand { lender, slots } => push_named(
             out,
             b"inhand",
-            lender.0 as u64,
-            slots.as_slice(),
+            &[Word::Number(lender.0 as u64), Word::Slots(slots.as_slice())],
         ),
-        Label::Decided { t, count, first } => {
-            push_of(out, b"decided", t)?;
-            next_number(out, *count as u64)?;
-            next_first(out, *first)
-        }
-        Label::Returned { to, slots } => push_lent(out, b"returned", to.0 as u64, slots.as_slice()),
-        Label::Home { slots } => {
-            out.extend_from_slice(b"home")?;
-            next_slots(out, slots.as_slice())
-        }
-        Label::Down { bubble, list } => push_two(out, b"down", *bubble as u64, *list as u64),
-        Label::Burst { bubble, list } => push_two(out, b"burst", *bubble as u64, *list as u64),
-        Label::Gathered { bubble, count } => push_two(
+        Label::Decided { t, count, first } => push_named(
+            out,
+            b"decided",
+            &[
+                Word::Thread(t),
+                Word::Number(*count as u64),
+                Word::First(*first),
+            ],
+        ),
+        Label::Returned { to, slots } => push_named(
+            out,
+            b"returned",
+            &[Word::Number(to.0 as u64), Word::Slots(slots.as_slice())],
+        ),
+        Label::Home { slots } => push_named(out, b"home", &[Word::Slots(slots.as_slice())]),
+        Label::Down { bubble, list } => push_named(
+            out,
+            b"down",
+            &[Word::Number(*bubble as u64), Word::Number(*list as u64)],
+        ),
+        Label::Burst { bubble, list } => push_named(
+            out,
+            b"burst",
+            &[Word::Number(*bubble as u64), Word::Number(*list as u64)],
+        ),
+        Label::Gathered { bubble, count } => push_named(
             out,
             b"gathered",
-            *bubble as u64,
-            *count as u64,
+            &[Word::Number(*bubble as u64), Word::Number(*count as u64)],
         ),
-        Label::Shown(t) => push_of(out, b"shown", t),
-        Label::Halted(t) => push_of(out, b"halted", t),
-        Label::Dropped { t, count, reply } => {
-            push_of(out, b"dropped", t)?;
-            next_number(out, *count as u64)?;
-            next_reply(out, *reply)
-        }
+        Label::Shown(t) => push_named(out, b"shown", &[Word::Thread(t)]),
+        Label::Halted(t) => push_named(out, b"halted", &[Word::Thread(t)]),
+        Label::Dropped { t, count, reply } => push_named(
+            out,
+            b"dropped",
+            &[
+                Word::Thread(t),
+                Word::Number(*count as u64),
+                Word::Reply(*reply),
+            ],
+        ),
     }
 }
 
 fn push_head(out: &mut Vec<u8>, entry: &Entry) -> Result<(), AllocError>
     ensures { OnOk result (out.new.items ≡ out.old.items ++ line_text (head_words entry.now)) }
 {
-    out.push(b'@')?;
-    next_number(out, entry.stamp)?;
-    next_number(out, entry.node.0 as u64)?;
-    next_number(out, entry.round)?;
+    push_named(
+        out,
+        b"@",
+        &[
+            Word::Number(entry.stamp),
+            Word::Number(entry.node.0 as u64),
+            Word::Number(entry.round),
+        ],
+    )?;
     push_act(out, &entry.act)?;
     out.extend_from_slice(b"\n")
 }

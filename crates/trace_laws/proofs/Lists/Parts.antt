@@ -1,22 +1,24 @@
--- What the lists tell of a life, and where a life doesn't show.
+-- What the lists and links have of a life: rows, holders, hands, packets, and how it shows on its own node and on others.
 use Rattle.std.proofs.Common.{arith, ◌≡◌, ℕ, List, [], ◌∷◌, ◌++◌, Option, Some, None, Bool, true, false, eqb, cond, refl, sym, ap, ◌∙◌, subst, map, inl, inr}
 use Rattle.std.specs.Prelude.{is_some}
 use Rattle.std.proofs.lemmas.Bool.{eq-eqb, eqb-true}
 use Rattle.std.proofs.lemmas.List.{map-append}
 use Rattle.slot_space.specs.declared.names.Tid.{Tid}
-use Rattle.run_trace.specs.declared.node.Row.{Row}
+use Rattle.run_trace.specs.declared.node.ReadyRow.{ReadyRow}
 use Rattle.run_trace.specs.Names.{is_tid}
+use Rattle.run_trace.specs.Rules.{is_free}
 use Rattle.run_trace.specs.Guests.{Guest, packed}
-use Rattle.run_trace.specs.Places.{Places, arrived, without_row, is_listed, IsIn}
-use Rattle.run_trace.specs.Keyed.{AreApart, item_of}
-use Rattle.run_trace.specs.Spots.{Stage, Ready, Running, Due, Served, Told_next, Told_then, Departs, Ends, Leaves, Halts, Stays, Shows, Shown_there, Asks, Awaits, Answered, Life, Unborn, On, Moving, Noting, Gone, Response, Spot}
-use Rattle.run_trace.specs.Stands.{listed, listed_name, Busy, busy, busy_part, thread_part, thread_in_life, row_part, row_in_life, row_in_stage, Word, Travels, Line, Line_shown, Joins, Reply, Ended_word, Way, ways_of}
+use Rattle.run_trace.specs.RunLists.{RunLists, arrived, without_row, is_listed, IsIn}
+use Rattle.run_trace.specs.Keyed.{AreApart, StandsFor, item_of}
+use Rattle.run_trace.specs.Spots.{Stage, Ready, Departs, Shows, Shown_there, Asks, Answered, Life, Unborn, On, Moving, Noting, Gone, Response, Spot, update, Holder, Of_node, Of_thread}
+use Rattle.run_trace.specs.Stands.{listed, listed_name, Busy, busy, busy_part, thread_part, thread_in_life, thread_in_stage, row_part, row_in_life, row_in_stage, Word, Travels, Line, Line_shown, Joins, Reply, Ended_word, Way, ways_of, is_thread}
 use Rattle.run_trace.proofs.Lemmas.{is-true, is-refl}
-use Rattle.trace_laws.proofs.Lists.KeyedLemmas.{without}
+use Rattle.trace_laws.proofs.Lists.KeyedLemmas.{without, added, removed}
 use Rattle.trace_laws.proofs.Lists.Subjects.{IsOneOf}
-use Rattle.trace_laws.proofs.Underway.Midst.{Frame, Plain}
+use Rattle.trace_laws.proofs.Underway.Midst.{Frame}
 use Rattle.run_trace.specs.World.{Listed}
 use Rattle.run_trace.specs.Items.{is_busy}
+use Rattle.trace_laws.proofs.Lists.Stages.{is_home, home_busy}
 
 -- ## Rows
 
@@ -48,7 +50,7 @@ not_busy n t s h = by (is_busy n s.life) refl h
     by true e g = absurd (cc g)
     by false e g = refl
 
-pub row_found : (rows : List Row) (r : Row) → AreApart is_tid listed_name (map listed rows) → IsIn r rows → item_of is_tid listed_name (map listed rows) r.tid ≡ Some (listed r)
+pub row_found : (rows : List ReadyRow) (r : ReadyRow) → AreApart is_tid listed_name (map listed rows) → IsIn r rows → item_of is_tid listed_name (map listed rows) r.tid ≡ Some (listed r)
 row_found [] r a i = absurd i
 row_found (x ∷ xs) r a i = elim i as (λ v. item_of is_tid listed_name (map listed (x ∷ xs)) r.tid ≡ Some (listed r)) [
   | inl e ↦ rw e (rw (is-refl x.tid) refl)
@@ -60,17 +62,40 @@ row_found (x ∷ xs) r a i = elim i as (λ v. item_of is_tid listed_name (map li
     by false e g = g
 
 -- whether a thread is on the list, by its item
-pub listed_found : (rows : List Row) (t : Tid) → is_listed t rows ≡ is_some (item_of is_tid listed_name (map listed rows) t)
+pub listed_found : (rows : List ReadyRow) (t : Tid) → is_listed t rows ≡ is_some (item_of is_tid listed_name (map listed rows) t)
 listed_found [] t = refl
 listed_found (r ∷ rs) t = elim (is_tid t r.tid) as (λ v. cond v true (is_listed t rs) ≡ is_some (cond v (Some (listed r)) (item_of is_tid listed_name (map listed rs) t))) [ true ↦ refl | false ↦ listed_found rs t ]
 
-pub listed_without : (t : Tid) (rows : List Row) → map listed (without_row t rows) ≡ without is_tid is-true is-refl listed_name (map listed rows) t
+pub listed_without : (t : Tid) (rows : List ReadyRow) → map listed (without_row t rows) ≡ without is_tid is-true is-refl listed_name (map listed rows) t
 listed_without t [] = refl
 listed_without t (r ∷ rs) = elim (is_tid t r.tid) as (λ v. map listed (cond v rs (r ∷ without_row t rs)) ≡ cond v (map listed rs) (listed r ∷ without is_tid is-true is-refl listed_name (map listed rs) t))
     [ true ↦ refl | false ↦ ap (λ xs. listed r ∷ xs) (listed_without t rs) ]
 
-pub listed_arrived : (t : Tid) (priority : ℕ) (s : Places) → map listed (arrived t priority s).rows ≡ map listed s.rows ++ (record { tid = t; list = 0; priority = priority }) ∷ []
+pub listed_arrived : (t : Tid) (priority : ℕ) (s : RunLists) → map listed (arrived t priority s).rows ≡ map listed s.rows ++ (record { tid = t; list = 0; priority = priority }) ∷ []
 listed_arrived t priority s = map-append listed s.rows _
+
+-- the rows, once a thread that had none has arrived
+pub rows_arrived : (n : ℕ) (w : Tid → Spot) (t : Tid) (r : Spot) (s : RunLists) → StandsFor is_tid listed_name (row_part n) (map listed s.rows) w
+    → row_part n t (w t) ≡ None → row_part n t r ≡ Some (record { tid = t; list = 0; priority = r.guest.priority })
+    → StandsFor is_tid listed_name (row_part n) (map listed (arrived t r.guest.priority s).rows) (update w t r)
+rows_arrived n w t r s rows none some = subst (λ xs. StandsFor is_tid listed_name (row_part n) xs (update w t r)) (sym (listed_arrived t r.guest.priority s))
+    (added is_tid is-true is-refl listed_name (row_part n) w t r (map listed s.rows) _ rows refl none some)
+
+-- and once one is taken off
+pub rows_without : (n : ℕ) (w : Tid → Spot) (t : Tid) (r : Spot) (rows : List ReadyRow) → StandsFor is_tid listed_name (row_part n) (map listed rows) w → row_part n t r ≡ None
+    → StandsFor is_tid listed_name (row_part n) (map listed (without_row t rows)) (update w t r)
+rows_without n w t r rows stands none = subst (λ xs. StandsFor is_tid listed_name (row_part n) xs (update w t r)) (sym (listed_without t rows))
+    (removed is_tid is-true is-refl listed_name (row_part n) w t r (map listed rows) stands none)
+
+-- ## Holders
+
+pub thread_holds : (t : Tid) (h : Holder) → is_thread t h ≡ true → h ≡ Of_thread t
+thread_holds t (Of_thread u) e = ap Of_thread (sym (is-true t u e))
+thread_holds t h e = absurd (cc e)
+
+pub node_holds : (n : ℕ) (h : Holder) → is_free n h ≡ true → h ≡ Of_node n
+node_holds n (Of_node m) e = ap Of_node (eqb-true m n e)
+node_holds n h e = absurd (cc e)
 
 -- ## Hands
 
@@ -107,35 +132,17 @@ at_way t (On m (Answered k)) v g x (inl e) = subst (λ (y : Way). Tells t y.from
 at_way t (On m (Answered k)) v g x (inr none) = absurd none
 at_way t life v g x h = grind (arith, h)
 
--- ## Stages that show on the thread's own node alone
+-- ## A life, as it shows on a node's lists
 
-abbrev pub is_home : Stage → Bool
-is_home Ready = true
-is_home Running = true
-is_home (Due code) = true
-is_home (Served c) = true
-is_home Told_next = true
-is_home (Told_then to) = true
-is_home (Departs to) = true
-is_home (Ends end) = true
-is_home (Leaves end) = true
-is_home Halts = true
-is_home _ = false
+-- a life on node n shows on its lists as its stage does
+pub thread_was : (n : ℕ) (t : Tid) (s : Spot) (stage : Stage) → s.life ≡ On n stage → thread_part n t s ≡ thread_in_stage stage s.guest
+thread_was n t s stage p = ap (λ l. thread_in_life n l s.guest) p ∙ (rw (eq-eqb n n refl) refl)
 
-pub home_way : (t : Tid) (n : ℕ) (stage : Stage) (v : Response) (g : Guest) → is_home stage ≡ true → ways_of t (On n stage) v g ≡ []
-home_way t n stage v g h = grind (arith, h)
+pub row_was : (n : ℕ) (t : Tid) (s : Spot) (stage : Stage) → s.life ≡ On n stage → row_part n t s ≡ row_in_stage t stage s.guest.priority
+row_was n t s stage p = ap (λ l. row_in_life n t l s.guest.priority) p ∙ (rw (eq-eqb n n refl) refl)
 
-pub home_quiet : (n : ℕ) (stage : Stage) → is_home stage ≡ true → (u : Tid) (m : ℕ) → On n stage ≡ On m (Awaits u) → ⊥
-home_quiet n stage h u m e = let same : stage ≡ Awaits u = cc e in absurd (cc (ap is_home same, h))
-
-pub home_plain : (n : ℕ) (stage : Stage) → is_home stage ≡ true → Plain (On n stage)
-home_plain n stage h = record {
-  waits = λ u m e. home_quiet n stage h u m e;
-  stays = λ m e. (let same : stage ≡ Stays = cc e in absurd (cc (ap is_home same, h)));
-}
-
-pub home_busy : (n k : ℕ) (stage : Stage) → is_home stage ≡ true → eqb n k ≡ false → is_busy k (On n stage) ≡ false
-home_busy n k stage h e = grind (arith, h, e)
+pub busy_was : (n : ℕ) (t : Tid) (s : Spot) (life : Life) → s.life ≡ life → is_busy n life ≡ true → busy_part n t s ≡ Some (busy t life)
+busy_was n t s life p e = ap (λ l. cond (is_busy n l) (Some (busy t l)) None) p ∙ (rw e refl)
 
 -- a life on node n shows on no list of threads of another node
 pub away_thread : (n k : ℕ) (t : Tid) (s : Spot) (stage : Stage) → s.life ≡ On n stage → eqb n k ≡ false → thread_part k t s ≡ None

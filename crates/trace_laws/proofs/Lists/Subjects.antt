@@ -44,7 +44,7 @@ about-less_other (x ∷ xs) s u n = elim (same_subject s (word_subject x)) as (�
         absurd (cc (same, n))
     by false e f = refl
 
--- ## What is on the links of what is under way
+-- ## What is under way, link by link
 
 abbrev pub IsOneOf : {A : Type 0} → A → List A → Type 0
 IsOneOf x [] = ⊥

@@ -1,13 +1,9 @@
 -- What the labels tell of a thread is what it comes to by what it has lived through: each label keeps it.
-use Rattle.std.proofs.Common.{◌≡◌, ℕ, zero, suc, ◌+◌, ◌*◌, ◌/◌, ◌<◌, ◌⊎◌, List, [], ◌∷◌, ◌++◌, Option, Some, None, Bool, true, false, eqb, cond, refl, sym, ap, ◌∙◌, subst, arith, inl, inr}
-use Rattle.std.specs.Prelude.{length, slice_get, unwrap_or}
-use Rattle.std.specs.Option.{option_and_then, option_map}
-use Rattle.std.proofs.lemmas.List.{append-nil}
-use Rattle.std.proofs.lemmas.Bool.Decides.{nat_tests}
-use Rattle.rv_step.specs.Access.{bytes_from}
+use Rattle.std.proofs.Common.{◌≡◌, ℕ, ◌+◌, ◌⊎◌, List, [], ◌∷◌, ◌++◌, Option, Some, None, true, false, cond, refl, sym, ap, ◌∙◌, subst, arith, inl, inr}
+use Rattle.std.specs.Prelude.{length, slice_get}
 use Rattle.rv_step.specs.Memory.{Memory}
-use Rattle.rv_step.specs.Step.{HartState, Call as ecall, step_of}
-use Rattle.rv_step.specs.Run.{after, next_of, StopsBy}
+use Rattle.rv_step.specs.Step.{HartState}
+use Rattle.rv_step.specs.Run.{after, StopsBy}
 use Rattle.rv_step.specs.declared.hart.Stop.{Stop}
 use Rattle.rv_step.specs.declared.hart.Stop.TheVariants as stops
 use Rattle.marcel_core.specs.declared.birth.Birth.{Birth}
@@ -16,211 +12,44 @@ use Rattle.marcel_core.specs.declared.birth.Verdict.TheVariants as verdicts
 use Rattle.marcel_core.specs.declared.end.End.{End}
 use Rattle.marcel_core.specs.declared.end.End.TheVariants as end_of
 use Rattle.marcel_core.specs.Homes.{verdict, joiner}
-use Rattle.slot_space.specs.Sets.{run, lowest_run}
-use Rattle.slot_space.specs.Addresses.{slot_base}
+use Rattle.slot_space.specs.Sets.{run}
 use Rattle.slot_space.specs.Replies.{reply_code, tid_value}
 use Rattle.slot_space.specs.declared.names.Tid.{Tid}
 use Rattle.slot_space.specs.declared.names.Reply.{Reply}
-use Rattle.slot_space.proofs.Lemmas.{lowest_run-found}
-use Rattle.iso_blocks.specs.Heap.{Heap, rounded, place, placed, has_room, with_block, without, emptied}
+use Rattle.iso_blocks.specs.Heap.{emptied}
 use Rattle.run_trace.specs.declared.call.Call.{Call}
 use Rattle.run_trace.specs.declared.call.Call.TheVariants.{Exit, Name, Node, Nodes, Yield, Create, Join, Isomalloc, Isofree, MigrateSelf, Print, Halt, Unknown}
-use Rattle.run_trace.specs.declared.label.Extra.{Extra}
 use Rattle.run_trace.specs.declared.label.Label.{Label}
 use Rattle.run_trace.specs.declared.label.Label.TheVariants.{Born, Ran, Asked, Heard, Judged, Told, Took, Gave, Ended, Known, Left, Came, Shown, Halted}
 use Rattle.run_trace.specs.declared.label.Why.{Why}
 use Rattle.run_trace.specs.declared.label.Why.TheVariants as why
 use Rattle.run_trace.specs.Names.{is_tid}
 use Rattle.run_trace.specs.Program.{Program, code_of}
-use Rattle.run_trace.specs.Guests.{Solo, Guest, newborn, stack_start, with_bytes, with_zero_slots, without_slots, takes_slots, gives_slots, heap_of}
-use Rattle.run_trace.specs.Calls.{place_code, call_of, refusal}
+use Rattle.run_trace.specs.Guests.{Solo, Guest, newborn, stack_start, with_bytes, with_zero_slots, takes_slots, gives_slots, heap_of}
+use Rattle.run_trace.specs.Calls.{call_of, refusal}
 use Rattle.run_trace.specs.Console.{asked_bytes}
-use Rattle.run_trace.specs.Same.{Start, Stretch, Lived, unlived, lived_then, written_then}
+use Rattle.run_trace.specs.Same.{Start, Lived, unlived, lived_then, written_then}
 use Rattle.run_trace.specs.Items.{subject}
 use Rattle.run_trace.specs.Alone.{is_about}
 use Rattle.run_trace.specs.World.{World}
-use Rattle.run_trace.specs.Rules.{IsBorn, MayHear, MayJudge, MayTell, MayTake, MayGive, MayLeave, MayCome, MayShow, MayKnow, JoinerAwaits, IsReply, SoloRule, LifeRule, RepliesRule, Occasion, quantum_in}
-use Rattle.run_trace.specs.Spots.{Stage, Ready, Running, Due, Served, Told_next, Told_then, Departs, Ends, Leaves, Halts, Stays, Shows, Showing, Shown_there, Asks, Awaits, Answers, Answered, Life, Unborn, On, Moving, Noting, Gone, Response, Spot, Spots, stack_bytes, creator_served, priority_by, joiner_served, born_spot, ran_spot, ran_stage, stepped, passed_stage, asked_stage, stage_of_call, heard_life, heard_at, judged_life, judged_guest, told_stage, gave_life, shown_life, end_in, told_guest, after_label}
+use Rattle.run_trace.specs.Rules.{IsBorn, MayHear, MayTake, MayGive, MayLeave, MayCome, MayShow, MayKnow, JoinerAwaits, SoloRule, LifeRule, RepliesRule, Occasion, quantum_in}
+use Rattle.run_trace.specs.Spots.{Ready, Running, Served, Departs, Ends, Shows, Asks, Life, Unborn, On, Moving, Noting, Gone, Response, Spot, Spots, stack_bytes, creator_served, priority_by, joiner_served, born_spot, ran_spot, ran_stage, stepped, passed_stage, asked_stage, stage_of_call, heard_life, heard_at, gave_life, shown_life, end_in, after_label}
 use Rattle.run_trace.proofs.Lemmas.{is-true}
 use Rattle.trace_laws.proofs.Lives.Heaps.{gave_all}
-use Rattle.trace_laws.proofs.Lives.OwnLives.{exit_value, ends_as, end_at, began, with_slots, free_of, is_address, allotted, given_to, goes_on, ran_on, answered_with, solo_after, printed_by, printed_at, named_line, lines_after, EachCalls}
-
--- ## Steps
-
-after_sum : (image : List ℕ) (s mid : HartState) (a b : ℕ) → after image s a ≡ Some mid → after image s (a + b) ≡ after image mid b
-unfolding after
-after_sum image s mid a zero h = let same : a + 0 ≡ a = omega arith in ap (after image s) same ∙ h
-after_sum image s mid a (suc b) h =
-    let same : a + suc b ≡ suc (a + b) = omega arith in
-    ap (after image s) same ∙ ap (λ o. option_and_then (λ x. next_of (step_of image x)) o) (after_sum image s mid a b h)
-
-after_nothing : (image : List ℕ) (s : HartState) → after image s 0 ≡ Some s
-unfolding after
-after_nothing image s = refl
-
--- ## Memory and places
-
-more_slots : (a b : List ℕ) (m : Memory) → with_zero_slots (a ++ b) m ≡ with_zero_slots b (with_zero_slots a m)
-more_slots [] b m = refl
-more_slots (s ∷ a) b m = more_slots a b _
-
-no_slots : (m : Memory) → without_slots [] m ≡ m
-no_slots [] = refl
-no_slots (h ∷ m) = ap (λ (z : Memory). h ∷ z) (no_slots m)
-
-place_low : (h : Heap) (size address : ℕ) → place h size ≡ Some address → is_address address ≡ true
-unfolding place
-place_low h size address e = by (lowest_run fits 1 limit_is) refl e
-  where
-    fits : ℕ → Bool
-    fits k = has_room h size (16 * k)
-
-    limit_is : ℕ
-    limit_is = slot_base 4096 / 16
-
-    by : (o : Option ℕ) → lowest_run fits 1 limit_is ≡ o → (let f : ℕ → ℕ = λ k. 16 * k in option_map f o ≡ Some address) → is_address address ≡ true
-    by None f g = absurd (cc g)
-    by (Some k) f g =
-        let low : k < limit_is = (lowest_run-found fits 1 limit_is k f).below in
-        let same : 16 * k ≡ address = cc g in
-        grind (arith, nat_tests, low, same)
-
--- ## How far it has come
-
--- its code has done so many instructions since the last reply
-pub record Reached (image : List ℕ) (s : Start) (past : List Stretch) (since : ℕ) (x : Solo) : Type 0 where
-  pub steps : after image (solo_after image s past).state since ≡ Some x.state
-  pub rest : x ≡ record (solo_after image s past) { state = x.state }
-
--- and it has come to a call
-pub record AtCall (image : List ℕ) (s : Start) (past : List Stretch) (since : ℕ) (x : Solo) : Type 0 where
-  pub reached : Reached image s past since x
-  pub call : step_of image x.state ≡ ecall
-
-abbrev pub Comes : List ℕ → Lived → Solo → Type 0
-Comes image a x = Reached image a.start a.stretches a.since x
-
-abbrev pub Calling : List ℕ → Lived → Solo → Type 0
-Calling image a x = AtCall image a.start a.stretches a.since x
-
--- the lines of the prints that have returned
-abbrev pub lines_before : List ℕ → Lived → List (List ℕ)
-lines_before image a = lines_after image a.start a.stretches
-
--- ## By its stage
-
-pub record IsReady (image : List ℕ) (a : Lived) (x : Solo) (lines : List (List ℕ)) : Type 0 where
-  pub reached : Comes image a x
-  pub empty : a.coming.slots ≡ []
-  pub lines_are : lines ≡ lines_before image a
-
-pub record IsWaiting (image : List ℕ) (a : Lived) (x : Solo) (lines : List (List ℕ)) : Type 0 where
-  pub at : Calling image a x
-  pub empty : a.coming.slots ≡ []
-  pub lines_are : lines ≡ lines_before image a
-
-pub record IsDue (image : List ℕ) (code : ℕ) (a : Lived) (x : Solo) (lines : List (List ℕ)) : Type 0 where
-  pub waits : IsWaiting image a x lines
-  pub same : given_to (call_of x.state) [] code x ≡ x
-  pub silent : printed_at image code x ≡ []
-
--- what it is, while its node serves it, beside what it was at its call
-abbrev pub InService : Call → List ℕ → Solo → Solo → Type 0
-InService (Isomalloc len) slots y x = x ≡ with_slots slots y
-InService (Isofree address) slots y x = (slots ≡ []) × ((x ≡ y) ⊎ (x ≡ free_of (emptied (heap_of y) address) y))
-InService _ slots y x = (slots ≡ []) × (x ≡ y)
-
-pub record IsServed (image : List ℕ) (c : Call) (a : Lived) (x : Solo) (lines : List (List ℕ)) : Type 0 where
-  pub was : Solo
-  pub at : Calling image a was
-  pub is : c ≡ call_of was.state
-  pub midst : InService c a.coming.slots was x
-  pub lines_are : lines ≡ lines_before image a
-
-pub record IsPrinting (image : List ℕ) (bytes : List ℕ) (a : Lived) (x : Solo) : Type 0 where
-  pub at : Calling image a x
-  pub empty : a.coming.slots ≡ []
-  pub address : ℕ
-  pub len : ℕ
-  pub is : call_of x.state ≡ Print address len
-  pub bytes_are : bytes ≡ bytes_from image x.state.memory address len
-
-pub record IsJoining (image : List ℕ) (a : Lived) (x : Solo) (lines : List (List ℕ)) : Type 0 where
-  pub waits : IsWaiting image a x lines
-  pub name : ℕ
-  pub is : call_of x.state ≡ Join name
-
--- it is to be told what was judged
-pub record IsJudged (image : List ℕ) (v : Response) (a : Lived) (x : Solo) (lines : List (List ℕ)) : Type 0 where
-  pub was : Solo
-  pub at : Calling image a was
-  pub same : x ≡ given_to (call_of was.state) a.coming.slots a.coming.code was
-  pub verdict : v ≡ record { code = a.coming.code; extra = a.coming.extra }
-  pub lines_are : lines ≡ lines_before image a ++ printed_at image a.coming.code was
-
-pub record IsShown (image : List ℕ) (v : Response) (a : Lived) (x : Solo) (lines : List (List ℕ)) : Type 0 where
-  pub judged : IsJudged image v a x lines
-  pub at : Calling image a x
-  pub lines_are : lines ≡ lines_before image a ++ named_line image (call_of x.state) x.state ∷ []
-
-pub record IsAnswered (image : List ℕ) (v : Response) (a : Lived) (x : Solo) (lines : List (List ℕ)) : Type 0 where
-  pub judged : IsJudged image v a x lines
-  pub at : Calling image a x
-  pub lines_are : lines ≡ lines_before image a
-
--- it has come to its end
-pub record IsEnding (image : List ℕ) (end : End) (a : Lived) (lines : List (List ℕ)) : Type 0 where
-  pub was : Solo
-  pub reached : Comes image a was
-  pub how : end ≡ end_at image was
-  pub lines_are : lines ≡ lines_before image a
-
-abbrev pub StageTale : List ℕ → Stage → Solo → Response → List (List ℕ) → Lived → Type 0
-StageTale image Ready x v lines a = IsReady image a x lines
-StageTale image Running x v lines a = IsWaiting image a x lines
-StageTale image (Due code) x v lines a = IsDue image code a x lines
-StageTale image (Served c) x v lines a = IsServed image c a x lines
-StageTale image Told_next x v lines a = IsJudged image v a x lines
-StageTale image (Told_then to) x v lines a = IsJudged image v a x lines
-StageTale image (Departs to) x v lines a = IsReady image a x lines
-StageTale image (Ends end) x v lines a = IsEnding image end a lines
-StageTale image (Leaves end) x v lines a = IsEnding image end a lines
-StageTale image Halts x v lines a = IsWaiting image a x lines
-StageTale image Stays x v lines a = IsWaiting image a x lines
-StageTale image (Shows bytes) x v lines a = IsPrinting image bytes a x × (lines ≡ lines_before image a)
-StageTale image Showing x v lines a = (bytes : List ℕ) × IsPrinting image bytes a x × (lines ≡ lines_before image a ++ bytes ∷ [])
-StageTale image Shown_there x v lines a = IsShown image v a x lines
-StageTale image (Asks u) x v lines a = IsJoining image a x lines
-StageTale image (Awaits u) x v lines a = IsJoining image a x lines
-StageTale image (Answers h reply second) x v lines a = IsJoining image a x lines
-StageTale image (Answered h) x v lines a = IsAnswered image v a x lines
-
-abbrev pub LifeTale : List ℕ → Life → Solo → Response → List (List ℕ) → Lived → Type 0
-LifeTale image Unborn x v lines a = (lines ≡ []) × (a.stretches ≡ [])
-LifeTale image (On n stage) x v lines a = StageTale image stage x v lines a
-LifeTale image (Moving from to) x v lines a = IsReady image a x lines
-LifeTale image (Noting n end) x v lines a = IsEnding image end a lines
-LifeTale image (Gone end) x v lines a = IsEnding image end a lines
-
-pub record Tale (image : List ℕ) (s : Spot) (lines : List (List ℕ)) (a : Lived) : Type 0 where
-  pub calls : EachCalls image a.start a.stretches
-  pub life : LifeTale image s.life s.guest.solo s.verdict lines a
-
--- a change of its life alone
-with_life : (image : List ℕ) (s : Spot) (life : Life) (lines more : List (List ℕ)) (a : Lived) → Tale image s lines a
-    → (LifeTale image s.life s.guest.solo s.verdict lines a → LifeTale image life s.guest.solo s.verdict more a) → Tale image (record s { life = life }) more a
-with_life image s life lines more a k f = record { calls = k.calls; life = f k.life }
+use Rattle.trace_laws.proofs.Lives.OwnLives.{exit_value, ends_as, began, with_slots, free_of, given_to, solo_after, printed_by}
+use Rattle.trace_laws.proofs.Lives.Tales.{after_sum, after_nothing, Reached, Calling, IsReady, IsWaiting, IsDue, InService, IsServed, StageTale, LifeTale, Tale, with_life}
+use Rattle.trace_laws.proofs.Lives.OwnReplies.{own_judged, own_told}
 
 -- ## Each of its labels
 
-own_born : (image : List ℕ) (n : ℕ) (bytes : List ℕ) (entry a0 a1 sp slot priority : ℕ) (s : Spot) (lines : List (List ℕ)) (a : Lived)
-    → s.life ≡ Unborn → a1 ≡ length bytes → sp ≡ stack_start slot (length bytes) → Tale image s lines a
-    → Tale image (born_spot n bytes entry a0 a1 sp slot priority) lines (record unlived { start = record { entry = entry; argument = a0; stack = slot; bytes = bytes } })
-own_born image n bytes entry a0 a1 sp slot priority s lines a e second end k =
+own_born : (image : List ℕ) (n : ℕ) (start : Start) (a1 sp priority : ℕ) (s : Spot) (lines : List (List ℕ)) (a : Lived)
+    → s.life ≡ Unborn → a1 ≡ length start.bytes → sp ≡ stack_start start.stack (length start.bytes) → Tale image s lines a
+    → Tale image (born_spot n start.bytes start.entry start.argument a1 sp start.stack priority) lines (record unlived { start = start })
+own_born image n start a1 sp priority s lines a e second end k =
     let none : (lines ≡ []) × (a.stretches ≡ []) = subst (λ z. LifeTale image z s.guest.solo s.verdict lines a) e k.life in
-    let start : Start = record { entry = entry; argument = a0; stack = slot; bytes = bytes } in
-    let same : (with_bytes sp bytes (newborn entry a0 a1 sp slot 0)).solo ≡ began start =
-    ap (λ z. (with_bytes sp bytes (newborn entry a0 z sp slot 0)).solo) second ∙ ap (λ z. (with_bytes z bytes (newborn entry a0 (length bytes) z slot 0)).solo) end in
+    let same : (with_bytes sp start.bytes (newborn start.entry start.argument a1 sp start.stack 0)).solo ≡ began start =
+    ap (λ z. (with_bytes sp start.bytes (newborn start.entry start.argument z sp start.stack 0)).solo) second
+    ∙ ap (λ z. (with_bytes z start.bytes (newborn start.entry start.argument (length start.bytes) z start.stack 0)).solo) end in
     record {
       calls = tt;
       life = record {
@@ -315,151 +144,11 @@ own_heard image n births (On m (Asks u)) x v lines a h k = by (verdict (slice_ge
     by verdicts.Taken = k
 own_heard image n births life x v lines a h k = grind (arith, h)
 
--- ## Replies
-
--- what is judged, beside what it has got
-abbrev with_reply : ℕ → Extra → Lived → Lived
-with_reply reply extra a = record a { coming = record a.coming { code = reply; extra = extra } }
-
--- a reply that gives nothing and writes nothing
-judged_plainly : (image : List ℕ) (a : Lived) (x : Solo) (lines : List (List ℕ)) (reply : ℕ) (extra : Extra)
-    → IsWaiting image a x lines → given_to (call_of x.state) [] reply x ≡ x → printed_at image reply x ≡ []
-    → IsJudged image (record { code = reply; extra = extra }) (with_reply reply extra a) x lines
-judged_plainly image a x lines reply extra k same silent = record {
-  was = x;
-  at = k.at;
-  same = sym (ap (λ z. given_to (call_of x.state) z reply x) k.empty ∙ same);
-  verdict = refl;
-  lines_are = k.lines_are ∙ sym (append-nil (lines_before image a)) ∙ ap (λ z. lines_before image a ++ z) (sym silent);
-}
-
--- the reply of a call that its node serves
-judged_served : (image : List ℕ) (a : Lived) (x y : Solo) (lines : List (List ℕ)) (reply : ℕ) (extra : Extra) (c : Call)
-    → Calling image a y → c ≡ call_of y.state → lines ≡ lines_before image a → x ≡ given_to c a.coming.slots reply y → printed_by image c reply y.state ≡ []
-    → IsJudged image (record { code = reply; extra = extra }) (with_reply reply extra a) x lines
-judged_served image a x y lines reply extra c at is lines_are same silent = record {
-  was = y;
-  at = at;
-  same = same ∙ ap (λ z. given_to z a.coming.slots reply y) is;
-  verdict = refl;
-  lines_are = lines_are ∙ sym (append-nil (lines_before image a)) ∙ ap (λ z. lines_before image a ++ z) (sym silent ∙ ap (λ z. printed_by image z reply y.state) is);
-}
-
--- a block is placed where the reply is an address
-placed_so : (x y : Solo) (slots : List ℕ) (len reply : ℕ) (o : Option ℕ) → place (heap_of x) (rounded len) ≡ o → x ≡ with_slots slots y → reply ≡ place_code o
-    → record x { live = (placed (heap_of x) (rounded len) o).live } ≡ allotted (rounded len) reply (is_address reply) (with_slots slots y)
-placed_so x y slots len reply None e same code = same ∙ sym (ap (λ z. allotted (rounded len) z (is_address z) (with_slots slots y)) code)
-placed_so x y slots len reply (Some address) e same code =
-    let low : is_address address ≡ true = place_low (heap_of x) (rounded len) address e in
-    ap (λ (z : Solo). record z { live = with_block (address, rounded len) z.live }) same
-    ∙ sym (ap (λ z. allotted (rounded len) z (is_address z) (with_slots slots y)) code ∙ ap (λ b. allotted (rounded len) address b (with_slots slots y)) low)
-
--- a block is freed, and the slots that it alone met are gone
-freed_so : (x y : Solo) (address : ℕ) → ((x ≡ y) ⊎ (x ≡ free_of (emptied (heap_of y) address) y)) → emptied (heap_of x) address ≡ []
-    → record x { live = without x.live address } ≡ record (free_of (emptied (heap_of y) address) y) { live = without y.live address }
-freed_so x y address (inr same) none = ap (λ (z : Solo). record z { live = without z.live address }) same
-freed_so x y address (inl same) none =
-    let nothing : emptied (heap_of y) address ≡ [] = subst (λ (z : Solo). emptied (heap_of z) address ≡ []) same none in
-    ap (λ (z : Solo). record z { live = without z.live address }) same
-    ∙ sym (ap (λ (z : List ℕ). record (free_of z y) { live = without y.live address }) nothing ∙ ap (λ (m : Memory). record y { state = record y.state { memory = m }; live = without y.live address }) (no_slots y.state.memory))
-
-own_judged : (image : List ℕ) (n : ℕ) (life : Life) (g : Guest) (v : Response) (lines : List (List ℕ)) (a : Lived) (reply : ℕ) (extra : Extra)
-    → MayJudge n life → IsReply life g reply extra → LifeTale image life g.solo v lines a
-    → LifeTale image (judged_life life) (judged_guest life g).solo (record { code = reply; extra = extra }) lines (with_reply reply extra a)
-own_judged image n (On m (Due code)) g v lines a reply extra may is k =
-    judged_plainly image a g.solo lines reply extra k.waits (ap (λ z. given_to (call_of g.solo.state) [] z g.solo) is.0 ∙ k.same) (ap (λ z. printed_at image z g.solo) is.0 ∙ k.silent)
-own_judged image n (On m Showing) g v lines a reply extra may is k =
-    let k1 : IsPrinting image k.0 a g.solo = k.1 in
-    let line : List ℕ = bytes_from image g.solo.state.memory k1.address k1.len in
-    let now : lines ≡ lines_before image a ++ line ∷ [] = k.2 ∙ ap (λ z. lines_before image a ++ z ∷ []) k1.bytes_are in
-    record {
-      judged = record {
-        was = g.solo;
-        at = k1.at;
-        same = sym (ap (λ z. given_to z a.coming.slots reply g.solo) k1.is);
-        verdict = refl;
-        lines_are = now ∙ ap (λ z. lines_before image a ++ z) (sym (ap (λ z. printed_by image z reply g.solo.state) k1.is ∙ ap (λ z. printed_by image (Print k1.address k1.len) z g.solo.state) is.0));
-      };
-      at = k1.at;
-      lines_are = now ∙ ap (λ z. lines_before image a ++ z ∷ []) (sym (ap (λ z. named_line image z g.solo.state) k1.is));
-    }
-own_judged image n (On m (Answers h answer second)) g v lines a reply extra may is k = record {
-  judged = judged_plainly image a g.solo lines reply extra k.waits (ap (λ z. given_to z [] reply g.solo) k.is) (ap (λ z. printed_by image z reply g.solo.state) k.is);
-  at = k.waits.at;
-  lines_are = k.waits.lines_are;
-}
-own_judged image n (On m (Served (Create entry argument priority))) g v lines a reply extra may is k =
-    judged_served image a g.solo k.was lines reply extra (Create entry argument priority) k.at k.is k.lines_are k.midst.1 refl
-own_judged image n (On m (Served (Isomalloc len))) g v lines a reply extra may is k =
-    judged_served image a _ k.was lines reply extra (Isomalloc len) k.at k.is k.lines_are
-    (placed_so g.solo k.was a.coming.slots len reply (place (heap_of g.solo) (rounded len)) refl k.midst is.0) refl
-own_judged image n (On m (Served (Isofree address))) g v lines a reply extra may is k =
-    judged_served image a _ k.was lines reply extra (Isofree address) k.at k.is k.lines_are
-    (freed_so g.solo k.was address k.midst.1 is.0.1
-    ∙ sym (ap (λ z. given_to (Isofree address) a.coming.slots z k.was) is.0.0)) refl
-own_judged image n (On m (Served (MigrateSelf to))) g v lines a reply extra may is k = by (eqb to m)
-  where
-    judged : IsJudged image (record { code = reply; extra = extra }) (with_reply reply extra a) g.solo lines
-    judged = judged_served image a g.solo k.was lines reply extra (MigrateSelf to) k.at k.is k.lines_are k.midst.1 refl
-
-    by : (b : Bool) → StageTale image (cond b Told_next (Told_then to)) g.solo (record { code = reply; extra = extra }) lines (with_reply reply extra a)
-    by true = judged
-    by false = judged
-own_judged image n life g v lines a reply extra may is k = grind (arith, may, is)
-
--- what it has lived through once it is told
-abbrev told_then : Lived → Lived
-told_then a = record a { stretches = (record { instructions = a.since; gift = a.coming }) ∷ a.stretches; since = 0; coming = record a.coming { slots = [] } }
-
--- where it came to its call is what its stretch comes to
-pub came_so : (image : List ℕ) (a : Lived) (y : Solo) → Comes image a y → ran_on image a.since (solo_after image a.start a.stretches) ≡ y
-came_so image a y r =
-    let base : Solo = solo_after image a.start a.stretches in
-    ap (λ (o : Option HartState). record base { state = unwrap_or o base.state }) r.steps ∙ sym r.rest
-
-told_calls : (image : List ℕ) (v : Response) (a : Lived) (x : Solo) (lines : List (List ℕ)) → EachCalls image a.start a.stretches → IsJudged image v a x lines
-    → EachCalls image a.start (told_then a).stretches
-told_calls image v a x lines calls k = (calls, (k.was.state, k.at.reached.steps, k.at.call))
-
-told_ready : (image : List ℕ) (v : Response) (a : Lived) (g : Guest) (lines : List (List ℕ)) → IsJudged image v a g.solo lines
-    → IsReady image (told_then a) (told_guest v g).solo lines
-told_ready image v a g lines k =
-    let came : ran_on image a.since (solo_after image a.start a.stretches) ≡ k.was = came_so image a k.was k.at.reached in
-    let same : (told_guest v g).solo ≡ solo_after image a.start (told_then a).stretches =
-    ap (λ (z : Response). (told_guest z g).solo) k.verdict
-    ∙ ap (λ (z : Solo). goes_on a.coming.code a.coming.extra z) k.same
-    ∙ ap (λ (z : Solo). answered_with a.coming z) (sym came) in
-    record {
-      reached = record {
-        steps = after_nothing image (solo_after image a.start (told_then a).stretches).state ∙ ap (λ (z : Solo). Some z.state) (sym same);
-        rest = same ∙ ap (λ (z : Solo). record (solo_after image a.start (told_then a).stretches) { state = z.state }) (sym same);
-      };
-      empty = refl;
-      lines_are = k.lines_are ∙ ap (λ z. lines_before image a ++ printed_at image a.coming.code z) (sym came);
-    }
-
--- one that is told was judged
-tells_judged : (image : List ℕ) (n : ℕ) (life : Life) (x : Solo) (v : Response) (lines : List (List ℕ)) (a : Lived) → MayTell n life → LifeTale image life x v lines a → IsJudged image v a x lines
-tells_judged image n (On m Told_next) x v lines a may k = k
-tells_judged image n (On m (Told_then to)) x v lines a may k = k
-tells_judged image n (On m Shown_there) x v lines a may k = k.judged
-tells_judged image n (On m (Answered h)) x v lines a may k = k.judged
-tells_judged image n life x v lines a may k = grind (arith, may)
-
-goes_ready : (image : List ℕ) (n : ℕ) (life : Life) (x : Solo) (v : Response) (lines : List (List ℕ)) (a : Lived) → IsReady image a x lines → StageTale image (told_stage life) x v lines a
-goes_ready image n (On m (Told_then to)) x v lines a k = k
-goes_ready image n life x v lines a k = grind (arith, k)
-
-own_told : (image : List ℕ) (n : ℕ) (s : Spot) (lines : List (List ℕ)) (a : Lived) → MayTell n s.life → Tale image s lines a
-    → Tale image (record s { life = On n (told_stage s.life); guest = told_guest s.verdict s.guest }) lines (told_then a)
-own_told image n s lines a may k =
-    let judged : IsJudged image s.verdict a s.guest.solo lines = tells_judged image n s.life s.guest.solo s.verdict lines a may k.life in
-    record {
-      calls = told_calls image s.verdict a s.guest.solo lines k.calls judged;
-      life = goes_ready image n s.life (told_guest s.verdict s.guest).solo s.verdict lines (told_then a) (told_ready image s.verdict a s.guest lines judged);
-    }
-
 -- ## Slots
+
+more_slots : (a b : List ℕ) (m : Memory) → with_zero_slots (a ++ b) m ≡ with_zero_slots b (with_zero_slots a m)
+more_slots [] b m = refl
+more_slots (s ∷ a) b m = more_slots a b _
 
 own_took : (image : List ℕ) (n first count : ℕ) (life : Life) (g : Guest) (v : Response) (lines : List (List ℕ)) (a : Lived) → MayTake n life → LifeTale image life g.solo v lines a
     → LifeTale image life (takes_slots (run first count) g).solo v lines (record a { coming = record a.coming { slots = a.coming.slots ++ run first count } })
@@ -560,7 +249,7 @@ module _ (p : Program) (t : Tid) where
       → Told_of ((after_label p n l w.spots).threads t) (written_then t l w.spots lines) (cond (is_about t (subject l)) (lived_then w.spots.remote l a) a)
   label_tale on n (Born u why entry a0 a1 sp slot) w lines a solo life replies k =
       elim (is_tid u t) as (λ v. is_tid u t ≡ v → Told_of (cond v (born_spot n (stack_bytes why w.spots.remote) entry a0 a1 sp slot (priority_by w.spots.threads why)) (creator_served n u why w.spots.threads t)) lines (cond v (lived_then w.spots.remote (Born u why entry a0 a1 sp slot) a) a)) [
-        | true ↦ λ e. own_born (code_of p) n (stack_bytes why w.spots.remote) entry a0 a1 sp slot (priority_by w.spots.threads why) (w.spots.threads t) lines a (subst (λ z. (w.spots.threads z).life ≡ Unborn) (is-true u t e) life.0) solo.1 solo.2 k
+        | true ↦ λ e. own_born (code_of p) n (record { entry = entry; argument = a0; stack = slot; bytes = stack_bytes why w.spots.remote }) a1 sp (priority_by w.spots.threads why) (w.spots.threads t) lines a (subst (λ z. (w.spots.threads z).life ≡ Unborn) (is-true u t e) life.0) solo.1 solo.2 k
         | false ↦ λ e. creator n u why entry a0 w.spots lines a solo.0 k
       ] refl
   label_tale on n (Ran u vp count stop) w lines a solo life replies k = quietly w.spots.threads u _ lines a _ (λ z. own_ran p n count (quantum_in on.act) stop (w.spots.threads u) lines a life solo.0 solo.1 z) k

@@ -15,7 +15,7 @@ use Rattle.run_trace.specs.Alone.{is_about}
 use Rattle.run_trace.specs.World.{World, world_after}
 use Rattle.trace_laws.specs.Obeys.{ObeyEach, Obey, world_at}
 use Rattle.run_trace.specs.Cluster.{Net, fresh_net}
-use Rattle.run_trace.specs.Holding.{Place, On_node, On_link, IsAt}
+use Rattle.run_trace.specs.Holding.{Location, On_node, On_link, IsAt}
 use Rattle.run_trace.specs.Legality.{Legal}
 use Rattle.run_trace.specs.Rules.{spots_of, SoloRule, LifeRule, RepliesRule, Occasion, saying}
 use Rattle.run_trace.specs.Same.{Start, Stretch, Lived, lived_then, lived_in, lived, written_then, written_in, written, IsUpTo, HasLivedLike, HasWritten, HasEnded}
@@ -24,7 +24,9 @@ use Rattle.run_trace.specs.Stands.{Stands, busy}
 use Rattle.run_trace.specs.Trace.{net_after_trace}
 use Rattle.trace_laws.proofs.Outcomes.Consequences.{Found, found, LivesAt, remote_are}
 use Rattle.trace_laws.proofs.Lives.OwnLives.{end_at, ran_on, solo_after, named_line, lines_after, EachCalls, SamePast, same_past}
-use Rattle.trace_laws.proofs.Lives.OwnLabels.{Comes, lines_before, LifeTale, Tale, came_so, label_tale}
+use Rattle.trace_laws.proofs.Lives.Tales.{Comes, lines_before, LifeTale, Tale}
+use Rattle.trace_laws.proofs.Lives.OwnReplies.{came_so}
+use Rattle.trace_laws.proofs.Lives.OwnLabels.{label_tale}
 use Rattle.trace_laws.proofs.Outcomes.Wholes.{starts, run_whole, Whole}
 
 -- ## Over a trace
@@ -37,21 +39,21 @@ module _ (p : Program) (t : Tid) where
       labels_tale (saying l on) n ls (world_after p n l w) (written_then t l w.spots lines) (cond (is_about t (subject l)) (lived_then w.spots.remote l a) a) solo.1 life.1 replies.1
       (label_tale p t on n l w lines a solo.0 life.0 replies.0 k)
 
-  trace_tale : (base : Net) (lines : List Entry) → Obey SoloRule p (at_first p) base lines → Obey LifeRule p (at_first p) base lines → Obey RepliesRule p (at_first p) base lines
-      → Tale (code_of p) ((spots_of p (at_first p) lines).threads t) (written p t lines) (lived t lines)
+  trace_tale : (base : Net) (trace : List Entry) → Obey SoloRule p (at_first p) base trace → Obey LifeRule p (at_first p) base trace → Obey RepliesRule p (at_first p) base trace
+      → Tale (code_of p) ((spots_of p (at_first p) trace).threads t) (written p t trace) (lived t trace)
   trace_tale base [] solo life replies = record { calls = tt; life = (refl, refl) }
   trace_tale base (x ∷ xs) solo life replies =
       subst (λ z. Tale (code_of p) ((spots_of p (at_first p) (x ∷ xs)).threads t) (written p t (x ∷ xs)) (lived_in z t x.labels (lived t xs))) (remote_are p xs)
       (labels_tale (occasion x (world_at (spots_of p (at_first p) xs) (net_after_trace p base xs))) x.node x.labels (world_at (spots_of p (at_first p) xs) (net_after_trace p base xs)) (written p t xs) (lived t xs) solo.1 life.1 replies.1 (trace_tale base xs solo.0 life.0 replies.0))
 
-  legal_whole : (lines : List Entry) → Legal p lines → Whole p (at_first p) (fresh_net p) lines
-  legal_whole lines l = run_whole p (at_first p) (fresh_net p) (starts p) lines l.runs
+  legal_whole : (trace : List Entry) → Legal p trace → Whole p (at_first p) (fresh_net p) trace
+  legal_whole trace l = run_whole p (at_first p) (fresh_net p) (starts p) trace l.runs
 
-  legal_tale : (lines : List Entry) → Legal p lines → Tale (code_of p) ((spots_of p (at_first p) lines).threads t) (written p t lines) (lived t lines)
-  legal_tale lines l = let all : Whole p (at_first p) (fresh_net p) lines = legal_whole lines l in trace_tale (fresh_net p) lines all.obeys.solo all.obeys.life all.obeys.replies
+  legal_tale : (trace : List Entry) → Legal p trace → Tale (code_of p) ((spots_of p (at_first p) trace).threads t) (written p t trace) (lived t trace)
+  legal_tale trace l = let all : Whole p (at_first p) (fresh_net p) trace = legal_whole trace l in trace_tale (fresh_net p) trace all.obeys.solo all.obeys.life all.obeys.replies
 
-  legal_stands : (lines : List Entry) → Legal p lines → Stands p (spots_of p (at_first p) lines) (net_after_trace p (fresh_net p) lines)
-  legal_stands lines l = (legal_whole lines l).stands
+  legal_stands : (trace : List Entry) → Legal p trace → Stands p (spots_of p (at_first p) trace) (net_after_trace p (fresh_net p) trace)
+  legal_stands trace l = (legal_whole trace l).stands
 
 -- ## At the end of an entry
 
@@ -100,7 +102,7 @@ rests image (On m Showing) x v lines a s k = absurd (cc (s 0))
 rests image (On m (Answers h reply second)) x v lines a s k = absurd (cc (s h, eq-eqb h h refl))
 rests image (On m stage) x v lines a s k = let idle : is_busy m (On m stage) ≡ false = s m in let same : eqb m m ≡ true = eq-eqb m m refl in grind (arith, idle, same)
 
-here_comes : (image : List ℕ) (place : Place) (life : Life) (x : Solo) (a : Lived) → LivesAt place life → IfHere life (Comes image a x) → Comes image a x
+here_comes : (image : List ℕ) (place : Location) (life : Life) (x : Solo) (a : Lived) → LivesAt place life → IfHere life (Comes image a x) → Comes image a x
 here_comes image (On_node n) life x a at k = subst (λ z. IfHere z (Comes image a x)) at.1 k
 here_comes image (On_link from to) life x a at k = subst (λ z. IfHere z (Comes image a x)) at k
 
@@ -112,29 +114,29 @@ ended_so image life x v lines a how k h = grind (arith, h)
 
 -- ## The law
 
-pub guest_comes : (p : Program) (t : Tid) (lines : List Entry) → Legal p lines → (place : Place) (g : Guest) → IsAt (net_after_trace p (fresh_net p) lines) place t g → g.solo ≡ comes_to (code_of p) (lived t lines)
-guest_comes p t lines l place g at =
-    let w : Spots = spots_of p (at_first p) lines in
-    let net : Net = net_after_trace p (fresh_net p) lines in
-    let s : Stands p w net = legal_stands p t lines l in
+pub guest_comes : (p : Program) (t : Tid) (trace : List Entry) → Legal p trace → (place : Location) (g : Guest) → IsAt (net_after_trace p (fresh_net p) trace) place t g → g.solo ≡ comes_to (code_of p) (lived t trace)
+guest_comes p t trace l place g at =
+    let w : Spots = spots_of p (at_first p) trace in
+    let net : Net = net_after_trace p (fresh_net p) trace in
+    let s : Stands p w net = legal_stands p t trace l in
     let f : Found place (w.threads t) g = found p w net s place t g at in
-    let k : Tale (code_of p) (w.threads t) (written p t lines) (lived t lines) = legal_tale p t lines l in
-    let rest : Rests (code_of p) (w.threads t).life (w.threads t).guest.solo (written p t lines) (lived t lines) =
-    rests (code_of p) (w.threads t).life (w.threads t).guest.solo (w.threads t).verdict (written p t lines) (lived t lines) (idle_at p w net s t) k.life in
+    let k : Tale (code_of p) (w.threads t) (written p t trace) (lived t trace) = legal_tale p t trace l in
+    let rest : Rests (code_of p) (w.threads t).life (w.threads t).guest.solo (written p t trace) (lived t trace) =
+    rests (code_of p) (w.threads t).life (w.threads t).guest.solo (w.threads t).verdict (written p t trace) (lived t trace) (idle_at p w net s t) k.life in
     ap (λ (z : Guest). z.solo) (sym f.guest)
-    ∙ sym (came_so (code_of p) (lived t lines) (w.threads t).guest.solo (here_comes (code_of p) place (w.threads t).life (w.threads t).guest.solo (lived t lines) f.life rest.comes))
+    ∙ sym (came_so (code_of p) (lived t trace) (w.threads t).guest.solo (here_comes (code_of p) place (w.threads t).life (w.threads t).guest.solo (lived t trace) f.life rest.comes))
 
-pub lines_come : (p : Program) (t : Tid) (lines : List Entry) → Legal p lines → HasWritten p lines t (lines_before (code_of p) (lived t lines)) (next_line (code_of p) (lived t lines))
-lines_come p t lines l =
-    let w : Spots = spots_of p (at_first p) lines in
-    let net : Net = net_after_trace p (fresh_net p) lines in
-    let k : Tale (code_of p) (w.threads t) (written p t lines) (lived t lines) = legal_tale p t lines l in
-    (rests (code_of p) (w.threads t).life (w.threads t).guest.solo (w.threads t).verdict (written p t lines) (lived t lines) (idle_at p w net (legal_stands p t lines l) t) k.life).lines_are
+pub lines_come : (p : Program) (t : Tid) (trace : List Entry) → Legal p trace → HasWritten p trace t (lines_before (code_of p) (lived t trace)) (next_line (code_of p) (lived t trace))
+lines_come p t trace l =
+    let w : Spots = spots_of p (at_first p) trace in
+    let net : Net = net_after_trace p (fresh_net p) trace in
+    let k : Tale (code_of p) (w.threads t) (written p t trace) (lived t trace) = legal_tale p t trace l in
+    (rests (code_of p) (w.threads t).life (w.threads t).guest.solo (w.threads t).verdict (written p t trace) (lived t trace) (idle_at p w net (legal_stands p t trace l) t) k.life).lines_are
 
-end_comes : (p : Program) (t : Tid) (lines : List Entry) → Legal p lines → (how : End) → HasEnded ((spots_of p (at_first p) lines).threads t).life how → how ≡ end_at (code_of p) (comes_to (code_of p) (lived t lines))
-end_comes p t lines l how h =
-    let s : Spot = (spots_of p (at_first p) lines).threads t in
-    ended_so (code_of p) s.life s.guest.solo s.verdict (written p t lines) (lived t lines) how (legal_tale p t lines l).life h
+end_comes : (p : Program) (t : Tid) (trace : List Entry) → Legal p trace → (how : End) → HasEnded ((spots_of p (at_first p) trace).threads t).life how → how ≡ end_at (code_of p) (comes_to (code_of p) (lived t trace))
+end_comes p t trace l how h =
+    let s : Spot = (spots_of p (at_first p) trace).threads t in
+    ended_so (code_of p) s.life s.guest.solo s.verdict (written p t trace) (lived t trace) how (legal_tale p t trace l).life h
 
 -- what is computed of the past, the instructions and the image is the same of both
 alike : {A : Type 0} (f : List ℕ → Lived → A) → (g : List ℕ → Start → List Stretch → ℕ → A) → ((image : List ℕ) (a : Lived) → f image a ≡ g image a.start a.stretches a.since)
@@ -147,7 +149,7 @@ module _ (p q : Program) (xs ys : List Entry) (l : Legal p xs) (m : Legal q ys) 
   past : SamePast (lived t xs) (lived u ys)
   past = same_past (code_of p) (lived t xs) (lived u ys) h (legal_tale p t xs l).calls (subst (λ z. EachCalls z (lived u ys).start (lived u ys).stretches) (sym image) (legal_tale q u ys m).calls)
 
-  pub same_guest : (a b : Place) (g k : Guest) → IsAt (net_after_trace p (fresh_net p) xs) a t g → IsAt (net_after_trace q (fresh_net q) ys) b u k → g.solo ≡ k.solo
+  pub same_guest : (a b : Location) (g k : Guest) → IsAt (net_after_trace p (fresh_net p) xs) a t g → IsAt (net_after_trace q (fresh_net q) ys) b u k → g.solo ≡ k.solo
   same_guest a b g k x y =
       guest_comes p t xs l a g x
       ∙ alike comes_to (λ i s z n. ran_on i n (solo_after i s z)) (λ i a. refl) (code_of p) (code_of q) (lived t xs) (lived u ys) image past

@@ -1,4 +1,4 @@
--- Histories of the nodes, woven into one by the merged lines.
+-- The histories of the nodes, woven into one by the merged entries.
 use Rattle.std.proofs.Common.{◌≡◌, ℕ, List, [], ◌∷◌, ◌++◌, Bool, true, false, eqb, cond, refl, sym, ap, ◌∙◌, subst}
 use Rattle.std.specs.Prelude.{map}
 use Rattle.std.proofs.lemmas.Bool.{eq-eqb, eqb-true}
@@ -21,9 +21,9 @@ split [] x xs h = absurd (cc h)
 split (e ∷ es) x xs h = (e, es, refl, cc h, cc h)
 
 abbrev Woven : List Entry → (ℕ → List Event) → Type 0
-Woven lines h = (events : List Event) × (map entry_of events ≡ lines) × ((n : ℕ) → own n events ≡ h n)
+Woven trace h = (events : List Event) × (map entry_of events ≡ trace) × ((n : ℕ) → own n events ≡ h n)
 
-weave : (lines : List Entry) (h : ℕ → List Event) → ((n : ℕ) → map entry_of (h n) ≡ own_entries n lines) → Woven lines h
+weave : (trace : List Entry) (h : ℕ → List Event) → ((n : ℕ) → map entry_of (h n) ≡ own_entries n trace) → Woven trace h
 weave [] h l = ([], refl, λ n. sym (no_lines (h n) (l n)))
 weave (x ∷ xs) h l =
     let P : Bool → Type 0 = λ v. map entry_of (h x.node) ≡ cond v (x ∷ own_entries x.node xs) (own_entries x.node xs) in
@@ -65,23 +65,23 @@ descending : (events : List Event) → IsInOrder (map entry_of events) → IsDes
 descending [] h = tt
 descending (e ∷ before) h = (above e before h.0, descending before h.1)
 
-merges : (prog : Program) (base : Net) (lines : List Entry) (h : ℕ → List Event) → Joins prog base lines h → (w : Woven lines h) → Merges prog base w.0
-merges prog base lines h j w = record {
+merges : (prog : Program) (base : Net) (trace : List Entry) (h : ℕ → List Event) → Joins prog base trace h → (w : Woven trace h) → Merges prog base w.0
+merges prog base trace h j w = record {
   order = descending w.0 (subst (λ xs. IsInOrder xs) (sym w.1) j.order);
   local = λ n. subst (λ es. IsLocalRun prog n (base.nodes n) es) (sym (w.2 n)) (j.local n);
   links = λ a b. rw (received_own a b w.0, sent_own a b w.0, w.2 b, w.2 a) (j.links a b);
 }
 
-pub record Joined (prog : Program) (base : Net) (lines : List Entry) (h : ℕ → List Event) : Type 0 where
-  pub legal : IsRun prog base lines
-  pub nodes : (n : ℕ) → (net_of prog base (events_of prog base lines)).nodes n ≡ state prog n (base.nodes n) (h n)
-  pub links : (i j : ℕ) → taken_from i (h j) ++ (net_of prog base (events_of prog base lines)).links i j ≡ base.links i j ++ sent_to j (h i)
+pub record Joined (prog : Program) (base : Net) (trace : List Entry) (h : ℕ → List Event) : Type 0 where
+  pub legal : IsRun prog base trace
+  pub nodes : (n : ℕ) → (net_of prog base (events_of prog base trace)).nodes n ≡ state prog n (base.nodes n) (h n)
+  pub links : (i j : ℕ) → taken_from i (h j) ++ (net_of prog base (events_of prog base trace)).links i j ≡ base.links i j ++ sent_to j (h i)
 
-pub joined : (prog : Program) (base : Net) (lines : List Entry) (h : ℕ → List Event) → Joins prog base lines h → Joined prog base lines h
-joined prog base lines h j =
-    let w : Woven lines h = weave lines h j.entries in
-    let runs : Runs prog base w.0 = merges_runs prog base w.0 (merges prog base lines h j w) in
-    let same : events_of prog base lines ≡ w.0 = ap (events_of prog base) (sym w.1) ∙ determined prog base w.0 runs in
+pub joined : (prog : Program) (base : Net) (trace : List Entry) (h : ℕ → List Event) → Joins prog base trace h → Joined prog base trace h
+joined prog base trace h j =
+    let w : Woven trace h = weave trace h j.entries in
+    let runs : Runs prog base w.0 = merges_runs prog base w.0 (merges prog base trace h j w) in
+    let same : events_of prog base trace ≡ w.0 = ap (events_of prog base) (sym w.1) ∙ determined prog base w.0 runs in
     record {
       legal = subst (λ es. Runs prog base es) (sym same) runs;
       nodes = λ n. ap (λ es. (net_of prog base es).nodes n) same ∙ node_is prog base w.0 n ∙ ap (state prog n (base.nodes n)) (w.2 n);

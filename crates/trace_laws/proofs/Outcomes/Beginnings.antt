@@ -10,7 +10,7 @@ use Rattle.run_trace.specs.declared.packet.Packet.{Packet}
 use Rattle.run_trace.specs.declared.packet.Send.{Send}
 use Rattle.run_trace.specs.Program.{Program, nodes_of, slots_in}
 use Rattle.run_trace.specs.Local.{nothing, fresh, with_booted}
-use Rattle.run_trace.specs.Steps.{birth, arrive, thread_in, name_in, slots_out, say}
+use Rattle.run_trace.specs.Steps.{birth, arrive, thread_in, birth_in, slots_out, say}
 use Rattle.run_trace.specs.Machine.{local_event, is_range, boots, boots_in, free_slot}
 use Rattle.run_trace.specs.Cluster.{Net, fresh_net}
 use Rattle.run_trace.specs.Trace.{IsRun, net_after_trace, sends_or, prints_or}
@@ -32,7 +32,7 @@ has_zero p = own_slots p 0 0 ∙ some (ltb 0 (slots_in p)) (lt-ltb 0 (slots_in p
     some true e = let none : 0 % nodes_of p ≡ 0 = omega (arith, p.setup.geometry.some_node) in eq-eqb (0 % nodes_of p) 0 none
     some false e = absurd (cc e)
 
-slot_zero : (p : Program) → free_slot (fresh p 0).slots.own ≡ Some 0
+slot_zero : (p : Program) → free_slot (fresh p 0).slots.free ≡ Some 0
 slot_zero p =
     let own : List ℕ = starting_slots (nodes_of p) (slots_in p) 0 in
     lowest_run-some (λ s. has s own) 1 4096 0 (omega arith)
@@ -51,7 +51,7 @@ record Boots (p : Program) (n : ℕ) : Type 0 where
   prints : (boots p n (nothing (fresh p n))).prints ≡ []
 
 main_boots : (p : Program) → Boots p 0
-unfolding birth arrive thread_in name_in slots_out say
+unfolding birth arrive thread_in birth_in slots_out say
 main_boots p = record {
   labels = ap (λ (o : Option ℕ). (boots_in p 0 o (with_booted (nothing (fresh p 0)))).labels) (sym (slot_zero p));
   sends = ap (λ (o : Option ℕ). (boots_in p 0 o (with_booted (nothing (fresh p 0)))).sends) (slot_zero p);

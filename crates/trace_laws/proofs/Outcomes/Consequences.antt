@@ -28,14 +28,14 @@ use Rattle.run_trace.specs.Cluster.{Net}
 use Rattle.run_trace.specs.World.{World, world_after}
 use Rattle.run_trace.specs.Trace.{net_after_trace}
 use Rattle.trace_laws.specs.Obeys.{Obey, world_at, ObeyEach}
-use Rattle.run_trace.specs.Rules.{Occasion, saying, spots_of, is_free, IsBorn, JoinerAwaits, MayHear, MayJudge, MayTell, MayKnow, MayLeave, MayCome, MayShow, SoloRule, LifeRule}
+use Rattle.run_trace.specs.Rules.{Occasion, saying, spots_of, IsBorn, JoinerAwaits, MayHear, MayJudge, MayTell, MayKnow, MayLeave, MayCome, MayShow, SoloRule, LifeRule}
 use Rattle.run_trace.specs.Obeying.{occasion}
 use Rattle.run_trace.specs.Spots.{Stage, Life, Unborn, On, Moving, Noting, Gone, Response, Spot, Spots, Holder, Of_node, Of_thread, update, creator_served, joiner_served, end_in, at_first, after_label, after_labels, stepped, ran_stage, ran_spot, passed_stage, asked_stage, heard_at, judged_life, judged_guest, told_stage, gave_life, shown_life, second_of, remote_after}
-use Rattle.run_trace.specs.Stands.{Stands, thread_part, thread_in_life, thread_in_stage, held, slots_held, is_thread, Word, Travels, word_subject, word_of, words_of, words_about, ways_of, on_link}
+use Rattle.run_trace.specs.Stands.{Stands, thread_part, thread_in_life, thread_in_stage, held, slots_held, Word, Travels, word_subject, word_of, words_of, words_about, ways_of, on_link}
 use Rattle.run_trace.specs.Alone.{Alone, alone_then, alone_after, alone_in, alone_of, asked_in, heap_call, unless_refused, answered, is_about, EachRunsAlone, remote_in, remote_of}
-use Rattle.run_trace.specs.Holding.{Place, On_node, On_link, IsAmong, IsAt, Has, EachHeldOnce}
+use Rattle.run_trace.specs.Holding.{Location, On_node, On_link, IsAmong, IsAt, Has, EachHeldOnce}
 use Rattle.run_trace.proofs.Lemmas.{is-true, is-refl}
-use Rattle.trace_laws.proofs.Lists.Parts.{Tells, at_way}
+use Rattle.trace_laws.proofs.Lists.Parts.{Tells, at_way, thread_holds, node_holds}
 use Rattle.trace_laws.proofs.Lists.Subjects.{IsOneOf, on_way}
 use Rattle.run_trace.specs.Items.{subject, same_subject, Thread as Subject_of}
 
@@ -69,11 +69,11 @@ on_node_is n t s x h = by s.life refl h
 
 -- ## Where a thread is, its life and its guest are those that are told
 
-abbrev pub LivesAt : Place → Life → Type 0
+abbrev pub LivesAt : Location → Life → Type 0
 LivesAt (On_node n) life = (stage : Stage) × (life ≡ On n stage)
 LivesAt (On_link from to) life = life ≡ Moving from to
 
-pub record Found (place : Place) (s : Spot) (g : Guest) : Type 0 where
+pub record Found (place : Location) (s : Spot) (g : Guest) : Type 0 where
   pub life : LivesAt place s.life
   pub guest : s.guest ≡ g
   pub slots : slots_held (held s.life s.guest) ≡ guest_slots g
@@ -85,7 +85,7 @@ word_found j (x ∷ xs) body t name (inl e) = rw (e, name, is-refl t) (inl refl)
 word_found j (x ∷ xs) body t name (inr k) = elim (same_subject (Subject_of t) (word_subject (word_of j x.body))) as (λ v. IsOneOf (word_of j body) (cond v (word_of j x.body ∷ words_about (words_of j xs) (Subject_of t)) (words_about (words_of j xs) (Subject_of t))))
     [ true ↦ inr (word_found j xs body t name k) | false ↦ word_found j xs body t name k ]
 
-pub found : (p : Program) (w : Spots) (net : Net) → Stands p w net → (place : Place) (t : Tid) (g : Guest) → IsAt net place t g → Found place (w.threads t) g
+pub found : (p : Program) (w : Spots) (net : Net) → Stands p w net → (place : Location) (t : Tid) (g : Guest) → IsAt net place t g → Found place (w.threads t) g
 found p w net s (On_node n) t g h =
     let on : OnNode n (w.threads t) (waits h.0 g) = on_node_is n t (w.threads t) (waits h.0 g) (sym ((s.nodes n).threads.shows t) ∙ h.1) in
     record { life = (on.stage, on.life); guest = on.guest; slots = on.slots }
@@ -97,7 +97,7 @@ found p w net s (On_link i j) t g h =
     let same : o.guest ≡ g = ap unpacked (sym tells.1) in
     record { life = tells.0; guest = same; slots = ap (λ z. slots_held (held z o.guest)) tells.0 ∙ ap guest_slots same }
 
-lives_once : (a b : Place) (life : Life) → LivesAt a life → LivesAt b life → a ≡ b
+lives_once : (a b : Location) (life : Life) → LivesAt a life → LivesAt b life → a ≡ b
 lives_once (On_node n) (On_node m) life h k = let same : On n h.0 ≡ On m k.0 = sym h.1 ∙ k.1 in let one : n ≡ m = cc same in ap On_node one
 lives_once (On_link i j) (On_link k l) life x y =
     let same : Moving i j ≡ Moving k l = sym x ∙ y in
@@ -107,7 +107,7 @@ lives_once (On_node n) (On_link i j) life h k = absurd (cc (h.1, k))
 lives_once (On_link i j) (On_node m) life h k = absurd (cc (h, k.1))
 
 -- no thread is at two places
-pub one_place : (p : Program) (w : Spots) (net : Net) → Stands p w net → (t : Tid) (a b : Place) (g h : Guest) → IsAt net a t g → IsAt net b t h → (a ≡ b) × (g ≡ h)
+pub one_place : (p : Program) (w : Spots) (net : Net) → Stands p w net → (t : Tid) (a b : Location) (g h : Guest) → IsAt net a t g → IsAt net b t h → (a ≡ b) × (g ≡ h)
 one_place p w net s t a b g h x y =
     let one : Found a (w.threads t) g = found p w net s a t g x in
     let other : Found b (w.threads t) h = found p w net s b t h y in
@@ -115,20 +115,12 @@ one_place p w net s t a b g h x y =
 
 -- ## No slot has two holders
 
-free_is : (n : ℕ) (h : Holder) → is_free n h ≡ true → Of_node n ≡ h
-free_is n (Of_node m) e = ap Of_node (sym (eqb-true m n e))
-free_is n h e = absurd (cc e)
-
-thread_is : (t : Tid) (h : Holder) → is_thread t h ≡ true → Of_thread t ≡ h
-thread_is t (Of_thread u) e = ap Of_thread (is-true t u e)
-thread_is t h e = absurd (cc e)
-
 -- whoever has a slot is its holder by the labels
 has_is : (p : Program) (w : Spots) (net : Net) → Stands p w net → (slot : ℕ) (h : Holder) → Has net slot h → h ≡ w.slots slot
-has_is p w net s slot (Of_node n) k = free_is n (w.slots slot) (sym ((s.nodes n).own slot) ∙ k)
+has_is p w net s slot (Of_node n) k = sym (node_holds n (w.slots slot) (sym ((s.nodes n).free slot) ∙ k))
 has_is p w net s slot (Of_thread t) k =
     let at : Found k.0 (w.threads t) k.1 = found p w net s k.0 t k.1 k.2 in
-    thread_is t (w.slots slot) (sym (s.agrees.slots t slot) ∙ ap (has slot) at.slots ∙ k.3)
+    sym (thread_holds t (w.slots slot) (sym (s.agrees.slots t slot) ∙ ap (has slot) at.slots ∙ k.3))
 has_is p w net s slot h k = absurd k
 
 pub one_holder : (p : Program) (w : Spots) (net : Net) → Stands p w net → EachHeldOnce net
@@ -266,16 +258,16 @@ remote_in_are p n [] w = refl
 remote_in_are p n (l ∷ ls) w = remote_in_are p n ls (after_label p n l w)
 
 -- what remote calls named, by the labels
-pub remote_are : (p : Program) (lines : List Entry) → (spots_of p (at_first p) lines).remote ≡ remote_of lines
+pub remote_are : (p : Program) (trace : List Entry) → (spots_of p (at_first p) trace).remote ≡ remote_of trace
 remote_are p [] = refl
 remote_are p (x ∷ xs) = remote_in_are p x.node x.labels (spots_of p (at_first p) xs) ∙ ap (remote_in x.labels) (remote_are p xs)
 
-spots_alone : (p : Program) (base : Net) (lines : List Entry) (t : Tid) → Obey SoloRule p (at_first p) base lines → Obey LifeRule p (at_first p) base lines
-    → alone_in ((spots_of p (at_first p) lines).threads t) ≡ alone_of p t lines
+spots_alone : (p : Program) (base : Net) (trace : List Entry) (t : Tid) → Obey SoloRule p (at_first p) base trace → Obey LifeRule p (at_first p) base trace
+    → alone_in ((spots_of p (at_first p) trace).threads t) ≡ alone_of p t trace
 spots_alone p base [] t solo life = refl
 spots_alone p base (x ∷ xs) t solo life = labels_alone p (occasion x (world_at (spots_of p (at_first p) xs) (net_after_trace p base xs))) x.node x.labels (world_at (spots_of p (at_first p) xs) (net_after_trace p base xs)) t solo.1 life.1 ∙ ap (alone_after p (spots_of p (at_first p) xs).remote t x.labels) (spots_alone p base xs t solo.0 life.0) ∙ ap (λ z. alone_after p z t x.labels (alone_of p t xs)) (remote_are p xs)
 
-pub runs_alone : (p : Program) (base : Net) (lines : List Entry) (net : Net) → Obey SoloRule p (at_first p) base lines → Obey LifeRule p (at_first p) base lines → Stands p (spots_of p (at_first p) lines) net → EachRunsAlone p net lines
-runs_alone p base lines net solo life s t place g h =
-    let at : Found place ((spots_of p (at_first p) lines).threads t) g = found p _ net s place t g h in
-    ap (λ (z : Guest). z.solo) (sym at.guest) ∙ ap (λ (a : Alone). a.solo) (spots_alone p base lines t solo life)
+pub runs_alone : (p : Program) (base : Net) (trace : List Entry) (net : Net) → Obey SoloRule p (at_first p) base trace → Obey LifeRule p (at_first p) base trace → Stands p (spots_of p (at_first p) trace) net → EachRunsAlone p net trace
+runs_alone p base trace net solo life s t place g h =
+    let at : Found place ((spots_of p (at_first p) trace).threads t) g = found p _ net s place t g h in
+    ap (λ (z : Guest). z.solo) (sym at.guest) ∙ ap (λ (a : Alone). a.solo) (spots_alone p base trace t solo life)

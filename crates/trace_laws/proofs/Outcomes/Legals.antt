@@ -4,8 +4,8 @@ use Rattle.std.specs.Prelude.{◌↔◌, is_some}
 use Rattle.std.proofs.lemmas.Bool.{eq-eqb}
 use Rattle.slot_space.specs.declared.names.Tid.{Tid}
 use Rattle.run_trace.specs.declared.entry.Act.TheVariants.{Boot}
-use Rattle.run_trace.specs.declared.node.Row.{Row}
-use Rattle.run_trace.specs.Places.{is_listed}
+use Rattle.run_trace.specs.declared.node.ReadyRow.{ReadyRow}
+use Rattle.run_trace.specs.RunLists.{is_listed}
 use Rattle.run_trace.specs.declared.entry.Act.{Act}
 use Rattle.run_trace.specs.declared.entry.Entry.{Entry}
 use Rattle.run_trace.specs.declared.label.Label.{Label}
@@ -32,8 +32,8 @@ use Rattle.trace_laws.proofs.Outcomes.Wholes.{starts, run_whole, after_each, alo
 use Rattle.trace_laws.proofs.Rules.Entries.{has_entry, Tells, run_keeps, rules_run}
 use Rattle.run_trace.specs.Telling.{world_of, first_world}
 
-pub rules_are_runs : (p : Program) (old : Spots) (base : Net) → Stands p old base → (lines : List Entry) → KeepsRules p (world_at old base) lines ↔ IsRun p base lines
-rules_are_runs p old base s lines = (λ t. rules_run p old base s lines t, λ r. (run_keeps p old base s lines r).tale)
+pub rules_are_runs : (p : Program) (old : Spots) (base : Net) → Stands p old base → (trace : List Entry) → KeepsRules p (world_at old base) trace ↔ IsRun p base trace
+rules_are_runs p old base s trace = (λ t. rules_run p old base s trace t, λ r. (run_keeps p old base s trace r).tale)
 
 -- and so with one entry after a run
 pub entry_fits : (p : Program) (old : Spots) (base : Net) → Stands p old base → (x : Entry) (xs : List Entry) → IsRun p base xs → IsEntry p (world_of p (world_at old base) xs) x ↔ Fits p (net_after_trace p base xs) x
@@ -43,65 +43,65 @@ entry_fits p old base s x xs r = (
 )
 
 -- a trace goes on with each act that may be
-pub rules_go_on : (p : Program) (old : Spots) (base : Net) → Stands p old base → (lines : List Entry) → KeepsRules p (world_at old base) lines → (stamp n round : ℕ) (a : Act) (to_do : List Item)
-    → may_act p n ((world_of p (world_at old base) lines).begun n) a ≡ true → Starts p stamp n a (world_of p (world_at old base) lines) to_do
-    → (ls : List Label) × KeepsRules p (world_at old base) ((record { stamp = stamp; node = n; round = round; act = a; labels = ls }) ∷ lines)
-rules_go_on p old base s lines t stamp n round a to_do may o =
-    let r : IsRun p base lines = rules_run p old base s lines t in
-    let told : Tells p old base lines = run_keeps p old base s lines r in
-    let one = has_entry p (spots_of p old lines) (net_after_trace p base lines) (run_whole p old base s lines r).stands stamp n round a to_do
+pub rules_go_on : (p : Program) (old : Spots) (base : Net) → Stands p old base → (trace : List Entry) → KeepsRules p (world_at old base) trace → (stamp n round : ℕ) (a : Act) (to_do : List Item)
+    → may_act p n ((world_of p (world_at old base) trace).begun n) a ≡ true → Starts p stamp n a (world_of p (world_at old base) trace) to_do
+    → (ls : List Label) × KeepsRules p (world_at old base) ((record { stamp = stamp; node = n; round = round; act = a; labels = ls }) ∷ trace)
+rules_go_on p old base s trace t stamp n round a to_do may o =
+    let r : IsRun p base trace = rules_run p old base s trace t in
+    let told : Tells p old base trace = run_keeps p old base s trace r in
+    let one = has_entry p (spots_of p old trace) (net_after_trace p base trace) (run_whole p old base s trace r).stands stamp n round a to_do
     (subst (λ (z : World). may_act p n (z.begun n) a ≡ true) (sym told.same) may) (subst (λ z. Starts p stamp n a z to_do) (sym told.same) o) in
     (one.0, (t, subst (λ z. IsEntry p z (record { stamp = stamp; node = n; round = round; act = a; labels = one.0 })) told.same one.1))
 
 -- nodes and links are what the labels tell
-pub told_after : (p : Program) (old : Spots) (base : Net) → Stands p old base → (lines : List Entry) → IsRun p base lines → IsTold p (world_of p (world_at old base) lines) (net_after_trace p base lines)
-told_after p old base s lines r =
-    let t : Tells p old base lines = run_keeps p old base s lines r in
+pub told_after : (p : Program) (old : Spots) (base : Net) → Stands p old base → (trace : List Entry) → IsRun p base trace → IsTold p (world_of p (world_at old base) trace) (net_after_trace p base trace)
+told_after p old base s trace r =
+    let t : Tells p old base trace = run_keeps p old base s trace r in
     record {
-      stands = subst (λ (z : World). Stands p z.spots (net_after_trace p base lines)) t.same (run_whole p old base s lines r).stands;
+      stands = subst (λ (z : World). Stands p z.spots (net_after_trace p base trace)) t.same (run_whole p old base s trace r).stands;
       lists = λ n. ap (λ (z : World). z.lists n) t.same;
       links = λ i j. ap (λ (z : World). z.links i j) t.same;
       begun = λ n. ap (λ (z : World). z.begun n) t.same;
     }
 
-pub whole : (p : Program) (lines : List Entry) → IsInOrder lines → Begins p lines → AreRising lines → IsRun p (fresh_net p) lines → Legal p lines
-whole p lines order begins rounds runs = record {
+pub whole : (p : Program) (trace : List Entry) → IsInOrder trace → Begins p trace → AreRising trace → IsRun p (fresh_net p) trace → Legal p trace
+whole p trace order begins rounds runs = record {
   order = order;
   begins = begins;
   rounds = rounds;
-  rules = (rules_are_runs p (at_first p) (fresh_net p) (starts p) lines).1 runs;
+  rules = (rules_are_runs p (at_first p) (fresh_net p) (starts p) trace).1 runs;
   runs = runs;
-  stands = after_each (λ net xs. IsTold p (world_of p (first_world p) xs) net) p (λ xs r. told_after p (at_first p) (fresh_net p) (starts p) xs r) lines runs;
-  alone = after_each (EachRunsAlone p) p (alone_after_run p) lines runs;
-  one_holder = after_each (λ net xs. EachHeldOnce net) p (held_once_after_run p) lines runs;
+  stands = after_each (λ net xs. IsTold p (world_of p (first_world p) xs) net) p (λ xs r. told_after p (at_first p) (fresh_net p) (starts p) xs r) trace runs;
+  alone = after_each (EachRunsAlone p) p (alone_after_run p) trace runs;
+  one_holder = after_each (λ net xs. EachHeldOnce net) p (held_once_after_run p) trace runs;
 }
 
 -- by the labels alone
-pub whole_by_rules : (p : Program) (lines : List Entry) → IsInOrder lines → Begins p lines → AreRising lines → KeepsRules p (first_world p) lines → Legal p lines
-whole_by_rules p lines order begins rounds tale = whole p lines order begins rounds ((rules_are_runs p (at_first p) (fresh_net p) (starts p) lines).0 tale)
+pub whole_by_rules : (p : Program) (trace : List Entry) → IsInOrder trace → Begins p trace → AreRising trace → KeepsRules p (first_world p) trace → Legal p trace
+whole_by_rules p trace order begins rounds tale = whole p trace order begins rounds ((rules_are_runs p (at_first p) (fresh_net p) (starts p) trace).0 tale)
 
-pub joined_whole : (p : Program) (lines : List Entry) (h : ℕ → List Event) → Begins p lines → AreRising lines → Joins p (fresh_net p) lines h → Legal p lines
-joined_whole p lines h begins rounds j = whole p lines j.order begins rounds (joined p (fresh_net p) lines h j).legal
+pub joined_whole : (p : Program) (trace : List Entry) (h : ℕ → List Event) → Begins p trace → AreRising trace → Joins p (fresh_net p) trace h → Legal p trace
+joined_whole p trace h begins rounds j = whole p trace j.order begins rounds (joined p (fresh_net p) trace h j).legal
 
 -- by what is told: on the run list are those that are ready there
-pub listed_told : (p : Program) (old : Spots) (base : Net) → Stands p old base → (lines : List Entry) → KeepsRules p (world_at old base) lines → (n : ℕ) (t : Tid)
-    → (is_on_list t ((world_of p (world_at old base) lines).lists n) ≡ true) ↔ (((world_of p (world_at old base) lines).spots.threads t).life ≡ On n Ready)
-listed_told p old base s lines rules n t = (
+pub listed_told : (p : Program) (old : Spots) (base : Net) → Stands p old base → (trace : List Entry) → KeepsRules p (world_at old base) trace → (n : ℕ) (t : Tid)
+    → (is_on_list t ((world_of p (world_at old base) trace).lists n) ≡ true) ↔ (((world_of p (world_at old base) trace).spots.threads t).life ≡ On n Ready)
+listed_told p old base s trace rules n t = (
   λ h. listed_ready p w.spots net told.stands (asked_of Boot None) n t (same ∙ h),
   λ e. sym same ∙ listed_found rows t ∙ ap is_some ((told.stands.nodes n).rows.shows t) ∙ ap (λ z. is_some (row_in_life n t z (w.spots.threads t).guest.priority)) e ∙ (rw (eq-eqb n n refl) refl),
 )
   where
     net : Net
-    net = net_after_trace p base lines
+    net = net_after_trace p base trace
 
     w : World
-    w = world_of p (world_at old base) lines
+    w = world_of p (world_at old base) trace
 
-    rows : List Row
-    rows = (net.nodes n).places.rows
+    rows : List ReadyRow
+    rows = (net.nodes n).run_lists.rows
 
     told : IsTold p w net
-    told = told_after p old base s lines ((rules_are_runs p old base s lines).0 rules)
+    told = told_after p old base s trace ((rules_are_runs p old base s trace).0 rules)
 
     same : is_listed t rows ≡ is_on_list t (w.lists n)
     same = on_list_is t rows ∙ ap (is_on_list t) (told.lists n)

@@ -44,7 +44,7 @@ use Rattle.run_trace.specs.Links.{first_of, rest_of, left_after}
 
 -- ## A join names a thread of the cluster, and a thread moves to a node of it
 
--- the home that a join is under way to, or the node that a thread is; 0 where there is none
+-- the home to which a join is under way, or the node to which a thread is; 0 where neither is
 abbrev asked_home : Life → ℕ
 asked_home (On m (Asks u)) = u.home
 asked_home (Moving from to) = to
@@ -143,7 +143,7 @@ labels_ask : (p : Program) (q : Occasion) (n : ℕ) (ls : List Label) (w : World
 labels_ask p q n [] w ok h = h
 labels_ask p q n (l ∷ ls) w ok h = labels_ask p (saying l q) n ls (world_after p n l w) ok.1 (label_asks p q n l w ok.0 h)
 
-spots_ask : (p : Program) (base : Net) (lines : List Entry) → Obey LifeRule p (at_first p) base lines → AllAsk p (spots_of p (at_first p) lines).threads
+spots_ask : (p : Program) (base : Net) (trace : List Entry) → Obey LifeRule p (at_first p) base trace → AllAsk p (spots_of p (at_first p) trace).threads
 spots_ask p base [] ok t = first_node p
 spots_ask p base (x ∷ xs) ok t = labels_ask p (occasion x (world_at (spots_of p (at_first p) xs) (net_after_trace p base xs))) x.node x.labels (world_at (spots_of p (at_first p) xs) (net_after_trace p base xs)) ok.1 (spots_ask p base xs ok.0) t
 
@@ -163,7 +163,7 @@ taken_none : (b : Bool) (i : ℕ) (a : Act) (ps qs : List Packet) → ps ≡ [] 
 taken_none true i a ps qs e f = rw (left_none i a ps e, f) refl
 taken_none false i a ps qs e f = rw (e, f) refl
 
-untouched : (p : Program) (lines : List Entry) → IsRun p (fresh_net p) lines → Untouched p (net_after_trace p (fresh_net p) lines)
+untouched : (p : Program) (trace : List Entry) → IsRun p (fresh_net p) trace → Untouched p (net_after_trace p (fresh_net p) trace)
 untouched p [] r = record { nodes = λ n l. refl; links = λ i j l. refl }
 untouched p (x ∷ xs) r =
     let was : Untouched p (net_after_trace p (fresh_net p) xs) = untouched p xs r.0 in
@@ -224,11 +224,11 @@ pub record Inside (p : Program) (w : Spots) (net : Net) : Type 0 where
   pub links : (i j : ℕ) → (nodes_of p ≤ i) ⊎ (nodes_of p ≤ j) → net.links i j ≡ []
   pub lives : (t : Tid) (n : ℕ) (stage : Stage) → (w.threads t).life ≡ On n stage → n < nodes_of p
 
-pub run_inside : (p : Program) (lines : List Entry) → IsRun p (fresh_net p) lines → Inside p (spots_of p (at_first p) lines) (net_after_trace p (fresh_net p) lines)
-run_inside p lines r =
-    let w : Spots = spots_of p (at_first p) lines in
-    let net : Net = net_after_trace p (fresh_net p) lines in
-    let all : Whole p (at_first p) (fresh_net p) lines = run_whole p (at_first p) (fresh_net p) (starts p) lines r in
-    let asks : AllAsk p w.threads = spots_ask p (fresh_net p) lines all.obeys.life in
-    let out : Untouched p net = untouched p lines r in
+pub run_inside : (p : Program) (trace : List Entry) → IsRun p (fresh_net p) trace → Inside p (spots_of p (at_first p) trace) (net_after_trace p (fresh_net p) trace)
+run_inside p trace r =
+    let w : Spots = spots_of p (at_first p) trace in
+    let net : Net = net_after_trace p (fresh_net p) trace in
+    let all : Whole p (at_first p) (fresh_net p) trace = run_whole p (at_first p) (fresh_net p) (starts p) trace r in
+    let asks : AllAsk p w.threads = spots_ask p (fresh_net p) trace all.obeys.life in
+    let out : Untouched p net = untouched p trace r in
     record { nodes = out.nodes; links = links_inside p w net all.stands asks out; lives = on_inside p w net all.stands asks out }

@@ -2,19 +2,21 @@
 use Rattle.std.proofs.Common.{◌≡◌, ℕ, List, [], ◌∷◌, Some, None, false, refl, sym, ap, ◌∙◌, subst, map, inl, inr}
 use Rattle.std.proofs.lemmas.Bool.{eq-eqb}
 use Rattle.slot_space.specs.declared.names.Tid.{Tid}
-use Rattle.run_trace.specs.declared.node.Row.{Row}
+use Rattle.run_trace.specs.declared.node.ReadyRow.{ReadyRow}
 use Rattle.run_trace.specs.Names.{is_tid}
 use Rattle.run_trace.specs.Program.{Program, tree_of}
-use Rattle.run_trace.specs.Guests.{Thread, waits}
+use Rattle.run_trace.specs.Guests.{Guest, Thread, waits}
 use Rattle.run_trace.specs.Cluster.{Net}
 use Rattle.run_trace.specs.Holding.{IsOn}
 use Rattle.run_trace.specs.Keyed.{item_of}
-use Rattle.run_trace.specs.Places.{best_on}
+use Rattle.run_trace.specs.RunLists.{best_on}
 use Rattle.run_trace.specs.Outcome.{Lives, AllLinksEmpty, WaitsByItsRule, IsStuck}
-use Rattle.run_trace.specs.Spots.{Stage, Ready, Running, Due, Served, Told_next, Told_then, Departs, Ends, Leaves, Halts, Stays, Shows, Showing, Shown_there, Asks, Awaits, Answers, Answered, Life, Unborn, On, Moving, Noting, Gone, Response, Spots}
-use Rattle.run_trace.specs.Stands.{Stands, listed, listed_name, row_part, row_in_life, link_part, on_link, ways_of, Way, words_of, words_about, phase_of, phase_at, During, thread_in_life, thread_in_stage, wait_of}
+use Rattle.run_trace.specs.Spots.{Stage, Ready, Stays, Shows, Shown_there, Asks, Awaits, Answered, Life, Unborn, On, Moving, Noting, Gone, Response, Spots}
+use Rattle.run_trace.specs.Stands.{Stands, listed, listed_name, row_part, row_in_life, link_part, on_link, ways_of, Way, words_of, words_about, phase_of, phase_at, During, thread_in_life, wait_of}
 use Rattle.run_trace.specs.Items.{Thread as Subject_of}
 use Rattle.run_trace.specs.declared.entry.Act.TheVariants.{Boot}
+use Rattle.trace_laws.proofs.Lists.Parts.{thread_was}
+use Rattle.trace_laws.proofs.Lists.Stages.{resting, rest_thread}
 use Rattle.trace_laws.proofs.Underway.Simulate.{asked_of, picked_ready}
 use Rattle.trace_laws.proofs.Outcomes.Wholes.{settled_at}
 use Rattle.trace_laws.proofs.Outcomes.Consequences.{OnNode, on_node_is}
@@ -28,7 +30,7 @@ module _ (p : Program) (w : Spots) (net : Net) (s : Stands p w net) where
       let some : link_part x.from x.to (Subject_of t) w.threads ≡ x.word ∷ on_link x.from x.to xs = ap (on_link x.from x.to) h ∙ (rw (eq-eqb x.from x.from refl, eq-eqb x.to x.to refl) refl) in
       absurd (cc (sym none ∙ s.links x.from x.to (Subject_of t) ∙ some))
 
-  quiet : ((n : ℕ) → (net.nodes n).places.rows ≡ []) → AllLinksEmpty net → ((n : ℕ) → w.halts n ≡ false) → (t : Tid) → WaitsByItsRule w (w.threads t).life
+  quiet : ((n : ℕ) → (net.nodes n).run_lists.rows ≡ []) → AllLinksEmpty net → ((n : ℕ) → w.halts n ≡ false) → (t : Tid) → WaitsByItsRule w (w.threads t).life
   quiet rows empty going t = by (w.threads t).life refl (settled_at p w net s t)
     where
       v : Response
@@ -49,7 +51,7 @@ module _ (p : Program) (w : Spots) (net : Net) (s : Stands p w net) where
 
       ready : (m : ℕ) → (w.threads t).life ≡ On m Ready → ⊥
       ready m e =
-          let none : item_of is_tid listed_name (map listed (net.nodes m).places.rows) t ≡ None = ap (λ (rs : List Row). item_of is_tid listed_name (map listed rs) t) (rows m) in
+          let none : item_of is_tid listed_name (map listed (net.nodes m).run_lists.rows) t ≡ None = ap (λ (rs : List ReadyRow). item_of is_tid listed_name (map listed rs) t) (rows m) in
           let some : row_part m t (w.threads t) ≡ Some (record { tid = t; list = 0; priority = (w.threads t).guest.priority }) = ap (λ z. row_in_life m t z (w.threads t).guest.priority) e ∙ (rw (eq-eqb m m refl) refl) in
           absurd (cc (none, (s.nodes m).rows.shows t, some))
 
@@ -65,20 +67,10 @@ module _ (p : Program) (w : Spots) (net : Net) (s : Stands p w net) where
       by (On m Shown_there) e k = sent (On m Shown_there) _ e refl
       by (On m (Asks u)) e k = sent (On m (Asks u)) _ e refl
       by (On m (Answered h)) e k = sent (On m (Answered h)) _ e refl
-      by (On m Running) e k = absurd (cc (subst (λ z. IsSettled z) e k m, eq-eqb m m refl))
-      by (On m (Due code)) e k = absurd (cc (subst (λ z. IsSettled z) e k m, eq-eqb m m refl))
-      by (On m (Served c)) e k = absurd (cc (subst (λ z. IsSettled z) e k m, eq-eqb m m refl))
-      by (On m Told_next) e k = absurd (cc (subst (λ z. IsSettled z) e k m, eq-eqb m m refl))
-      by (On m (Told_then to)) e k = absurd (cc (subst (λ z. IsSettled z) e k m, eq-eqb m m refl))
-      by (On m (Departs to)) e k = absurd (cc (subst (λ z. IsSettled z) e k m, eq-eqb m m refl))
-      by (On m (Ends end)) e k = absurd (cc (subst (λ z. IsSettled z) e k m, eq-eqb m m refl))
-      by (On m (Leaves end)) e k = absurd (cc (subst (λ z. IsSettled z) e k m, eq-eqb m m refl))
-      by (On m Halts) e k = absurd (cc (subst (λ z. IsSettled z) e k m, eq-eqb m m refl))
-      by (On m Showing) e k = absurd (cc (subst (λ z. IsSettled z) e k 0))
-      by (On m (Answers h reply second)) e k = absurd (cc (subst (λ z. IsSettled z) e k h, eq-eqb h h refl))
+      by (On m stage) e k = absurd (cc (resting m stage (subst (λ z. IsSettled z) e k)))
 
   -- nothing is ready, nothing is under way, none has halted, and a thread lives
-  pub stuck : ((n : ℕ) → (net.nodes n).places.rows ≡ []) → AllLinksEmpty net → ((n : ℕ) → (net.nodes n).halted ≡ false) → (t : Tid) → Lives (w.threads t).life → IsStuck w net
+  pub stuck : ((n : ℕ) → (net.nodes n).run_lists.rows ≡ []) → AllLinksEmpty net → ((n : ℕ) → (net.nodes n).halted ≡ false) → (t : Tid) → Lives (w.threads t).life → IsStuck w net
   stuck rows empty going t lives =
       let still : (n : ℕ) → w.halts n ≡ false = λ n. sym (s.nodes n).halted ∙ going n in
       record {
@@ -93,30 +85,9 @@ module _ (p : Program) (w : Spots) (net : Net) (s : Stands p w net) where
 
   -- between events a thread at any stage is on its node
   pub is_there : (t : Tid) (m : ℕ) (stage : Stage) → (w.threads t).life ≡ On m stage → (x : Thread) × IsOn net m t x
-  is_there t m stage e = by stage e (subst (λ z. IsSettled z) e (settled_at p w net s t))
-    where
-      here : (stage : Stage) (x : Thread) → (w.threads t).life ≡ On m stage → thread_in_stage stage (w.threads t).guest ≡ Some x → (y : Thread) × IsOn net m t y
-      here stage x e h = (x, (s.nodes m).threads.shows t ∙ ap (λ z. thread_in_life m z (w.threads t).guest) e ∙ (rw (eq-eqb m m refl) h))
-
-      by : (stage : Stage) → (w.threads t).life ≡ On m stage → IsSettled (On m stage) → (x : Thread) × IsOn net m t x
-      by (Awaits u) e k = here (Awaits u) _ e refl
-      by Ready e k = here Ready _ e refl
-      by Stays e k = here Stays _ e refl
-      by (Shows bytes) e k = here (Shows bytes) _ e refl
-      by Shown_there e k = here Shown_there _ e refl
-      by (Asks u) e k = here (Asks u) _ e refl
-      by (Answered h) e k = here (Answered h) _ e refl
-      by Running e k = absurd (cc (k m, eq-eqb m m refl))
-      by (Due code) e k = absurd (cc (k m, eq-eqb m m refl))
-      by (Served c) e k = absurd (cc (k m, eq-eqb m m refl))
-      by Told_next e k = absurd (cc (k m, eq-eqb m m refl))
-      by (Told_then to) e k = absurd (cc (k m, eq-eqb m m refl))
-      by (Departs to) e k = absurd (cc (k m, eq-eqb m m refl))
-      by (Ends end) e k = absurd (cc (k m, eq-eqb m m refl))
-      by (Leaves end) e k = absurd (cc (k m, eq-eqb m m refl))
-      by Halts e k = absurd (cc (k m, eq-eqb m m refl))
-      by Showing e k = absurd (cc (k 0))
-      by (Answers h reply second) e k = absurd (cc (k h, eq-eqb h h refl))
+  is_there t m stage e =
+      let g : Guest = (w.threads t).guest in
+      (waits (wait_of stage) g, (s.nodes m).threads.shows t ∙ thread_was m t (w.threads t) stage e ∙ rest_thread stage g (resting m stage (subst (λ z. IsSettled z) e (settled_at p w net s t))))
 
   -- where nothing is under way each that lives is on a node
   pub is_somewhere : AllLinksEmpty net → (t : Tid) → Lives (w.threads t).life → (n : ℕ) × (x : Thread) × IsOn net n t x
@@ -134,7 +105,7 @@ module _ (p : Program) (w : Spots) (net : Net) (s : Stands p w net) where
       let on : OnNode n (w.threads t) x = on_node_is n t (w.threads t) x (sym ((s.nodes n).threads.shows t) ∙ h) in
       subst (λ z. Lives z) (sym on.life) tt
 
-  pub picked_there : (n vp : ℕ) (r : Row) → best_on (tree_of p) vp (net.nodes n).places.rows ≡ Some r → (x : Thread) × IsOn net n r.tid x
+  pub picked_there : (n vp : ℕ) (r : ReadyRow) → best_on (tree_of p) vp (net.nodes n).run_lists.rows ≡ Some r → (x : Thread) × IsOn net n r.tid x
   picked_there n vp r picked =
       (waits (wait_of Ready) (w.threads r.tid).guest, (s.nodes n).threads.shows r.tid ∙ ap (λ z. thread_in_life n z (w.threads r.tid).guest) (picked_ready p w net s (asked_of Boot None) n vp r picked) ∙ (rw (eq-eqb n n refl) refl))
 

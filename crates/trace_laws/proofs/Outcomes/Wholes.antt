@@ -1,17 +1,15 @@
--- The whole run: order and run give the whole of legality.
-use Rattle.std.proofs.Common.{◌≡◌, ℕ, ◌%◌, List, [], ◌∷◌, ◌++◌, Some, None, true, false, eqb, ltb, cond, refl, sym, ap, ◌∙◌, subst, arith}
+-- The whole run: how nodes and links begin, that nothing is left open at an entry's end, and what holds after each run.
+use Rattle.std.proofs.Common.{◌≡◌, ℕ, ◌%◌, List, [], ◌∷◌, ◌++◌, Some, None, true, false, eqb, ltb, cond, refl, ap, ◌∙◌, subst, arith}
 use Rattle.std.proofs.lemmas.Bool.{ltb-true}
 use Rattle.slot_space.specs.Sets.{has, run}
 use Rattle.slot_space.specs.Addresses.{starting_slots}
 use Rattle.slot_space.specs.declared.names.Tid.{Tid}
 use Rattle.slot_space.proofs.Lemmas.{has-filter, has-run}
 use Rattle.run_trace.specs.declared.entry.Entry.{Entry}
-use Rattle.run_trace.specs.declared.label.Label.{Label}
-use Rattle.run_trace.specs.declared.packet.Send.{Send}
 use Rattle.run_trace.specs.Program.{Program, nodes_of, slots_in}
-use Rattle.run_trace.specs.Local.{Doing}
+use Rattle.run_trace.specs.Local.{EventSoFar}
 use Rattle.run_trace.specs.Cluster.{Event, Net, net_after, fresh_net, next_packet}
-use Rattle.run_trace.specs.Trace.{IsRun, event_of, events_of, net_after_trace, sends_or, done_for}
+use Rattle.run_trace.specs.Trace.{IsRun, event_of, events_of, net_after_trace}
 use Rattle.run_trace.specs.Spots.{Spots, Of_node, Nobody, unborn, at_first, first_holder}
 use Rattle.run_trace.specs.Rules.{is_free, spots_of}
 use Rattle.run_trace.specs.Console.{console_of, printed}
@@ -20,7 +18,7 @@ use Rattle.run_trace.specs.Holding.{EachHeldOnce}
 use Rattle.run_trace.specs.Alone.{EachRunsAlone}
 use Rattle.run_trace.specs.Legality.{AfterEach}
 use Rattle.trace_laws.proofs.Outcomes.Consequences.{one_holder, runs_alone}
-use Rattle.trace_laws.proofs.Underway.Simulate.{Simulates, simulates, event}
+use Rattle.trace_laws.proofs.Underway.Simulate.{Simulates, simulates, event, event_made}
 use Rattle.trace_laws.specs.Obeys.{IsSettled, ObeysFrom}
 use Rattle.run_trace.specs.Items.{is_busy, Subject, Thread as Thread_of}
 
@@ -44,8 +42,8 @@ starts p = record {
     threads = record { apart = tt; shows = λ u. refl };
     rows = record { apart = tt; shows = λ u. refl };
     busy = record { apart = tt; shows = λ u. refl };
-    names = refl;
-    own = λ x. own_slots p n x;
+    births = refl;
+    free = λ x. own_slots p n x;
     halted = refl;
   };
   links = no_words;
@@ -69,12 +67,12 @@ settled_at p w net s t n = elim (is_busy n (w.threads t).life) as (λ v. None �
 -- ## The whole run
 
 -- the rules, the console, and what nodes and links stand for
-pub record Whole (p : Program) (old : Spots) (base : Net) (lines : List Entry) : Type 0 where
-  pub obeys : ObeysFrom p old base lines
-  pub console : printed (events_of p base lines) ≡ console_of p old lines
-  pub stands : Stands p (spots_of p old lines) (net_after_trace p base lines)
+pub record Whole (p : Program) (old : Spots) (base : Net) (trace : List Entry) : Type 0 where
+  pub obeys : ObeysFrom p old base trace
+  pub console : printed (events_of p base trace) ≡ console_of p old trace
+  pub stands : Stands p (spots_of p old trace) (net_after_trace p base trace)
 
-pub run_whole : (p : Program) (old : Spots) (base : Net) → Stands p old base → (lines : List Entry) → IsRun p base lines → Whole p old base lines
+pub run_whole : (p : Program) (old : Spots) (base : Net) → Stands p old base → (trace : List Entry) → IsRun p base trace → Whole p old base trace
 run_whole p old base s [] r = record {
   obeys = record { solo = tt; holders = tt; life = tt; replies = tt; grants = tt; picks = tt; carried = tt; settled = tt };
   console = refl;
@@ -85,14 +83,9 @@ run_whole p old base s (x ∷ xs) r =
     let net : Net = net_after_trace p base xs in
     let w : Spots = spots_of p old xs in
     let e : Event = event_of p net x in
-    let d : Doing = r.1.step.done in
-    let made : Event = event x.stamp x.node x.round x.act (next_packet net x.node x.act) d in
-    let one : Simulates p w net made = simulates p w net x.stamp x.node x.round x.act (next_packet net x.node x.act) d was.stands r.1.step.is refl in
-    let same : made ≡ e =
-    ap (λ (ls : List Label). record { stamp = x.stamp; node = x.node; round = x.round; act = x.act; took = next_packet net x.node x.act; labels = ls; sends = d.sends; prints = d.prints }) (sym r.1.step.labels)
-    ∙ ap (λ (ss : List Send). record { stamp = x.stamp; node = x.node; round = x.round; act = x.act; took = next_packet net x.node x.act; labels = x.labels; sends = ss; prints = d.prints }) (sym r.1.step.sends)
-    ∙ ap (λ (bs : List ℕ). record { stamp = x.stamp; node = x.node; round = x.round; act = x.act; took = next_packet net x.node x.act; labels = x.labels; sends = sends_or (done_for p net x); prints = bs }) (sym r.1.step.prints) in
-    let now : Simulates p w net e = subst (λ z. Simulates p w net z) same one in
+    let d : EventSoFar = r.1.step.done in
+    let one : Simulates p w net (event x.stamp x.node x.round x.act (next_packet net x.node x.act) d) = simulates p w net x.stamp x.node x.round x.act (next_packet net x.node x.act) d was.stands r.1.step.is refl in
+    let now : Simulates p w net e = subst (λ z. Simulates p w net z) (event_made p net x r.1) one in
     record {
       obeys = record {
         solo = (was.obeys.solo, now.allowed.solo);
@@ -108,15 +101,23 @@ run_whole p old base s (x ∷ xs) r =
       stands = now.stands;
     }
 
+-- from the beginning: what nodes and links stand for
+pub stands_after : (p : Program) (trace : List Entry) → IsRun p (fresh_net p) trace → Stands p (spots_of p (at_first p) trace) (net_after_trace p (fresh_net p) trace)
+stands_after p trace r = (run_whole p (at_first p) (fresh_net p) (starts p) trace r).stands
+
+-- and the console
+pub console_after : (p : Program) (trace : List Entry) → IsRun p (fresh_net p) trace → printed (events_of p (fresh_net p) trace) ≡ console_of p (at_first p) trace
+console_after p trace r = (run_whole p (at_first p) (fresh_net p) (starts p) trace r).console
+
 -- what holds after each run holds after each entry of a run
-pub after_each : (P : Net → List Entry → Type 0) (p : Program) → ((lines : List Entry) → IsRun p (fresh_net p) lines → P (net_after_trace p (fresh_net p) lines) lines) → (lines : List Entry) → IsRun p (fresh_net p) lines → AfterEach P p lines
+pub after_each : (P : Net → List Entry → Type 0) (p : Program) → ((trace : List Entry) → IsRun p (fresh_net p) trace → P (net_after_trace p (fresh_net p) trace) trace) → (trace : List Entry) → IsRun p (fresh_net p) trace → AfterEach P p trace
 after_each P p f [] r = tt
 after_each P p f (x ∷ xs) r = (after_each P p f xs r.0, f (x ∷ xs) r)
 
-pub alone_after_run : (p : Program) (lines : List Entry) → IsRun p (fresh_net p) lines → EachRunsAlone p (net_after_trace p (fresh_net p) lines) lines
-alone_after_run p lines r =
-    let all : Whole p (at_first p) (fresh_net p) lines = run_whole p (at_first p) (fresh_net p) (starts p) lines r in
-    runs_alone p (fresh_net p) lines (net_after_trace p (fresh_net p) lines) all.obeys.solo all.obeys.life all.stands
+pub alone_after_run : (p : Program) (trace : List Entry) → IsRun p (fresh_net p) trace → EachRunsAlone p (net_after_trace p (fresh_net p) trace) trace
+alone_after_run p trace r =
+    let all : Whole p (at_first p) (fresh_net p) trace = run_whole p (at_first p) (fresh_net p) (starts p) trace r in
+    runs_alone p (fresh_net p) trace (net_after_trace p (fresh_net p) trace) all.obeys.solo all.obeys.life all.stands
 
-pub held_once_after_run : (p : Program) (lines : List Entry) → IsRun p (fresh_net p) lines → EachHeldOnce (net_after_trace p (fresh_net p) lines)
-held_once_after_run p lines r = one_holder p (spots_of p (at_first p) lines) (net_after_trace p (fresh_net p) lines) (run_whole p (at_first p) (fresh_net p) (starts p) lines r).stands
+pub held_once_after_run : (p : Program) (trace : List Entry) → IsRun p (fresh_net p) trace → EachHeldOnce (net_after_trace p (fresh_net p) trace)
+held_once_after_run p trace r = one_holder p (spots_of p (at_first p) trace) (net_after_trace p (fresh_net p) trace) (stands_after p trace r)

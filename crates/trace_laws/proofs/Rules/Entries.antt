@@ -13,9 +13,9 @@ use Rattle.run_trace.specs.declared.packet.Body.TheVariants.{Mover, Show, ShowDo
 use Rattle.run_trace.specs.declared.packet.Packet.{Packet}
 use Rattle.run_trace.specs.Names.{is_tid}
 use Rattle.run_trace.specs.Program.{Program, nodes_of, tree_of}
-use Rattle.run_trace.specs.Places.{Places, is_listed}
-use Rattle.run_trace.specs.Local.{Local, Doing, nothing, with_booted}
-use Rattle.run_trace.specs.Steps.{say, arrive, thread_in, name_in, slots_out, birth}
+use Rattle.run_trace.specs.RunLists.{RunLists, is_listed}
+use Rattle.run_trace.specs.Local.{Local, EventSoFar, nothing, with_booted}
+use Rattle.run_trace.specs.Steps.{say, arrive, thread_in, birth_in, slots_out, birth}
 use Rattle.run_trace.specs.Machine.{local_event, acts, is_range, boots, boots_in, free_slot, run_picked, run_found, moves_found}
 use Rattle.run_trace.specs.Cluster.{Net, net_after, next_packet, after_or, IsTaken}
 use Rattle.run_trace.specs.Trace.{IsRun, Fits, net_after_trace, event_of}
@@ -28,7 +28,7 @@ use Rattle.run_trace.specs.Causes.{causes}
 use Rattle.run_trace.specs.Obeying.{IsNext, may_act, first_birth, Starts, GoesOn, IsEntry, KeepsRules}
 use Rattle.trace_laws.specs.Obeys.{world_at, all_causes}
 use Rattle.trace_laws.proofs.Underway.Midst.{NextAll, Obeyed, to_do_after_all}
-use Rattle.trace_laws.proofs.Underway.Simulate.{asked_of, Simulates, Beyond, simulates, event, possible}
+use Rattle.trace_laws.proofs.Underway.Simulate.{asked_of, Simulates, Beyond, simulates, event, event_made, possible}
 use Rattle.trace_laws.proofs.Outcomes.Stillness.{picked_there}
 use Rattle.trace_laws.proofs.Outcomes.RunLists.{listed_there}
 use Rattle.trace_laws.proofs.Merging.Determined.{fits_exactly}
@@ -48,33 +48,25 @@ AllSay (Says l ∷ is) = AllSay is
 AllSay (Runs t vp ∷ is) = AllSay is
 AllSay (Does s ∷ is) = AllSay is
 
-behind_same : (hand : List Item) → AllSay hand → past_sends hand ≡ hand
-behind_same [] a = refl
-behind_same (Sends to body ∷ is) a = absurd a
-behind_same (Says l ∷ is) a = refl
-behind_same (Runs t vp ∷ is) a = refl
-behind_same (Does s ∷ is) a = refl
+-- so nothing is sent before the first, and the rest says something too
+record Speaks (hand : List Item) : Type 0 where
+  none_sent : sends_first hand ≡ []
+  same : past_sends hand ≡ hand
+  rest : AllSay (all_but_first hand)
 
-front_none : (hand : List Item) → AllSay hand → sends_first hand ≡ []
-front_none [] a = refl
-front_none (Sends to body ∷ is) a = absurd a
-front_none (Says l ∷ is) a = refl
-front_none (Runs t vp ∷ is) a = refl
-front_none (Does s ∷ is) a = refl
-
-others_say : (hand : List Item) → AllSay hand → AllSay (all_but_first hand)
-others_say [] a = tt
-others_say (Sends to body ∷ is) a = absurd a
-others_say (Says l ∷ is) a = a
-others_say (Runs t vp ∷ is) a = a
-others_say (Does s ∷ is) a = a
+speaks : (hand : List Item) → AllSay hand → Speaks hand
+speaks [] a = record { none_sent = refl; same = refl; rest = tt }
+speaks (Sends to body ∷ is) a = absurd a
+speaks (Says l ∷ is) a = record { none_sent = refl; same = refl; rest = a }
+speaks (Runs t vp ∷ is) a = record { none_sent = refl; same = refl; rest = a }
+speaks (Does s ∷ is) a = record { none_sent = refl; same = refl; rest = a }
 
 busy_say : (n : ℕ) (ts : List Subject) (w : Spots) (more : List Item) → AllSay more → AllSay (busy_among n ts w ++ more)
 busy_say n [] w more a = a
 busy_say n (t ∷ ts) w more a = elim (is_busy_with n t w) as (λ v. AllSay (cond v (Does t ∷ busy_among n ts w) (busy_among n ts w) ++ more)) [ true ↦ busy_say n ts w more a | false ↦ busy_say n ts w more a ]
 
 then_say : (p : Program) (n : ℕ) (l : Label) (w : Spots) (hand : List Item) → AllSay hand → AllSay (to_do_after p n l w hand)
-then_say p n l w hand a = busy_say n (goes_on_with l w) (after_label p n l w) (all_but_first hand) (others_say hand a)
+then_say p n l w hand a = busy_say n (goes_on_with l w) (after_label p n l w) (all_but_first hand) (speaks hand a).rest
 
 opening_all : (n : ℕ) (body : Body) → AllSay (for_packet n body)
 opening_all n (Mover x) = tt
@@ -96,18 +88,18 @@ taken_say n (Take from) links = by (first_of (links from n))
 
 -- so what an entry sends is what its labels cause
 sent_is : (p : Program) (n : ℕ) (ls : List Label) (w : Spots) (hand : List Item) → AllSay hand → all_sent p n ls w hand ≡ all_causes p n ls w
-sent_is p n [] w hand a = front_none hand a
+sent_is p n [] w hand a = (speaks hand a).none_sent
 sent_is p n (l ∷ ls) w hand a =
-    ap (λ z. z ++ (causes p n l w ++ all_sent p n ls (after_label p n l w) (to_do_after p n l w (past_sends hand)))) (front_none hand a)
-    ∙ ap (λ h. causes p n l w ++ all_sent p n ls (after_label p n l w) (to_do_after p n l w h)) (behind_same hand a)
+    ap (λ z. z ++ (causes p n l w ++ all_sent p n ls (after_label p n l w) (to_do_after p n l w (past_sends hand)))) (speaks hand a).none_sent
+    ∙ ap (λ h. causes p n l w ++ all_sent p n ls (after_label p n l w) (to_do_after p n l w h)) (speaks hand a).same
     ∙ ap (λ z. causes p n l w ++ z) (sent_is p n ls (after_label p n l w) (to_do_after p n l w hand) (then_say p n l w hand a))
 
 goes_on : (p : Program) (q : Occasion) (n : ℕ) (ls : List Label) (w : World) (hand : List Item) → AllSay hand → Obeyed p q n ls w → NextAll p n ls w.spots hand → to_do_after_all p n ls w.spots hand ≡ [] → GoesOn p q n ls w hand
-goes_on p q n [] w hand a o k e = behind_same hand a ∙ e
+goes_on p q n [] w hand a o k e = (speaks hand a).same ∙ e
 goes_on p q n (l ∷ ls) w hand a o k e = (
-  subst (λ h. IsNext n l w.spots h) (sym (behind_same hand a)) k.0,
+  subst (λ h. IsNext n l w.spots h) (sym (speaks hand a).same) k.0,
   record { solo = o.solo.0; holders = o.holders.0; life = o.life.0; replies = o.replies.0; grants = o.grants.0 },
-  subst (λ h. GoesOn p (saying l q) n ls (world_after p n l w) (to_do_after p n l w.spots h)) (sym (behind_same hand a))
+  subst (λ h. GoesOn p (saying l q) n ls (world_after p n l w) (to_do_after p n l w.spots h)) (sym (speaks hand a).same)
       (goes_on p (saying l q) n ls (world_after p n l w) (to_do_after p n l w.spots hand) (then_say p n l w.spots hand a) (record { solo = o.solo.1; holders = o.holders.1; life = o.life.1; replies = o.replies.1; grants = o.grants.1 }) k.1 e),
 )
 
@@ -133,19 +125,19 @@ may_is p n s (Move t to) = refl
 
 -- ## An event is an entry
 
-module _ (p : Program) (net : Net) (n : ℕ) (d : Doing) where
+module _ (p : Program) (net : Net) (n : ℕ) (d : EventSoFar) where
   -- the node has begun
   boots_booted : boots p n (nothing (net.nodes n)) ≡ d → d.node.booted ≡ true
-  unfolding birth arrive thread_in name_in slots_out say
+  unfolding birth arrive thread_in birth_in slots_out say
   boots_booted e = by (eqb n 0) e
     where
       by_slot : (o : Option ℕ) → boots_in p n o (with_booted (nothing (net.nodes n))) ≡ d → d.node.booted ≡ true
-      by_slot None g = ap (λ (z : Doing). z.node.booted) (sym g)
-      by_slot (Some slot) g = ap (λ (z : Doing). z.node.booted) (sym g)
+      by_slot None g = ap (λ (z : EventSoFar). z.node.booted) (sym g)
+      by_slot (Some slot) g = ap (λ (z : EventSoFar). z.node.booted) (sym g)
 
-      by : (v : Bool) → cond v (boots_in p n (free_slot (net.nodes n).slots.own) (with_booted (nothing (net.nodes n)))) (with_booted (nothing (net.nodes n))) ≡ d → d.node.booted ≡ true
-      by true g = by_slot (free_slot (net.nodes n).slots.own) g
-      by false g = ap (λ (z : Doing). z.node.booted) (sym g)
+      by : (v : Bool) → cond v (boots_in p n (free_slot (net.nodes n).slots.free) (with_booted (nothing (net.nodes n)))) (with_booted (nothing (net.nodes n))) ≡ d → d.node.booted ≡ true
+      by true g = by_slot (free_slot (net.nodes n).slots.free) g
+      by false g = ap (λ (z : EventSoFar). z.node.booted) (sym g)
 
   booted : (a : Act) (o : Option Packet) → is_range p n (net.nodes n) a ≡ true → acts p n (net.nodes n) a o ≡ Some d → ((net.nodes n).booted ≡ true → d.node.booted ≡ true) → d.node.booted ≡ true
   unfolding is_range
@@ -158,7 +150,7 @@ module _ (p : Program) (net : Net) (n : ℕ) (d : Doing) where
 abbrev entry_with : (stamp n round : ℕ) → Act → List Label → Entry
 entry_with stamp n round a ls = record { stamp = stamp; node = n; round = round; act = a; labels = ls }
 
-pub entry_is : (p : Program) (w : Spots) (net : Net) → Stands p w net → (stamp n round : ℕ) (a : Act) (o : Option Packet) (d : Doing) → local_event p n (net.nodes n) a o ≡ Some d → o ≡ next_packet net n a → IsTaken stamp a o
+pub entry_is : (p : Program) (w : Spots) (net : Net) → Stands p w net → (stamp n round : ℕ) (a : Act) (o : Option Packet) (d : EventSoFar) → local_event p n (net.nodes n) a o ≡ Some d → o ≡ next_packet net n a → IsTaken stamp a o
     → IsEntry p (world_at w net) (entry_with stamp n round a d.labels)
 entry_is p w net st stamp n round a o d is h before =
     let k : Simulates p w net (event stamp n round a o d) = simulates p w net stamp n round a o d st is h in
@@ -173,7 +165,7 @@ entry_is p w net st stamp n round a o d is h before =
     }
 
 -- what the labels tell after an event is what nodes and links have
-tells_then : (p : Program) (w : Spots) (net : Net) → Stands p w net → (stamp n round : ℕ) (a : Act) (o : Option Packet) (d : Doing) → local_event p n (net.nodes n) a o ≡ Some d → o ≡ next_packet net n a
+tells_then : (p : Program) (w : Spots) (net : Net) → Stands p w net → (stamp n round : ℕ) (a : Act) (o : Option Packet) (d : EventSoFar) → local_event p n (net.nodes n) a o ≡ Some d → o ≡ next_packet net n a
     → world_at (after_labels p n d.labels w) (net_after p net (event stamp n round a o d)) ≡ after_entry p (entry_with stamp n round a d.labels) (world_at w net)
 tells_then p w net st stamp n round a o d is h = λ i. record { spots = after_labels p n d.labels w; lists = lists i; links = links i; begun = begun i }
   where
@@ -189,9 +181,9 @@ tells_then p w net st stamp n round a o d is h = λ i. record { spots = after_la
     told : World
     told = after_entry p (entry_with stamp n round a d.labels) (world_at w net)
 
-    lists : (λ m. map listed (after.nodes m).places.rows) ≡ told.lists
-    lists = fun_ext (λ m. elim (eqb n m) as (λ v. eqb n m ≡ v → map listed (cond v (after_or (local_event p m (net.nodes m) a o) (net.nodes m)) (net.nodes m)).places.rows ≡ cond v (list_after_all p n d.labels w (map listed (net.nodes m).places.rows)) (map listed (net.nodes m).places.rows)) [
-      | true ↦ λ e. subst (λ j. map listed (after_or (local_event p j (net.nodes j) a o) (net.nodes j)).places.rows ≡ list_after_all p n d.labels w (map listed (net.nodes j).places.rows)) (eqb-true n m e) (ap (λ z. map listed (after_or z (net.nodes n)).places.rows) is ∙ ap (λ (z : Places). map listed z.rows) b.places ∙ list_is_all p n d.labels w (net.nodes n).places)
+    lists : (λ m. map listed (after.nodes m).run_lists.rows) ≡ told.lists
+    lists = fun_ext (λ m. elim (eqb n m) as (λ v. eqb n m ≡ v → map listed (cond v (after_or (local_event p m (net.nodes m) a o) (net.nodes m)) (net.nodes m)).run_lists.rows ≡ cond v (list_after_all p n d.labels w (map listed (net.nodes m).run_lists.rows)) (map listed (net.nodes m).run_lists.rows)) [
+      | true ↦ λ e. subst (λ j. map listed (after_or (local_event p j (net.nodes j) a o) (net.nodes j)).run_lists.rows ≡ list_after_all p n d.labels w (map listed (net.nodes j).run_lists.rows)) (eqb-true n m e) (ap (λ z. map listed (after_or z (net.nodes n)).run_lists.rows) is ∙ ap (λ (z : RunLists). map listed z.rows) b.run_lists ∙ list_is_all p n d.labels w (net.nodes n).run_lists)
       | false ↦ λ e. refl
     ] refl)
 
@@ -204,42 +196,32 @@ tells_then p w net st stamp n round a o d is h = λ i. record { spots = after_la
       | false ↦ λ e. refl
     ] refl)
 
--- ## A run is a tale
+-- ## A run keeps the rules
 
-pub record Tells (p : Program) (old : Spots) (base : Net) (lines : List Entry) : Type 0 where
-  pub tale : KeepsRules p (world_at old base) lines
-  pub same : world_at (spots_of p old lines) (net_after_trace p base lines) ≡ world_of p (world_at old base) lines
+pub record Tells (p : Program) (old : Spots) (base : Net) (trace : List Entry) : Type 0 where
+  pub tale : KeepsRules p (world_at old base) trace
+  pub same : world_at (spots_of p old trace) (net_after_trace p base trace) ≡ world_of p (world_at old base) trace
 
-pub run_keeps : (p : Program) (old : Spots) (base : Net) → Stands p old base → (lines : List Entry) → IsRun p base lines → Tells p old base lines
+pub run_keeps : (p : Program) (old : Spots) (base : Net) → Stands p old base → (trace : List Entry) → IsRun p base trace → Tells p old base trace
 run_keeps p old base s [] r = record { tale = tt; same = refl }
 run_keeps p old base s (x ∷ xs) r =
     let was : Tells p old base xs = run_keeps p old base s xs r.0 in
     let net : Net = net_after_trace p base xs in
     let w : Spots = spots_of p old xs in
     let st : Stands p w net = (run_whole p old base s xs r.0).stands in
-    let d : Doing = r.1.step.done in
+    let d : EventSoFar = r.1.step.done in
     let o : Option Packet = next_packet net x.node x.act in
-    let made : event x.stamp x.node x.round x.act o d ≡ event_of p net x = λ i. record {
-      stamp = x.stamp;
-      node = x.node;
-      round = x.round;
-      act = x.act;
-      took = o;
-      labels = (sym r.1.step.labels) i;
-      sends = (sym r.1.step.sends) i;
-      prints = (sym r.1.step.prints) i;
-    } in
     let one : IsEntry p (world_at w net) x = subst (λ ls. IsEntry p (world_at w net) (entry_with x.stamp x.node x.round x.act ls)) (sym r.1.step.labels) (entry_is p w net st x.stamp x.node x.round x.act o d r.1.step.is refl r.1.step.takes) in
     let then : world_at (after_labels p x.node d.labels w) (net_after p net (event x.stamp x.node x.round x.act o d)) ≡ after_entry p (entry_with x.stamp x.node x.round x.act d.labels) (world_at w net) = tells_then p w net st x.stamp x.node x.round x.act o d r.1.step.is refl in
     let here : world_at (after_labels p x.node x.labels w) (net_after p net (event_of p net x)) ≡ after_entry p x (world_at w net) =
-    subst (λ e. world_at (after_labels p x.node x.labels w) (net_after p net e) ≡ after_entry p x (world_at w net)) made
+    subst (λ e. world_at (after_labels p x.node x.labels w) (net_after p net e) ≡ after_entry p x (world_at w net)) (event_made p net x r.1)
     (subst (λ ls. world_at (after_labels p x.node ls w) (net_after p net (event x.stamp x.node x.round x.act o d)) ≡ after_entry p (entry_with x.stamp x.node x.round x.act ls) (world_at w net)) (sym r.1.step.labels) then) in
     record {
       tale = (was.tale, subst (λ z. IsEntry p z x) was.same one);
       same = here ∙ ap (λ z. after_entry p x z) was.same;
     }
 
--- ## A tale is a run
+-- ## What keeps the rules is a run
 
 module _ (p : Program) (w : Spots) (net : Net) (st : Stands p w net) where
   takes_by : (stamp n : ℕ) (a : Act) (hand : List Item) → Starts p stamp n a (world_at w net) hand → IsTaken stamp a (next_packet net n a)
@@ -248,19 +230,19 @@ module _ (p : Program) (w : Spots) (net : Net) (st : Stands p w net) where
   takes_by stamp n (Move t to) hand o = refl
   takes_by stamp n (Take from) hand o = subst (λ z. IsTaken stamp (Take from) z) (sym o.1) o.2
 
-  acts_by : (stamp n : ℕ) (a : Act) (hand : List Item) → Starts p stamp n a (world_at w net) hand → (d : Doing) × (acts p n (net.nodes n) a (next_packet net n a) ≡ Some d)
+  acts_by : (stamp n : ℕ) (a : Act) (hand : List Item) → Starts p stamp n a (world_at w net) hand → (d : EventSoFar) × (acts p n (net.nodes n) a (next_packet net n a) ≡ Some d)
   acts_by stamp n Boot hand o = (_, refl)
   acts_by stamp n (RunThread vp q) hand o =
-      let r = picks_it (tree_of p) vp (net.nodes n).places.rows o.0 (st.rising n).0 o.1 in
+      let r = picks_it (tree_of p) vp (net.nodes n).run_lists.rows o.0 (st.rising n).0 o.1 in
       let k = picked_there p w net st n vp r.0 r.1 in
       (_, ap (λ z. run_picked p n vp q z (net.nodes n)) r.1 ∙ ap (λ z. run_found p n vp q r.0.tid z (net.nodes n)) k.1)
   acts_by stamp n (Take from) hand o = (_, ap (λ z. acts p n (net.nodes n) (Take from) z) o.1)
   acts_by stamp n (Move t to) hand o =
-      let on : is_listed t (net.nodes n).places.rows ≡ true = on_list_is t (net.nodes n).places.rows ∙ o.0 in
+      let on : is_listed t (net.nodes n).run_lists.rows ≡ true = on_list_is t (net.nodes n).run_lists.rows ∙ o.0 in
       let k = listed_there p w net st n t on in
       (_, ap (λ z. cond z (moves_found p t to (lookup (is_tid t) (net.nodes n).threads) (net.nodes n)) None) on ∙ ap (λ z. moves_found p t to z (net.nodes n)) k.1)
 
-  event_by : (n : ℕ) (a : Act) (o : Option Packet) (d : Doing) → is_range p n (net.nodes n) a ≡ true → acts p n (net.nodes n) a o ≡ Some d → local_event p n (net.nodes n) a o ≡ Some d
+  event_by : (n : ℕ) (a : Act) (o : Option Packet) (d : EventSoFar) → is_range p n (net.nodes n) a ≡ true → acts p n (net.nodes n) a o ≡ Some d → local_event p n (net.nodes n) a o ≡ Some d
   unfolding local_event
   event_by n a o d h e = ap (λ z. cond z (acts p n (net.nodes n) a o) None) h ∙ e
 
@@ -268,7 +250,7 @@ module _ (p : Program) (w : Spots) (net : Net) (st : Stands p w net) where
   pub fits_by : (x : Entry) → IsEntry p (world_at w net) x → Fits p net x
   fits_by x e =
       let k = acts_by x.stamp x.node x.act e.to_do e.starts in
-      let d : Doing = k.0 in
+      let d : EventSoFar = k.0 in
       let o : Option Packet = next_packet net x.node x.act in
       let is : local_event p x.node (net.nodes x.node) x.act o ≡ Some d = event_by x.node x.act o d (may_is p x.node (net.nodes x.node) x.act ∙ e.may) k.1 in
       let before : IsTaken x.stamp x.act o = takes_by x.stamp x.node x.act e.to_do e.starts in
@@ -284,7 +266,7 @@ has_entry p w net st stamp n round a hand may o =
     let is : local_event p n (net.nodes n) a (next_packet net n a) ≡ Some k.0 = event_by p w net st n a (next_packet net n a) k.0 (may_is p n (net.nodes n) a ∙ may) k.1 in
     (k.0.labels, entry_is p w net st stamp n round a (next_packet net n a) k.0 is refl (takes_by p w net st stamp n a hand o))
 
-pub rules_run : (p : Program) (old : Spots) (base : Net) → Stands p old base → (lines : List Entry) → KeepsRules p (world_at old base) lines → IsRun p base lines
+pub rules_run : (p : Program) (old : Spots) (base : Net) → Stands p old base → (trace : List Entry) → KeepsRules p (world_at old base) trace → IsRun p base trace
 rules_run p old base s [] t = tt
 rules_run p old base s (x ∷ xs) t =
     let r : IsRun p base xs = rules_run p old base s xs t.0 in

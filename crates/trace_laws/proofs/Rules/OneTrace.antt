@@ -1,4 +1,4 @@
--- The labels of a trace that obeys are determined by what was asked: two such traces of the same acts are one.
+-- The labels of a trace that keeps the rules are determined by what was asked: two such traces of the same acts are one.
 use Rattle.std.proofs.Common.{◌≡◌, ℕ, List, [], ◌∷◌, map, refl, sym, ap, ◌∙◌, subst}
 use Rattle.slot_space.specs.declared.names.Tid.{Tid}
 use Rattle.rv_step.specs.declared.hart.Stop.{Stop}

@@ -25,7 +25,7 @@ act_expected p w net s n (Take i) = by (first_of (net.links i n)) refl
     by None e = tt
     by (Some x) e = taken_expected p w net s (asked_of Boot None) n i x (sym e)
 
-pub expected : (p : Program) (old : Spots) (base : Net) → Stands p old base → (lines : List Entry) → IsRun p base lines → AllExpected p base lines
+pub expected : (p : Program) (old : Spots) (base : Net) → Stands p old base → (trace : List Entry) → IsRun p base trace → AllExpected p base trace
 expected p old base s [] r = tt
 expected p old base s (x ∷ xs) r =
     (expected p old base s xs r.0, act_expected p (spots_of p old xs) (net_after_trace p base xs) (run_whole p old base s xs r.0).stands x.node x.act)

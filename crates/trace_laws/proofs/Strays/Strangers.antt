@@ -21,16 +21,16 @@ use Rattle.run_trace.specs.Names.{is_tid, tid_cmp}
 use Rattle.run_trace.specs.Program.{Program, nodes_of}
 use Rattle.run_trace.specs.Guests.{Thread, waits, told, unpacked, guest_slots}
 use Rattle.run_trace.specs.Local.{Local, nothing}
-use Rattle.run_trace.specs.Steps.{tell, tell_found, comes, arrive, thread_in, say, keep, put, print, shows, acknowledges, hears, knows, change_name, reply_by_link}
+use Rattle.run_trace.specs.Steps.{tell, tell_found, comes, arrive, thread_in, say, keep, put, print, shows, acknowledges, hears, knows, change_birth, reply_by_link}
 use Rattle.run_trace.specs.Machine.{takes, accepts, is_stray, may_come, is_unserving, lives_yet, are_away, judges_join, tells_joiner}
 use Rattle.trace_laws.specs.Strays.{slots_with, slots_here, IsHeldOnce}
 use Rattle.run_trace.proofs.Lemmas.{is-true, is-refl}
 use Rattle.trace_laws.proofs.Lists.KeyedLemmas.{lookup-set_same, lookup-set_other, lookup-insert}
 
 -- a node whose own slots and whose threads' slots are as before
-same_held : (s now : Local) → now.slots.own ≡ s.slots.own → ((t : Tid) → slots_here now t ≡ slots_here s t) → IsHeldOnce s → IsHeldOnce now
+same_held : (s now : Local) → now.slots.free ≡ s.slots.free → ((t : Tid) → slots_here now t ≡ slots_here s t) → IsHeldOnce s → IsHeldOnce now
 same_held s now own threads h = record {
-  own = λ t x k. ap (has x) own ∙ h.own t x (sym (ap (has x) (threads t)) ∙ k);
+  free = λ t x k. ap (has x) own ∙ h.free t x (sym (ap (has x) (threads t)) ∙ k);
   one = λ t u x k l. h.one t u x (sym (ap (has x) (threads t)) ∙ k) (sym (ap (has x) (threads u)) ∙ l);
 }
 
@@ -47,14 +47,14 @@ told_held t code second s h = by (lookup (is_tid t) s.threads) refl
     ] refl) h
 
 judged_held : (by : Tid) (from seq : ℕ) (v : Verdict) (s : Local) → IsHeldOnce s → IsHeldOnce (judges_join by from v (hears by seq from (nothing s))).node
-unfolding hears change_name say reply_by_link put
+unfolding hears change_birth say reply_by_link put
 judged_held by from seq (Now end) s h = same_held s _ refl (λ t. refl) h
 judged_held by from seq Later s h = same_held s _ refl (λ t. refl) h
 judged_held by from seq NoSuch s h = same_held s _ refl (λ t. refl) h
 judged_held by from seq Taken s h = same_held s _ refl (λ t. refl) h
 
 known_held : (me seq : ℕ) (end : End) (o : Option (Tid × ℕ)) (s : Local) → IsHeldOnce s → IsHeldOnce (tells_joiner end o (knows me seq end (nothing s))).node
-unfolding knows change_name say reply_by_link put
+unfolding knows change_birth say reply_by_link put
 known_held me seq end None s h = same_held s _ refl (λ t. refl) h
 known_held me seq end (Some by) s h = same_held s _ refl (λ t. refl) h
 
@@ -71,9 +71,9 @@ not_both true h = absurd (cc h)
 not_both false h = refl
 
 -- none of a newcomer's slots is here
-away_own : (slots : List ℕ) (s : Local) → are_away slots s ≡ true → (y : ℕ) → has y slots ≡ true → has y s.slots.own ≡ false
-away_own slots s a y h = elim (has y s.slots.own) as (λ v. has y s.slots.own ≡ v → v ≡ false) [
-  | true ↦ λ e. absurd (cc (meets-common y slots s.slots.own h e, not_both (meets slots s.slots.own) (and_parts (not (meets slots s.slots.own)) _ a).0))
+away_own : (slots : List ℕ) (s : Local) → are_away slots s ≡ true → (y : ℕ) → has y slots ≡ true → has y s.slots.free ≡ false
+away_own slots s a y h = elim (has y s.slots.free) as (λ v. has y s.slots.free ≡ v → v ≡ false) [
+  | true ↦ λ e. absurd (cc (meets-common y slots s.slots.free h e, not_both (meets slots s.slots.free) (and_parts (not (meets slots s.slots.free)) _ a).0))
   | false ↦ λ e. refl
 ] refl
 
@@ -83,13 +83,13 @@ away_here slots s a y t h k = by (lookup (is_tid t) s.threads) refl k
     by : (o : Option Thread) → lookup (is_tid t) s.threads ≡ o → has y (slots_with o) ≡ true → ⊥
     by None e g = absurd (cc g)
     by (Some x) e g =
-        let f = found_all (λ e. not (meets slots (guest_slots e.1.guest))) t s.threads x (and_parts (not (meets slots s.slots.own)) _ a).1 e in
+        let f = found_all (λ e. not (meets slots (guest_slots e.1.guest))) t s.threads x (and_parts (not (meets slots s.slots.free)) _ a).1 e in
         cc (meets-common y slots (guest_slots x.guest) h g, not_both (meets slots (guest_slots x.guest)) f.1)
 
 came_held : (p : Program) (me : ℕ) (x : Packed) (s : Local) → may_come p me s x ≡ true → IsHeldOnce s → IsHeldOnce (comes x (nothing s)).node
 unfolding comes arrive thread_in say
 came_held p me x s may h = record {
-  own = λ t y k. elim (is_tid t x.tid) as (λ v. has y (slots_with (cond v (Some new) (lookup (is_tid t) s.threads))) ≡ true → has y s.slots.own ≡ false) [ true ↦ λ g. away_own mine s away y g | false ↦ λ g. h.own t y g ] (at t y k);
+  free = λ t y k. elim (is_tid t x.tid) as (λ v. has y (slots_with (cond v (Some new) (lookup (is_tid t) s.threads))) ≡ true → has y s.slots.free ≡ false) [ true ↦ λ g. away_own mine s away y g | false ↦ λ g. h.free t y g ] (at t y k);
   one = λ t u y k l. elim (is_tid t x.tid) as (λ v. is_tid t x.tid ≡ v → has y (slots_with (cond v (Some new) (lookup (is_tid t) s.threads))) ≡ true → t ≡ u) [
     | true ↦ λ e g. elim (is_tid u x.tid) as (λ v. is_tid u x.tid ≡ v → has y (slots_with (cond v (Some new) (lookup (is_tid u) s.threads))) ≡ true → t ≡ u) [
       | true ↦ λ f i. is-true t x.tid e ∙ sym (is-true u x.tid f)
@@ -127,9 +127,9 @@ accepted_held p me from (Mover x) s k h = came_held p me x s (opened (may_come p
     opened false e = absurd (cc e)
 accepted_held p me from (Show t bytes) s k h = same_held s _ refl (λ u. refl) h
 accepted_held p me from (ShowDone t) s k h = told_held t 0 None s h
-accepted_held p me from (JoinAsk by seq) s k h = judged_held by from seq (verdict (slice_get s.names seq)) s h
+accepted_held p me from (JoinAsk by seq) s k h = judged_held by from seq (verdict (slice_get s.births seq)) s h
 accepted_held p me from (Answer t reply second) s k h = told_held t (reply_code reply) second s h
-accepted_held p me from (EndNote seq end) s k h = known_held me seq end (joiner (slice_get s.names seq)) s h
+accepted_held p me from (EndNote seq end) s k h = known_held me seq end (joiner (slice_get s.births seq)) s h
 
 pub held_once : (p : Program) (me from : ℕ) (s : Local) (body : Body) → IsHeldOnce s → IsHeldOnce (takes p me from body s).node
 held_once p me from s body h = elim (is_stray p me s body) as (λ v. is_stray p me s body ≡ v → IsHeldOnce (cond v (nothing s) (accepts me from body s)).node) [

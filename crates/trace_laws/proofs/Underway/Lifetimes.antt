@@ -19,35 +19,25 @@ use Rattle.run_trace.specs.Names.{is_tid, tid, tid_cmp}
 use Rattle.run_trace.specs.Program.{Program, nodes_of, main_priority}
 use Rattle.run_trace.specs.Guests.{Guest, Thread, waits, newborn, stack_end, guest_slots, gives_slots}
 use Rattle.run_trace.specs.declared.call.Call.TheVariants.{Create}
-use Rattle.run_trace.specs.Places.{arrived}
-use Rattle.run_trace.specs.Local.{Local, Doing}
-use Rattle.run_trace.specs.Steps.{say, put, arrive, thread_in, thread_out, slots_out, slots_in, name_in, next_name, birth, gives, ends}
+use Rattle.run_trace.specs.RunLists.{arrived}
+use Rattle.run_trace.specs.Local.{Local, EventSoFar}
+use Rattle.run_trace.specs.Steps.{say, put, arrive, thread_in, thread_out, slots_out, slots_in, birth_in, next_name, birth, gives, ends}
 use Rattle.run_trace.specs.Machine.{free_run, free_slot, end_thread}
 use Rattle.run_trace.specs.Cluster.{Net}
-use Rattle.run_trace.specs.Keyed.{StandsFor}
-use Rattle.run_trace.specs.Spots.{Stage, Stays, Ready, Due, Served, Ends, Leaves, Awaits, Life, Unborn, On, Moving, Noting, Gone, Response, Spot, Spots, Holder, Of_node, Of_thread, update, at_node, after_label, gave_life, born_spot, asked_priority, no_response, Remote}
-use Rattle.run_trace.specs.Rules.{Occasion, is_free, lowest_free, MayGive}
+use Rattle.run_trace.specs.Spots.{Stage, Stays, Ready, Due, Served, Ends, Leaves, Awaits, Life, Unborn, On, Moving, Noting, Gone, Response, Spot, Spots, Holder, Of_node, Of_thread, update, at_node, after_label, gave_life, born_spot, asked_priority, no_response}
+use Rattle.run_trace.specs.Rules.{is_free, lowest_free, MayGive}
 use Rattle.run_trace.specs.Stands.{Here, Agrees, Busy, busy, busy_name, busy_part, thread_part, thread_in_life, row_part, row_in_life, listed, listed_name, ways_of, phase_of, phase_at, Before, During, held, slots_held, IsWellHeld, is_thread}
 use Rattle.run_trace.proofs.Lemmas.{is-other, is-true, is-refl, is-false, is-flip, same_name}
-use Rattle.trace_laws.proofs.Lists.KeyedLemmas.{kept, added, unfronted, refronted, map_kept, map_removed, map_added}
+use Rattle.trace_laws.proofs.Lists.KeyedLemmas.{kept, unfronted, refronted, map_kept, map_removed, map_added}
 use Rattle.trace_laws.proofs.Lists.Births.{get-push, get-past, no_bytes, plain_start}
 use Rattle.run_trace.specs.World.{World}
 use Rattle.run_trace.specs.Obeying.{Allows, IsBy}
-use Rattle.trace_laws.proofs.Underway.Midst.{having_said, Then, doing, Own, beside, Links, Midst, Plain, plain, keeps, under, LinkStands, spots_with, labelled, here_kept, agrees_kept, links_kept}
-use Rattle.trace_laws.proofs.Lists.Parts.{listed_arrived, home_way, home_quiet, home_plain, frame_home, away_thread, away_row, busy_none}
-use Rattle.trace_laws.proofs.Lists.Arriving.{places_after}
-use Rattle.trace_laws.proofs.Underway.Steps.{IsAtHome, own_stays, own_goes, life_then, Ties, in_hand, thread_was, row_was, busy_was, send_step}
+use Rattle.trace_laws.proofs.Underway.Midst.{Outset, StandsAmid, amid, having_said, Then, doing, Own, beside, Links, Midst, plain, keeps, under, spots_with, labelled, here_kept, agrees_kept, agrees_changed, links_kept}
+use Rattle.trace_laws.proofs.Lists.Parts.{thread_holds, node_holds, thread_was, row_was, busy_was, rows_arrived, frame_home, away_thread, away_row, busy_none}
+use Rattle.trace_laws.proofs.Lists.Stages.{home_way, home_quiet, home_plain}
+use Rattle.trace_laws.proofs.Lists.Arriving.{run_lists_after}
+use Rattle.trace_laws.proofs.Underway.Steps.{IsAtHome, own_stays, own_goes, life_then, Ties, in_hand, send_step}
 use Rattle.run_trace.specs.Items.{Thread as Its, Does, Says, Item, is_busy}
-
--- ## Holders
-
-pub thread_holds : (t : Tid) (h : Holder) → is_thread t h ≡ true → h ≡ Of_thread t
-thread_holds t (Of_thread u) e = ap Of_thread (sym (is-true t u e))
-thread_holds t h e = absurd (cc e)
-
-pub node_holds : (n : ℕ) (h : Holder) → is_free n h ≡ true → h ≡ Of_node n
-node_holds n (Of_node m) e = ap Of_node (eqb-true m n e)
-node_holds n h e = absurd (cc e)
 
 unborn_of : (life : Life) → Before ≡ phase_of life → life ≡ Unborn
 unborn_of Unborn e = refl
@@ -55,34 +45,6 @@ unborn_of (On n stage) e = absurd (cc e)
 unborn_of (Moving n to) e = absurd (cc e)
 unborn_of (Noting n end) e = absurd (cc e)
 unborn_of (Gone end) e = absurd (cc e)
-
--- a thread whose slots change hands; all else as agrees_kept
-agrees_slots : {remote : Remote} (p : Program) (w : Spots) (t : Tid) (s : Spot) (f : ℕ → Holder) → Agrees p w
-    → phase_of s.life ≡ phase_of (w.threads t).life
-    → ((u : Tid) (m : ℕ) → (w.threads t).life ≡ On m (Awaits u) → ⊥)
-    → ((w.threads t).life ≡ Unborn → ⊥)
-    → Plain s.life
-    → ((u : Tid) (y : ℕ) → has y (slots_held (held (update w.threads t s u).life (update w.threads t s u).guest)) ≡ is_thread u (f y))
-    → IsWellHeld (held s.life s.guest)
-    → Agrees p (spots_with (update w.threads t s) f w.births w.halts remote)
-agrees_slots p w t s f a phase quiet born idle slots well = record {
-  waits = λ u by at e. elim (is_tid t by) as (λ v. (cond v s (w.threads by)).life ≡ On at (Awaits u) → slice_get (w.births u.home) u.seq ≡ Some (Awaited by at)) [ true ↦ λ g. absurd (idle.waits u at g) | false ↦ λ g. a.waits u by at g ] e;
-  stays = λ u m e. elim (is_tid t u) as (λ v. (cond v s (w.threads u)).life ≡ On m Stays → w.halts m ≡ true) [ true ↦ λ g. absurd (idle.stays m g) | false ↦ λ g. a.stays u m g ] e;
-  homes = λ u out. elim (is_tid t u) as (λ v. is_tid t u ≡ v → (cond v s (w.threads u)).life ≡ Unborn) [
-    | true ↦ λ e. absurd (born (subst (λ x. (w.threads x).life ≡ Unborn) (sym (is-true t u e)) (a.homes u out)))
-    | false ↦ λ e. a.homes u out
-  ] refl;
-  named = λ u. elim (is_tid t u) as (λ v. is_tid t u ≡ v → phase_at (slice_get (w.births u.home) u.seq) ≡ phase_of (cond v s (w.threads u)).life) [
-    | true ↦ λ e. a.named u ∙ ap (λ x. phase_of (w.threads x).life) (sym (is-true t u e)) ∙ sym phase
-    | false ↦ λ e. a.named u
-  ] refl;
-  awaits = λ u by at e. elim (is_tid t by) as (λ v. is_tid t by ≡ v → (cond v s (w.threads by)).life ≡ On at (Awaits u)) [
-    | true ↦ λ f. absurd (quiet u at (subst (λ x. (w.threads x).life ≡ On at (Awaits u)) (sym (is-true t by f)) (a.awaits u by at e)))
-    | false ↦ λ f. a.awaits u by at e
-  ] refl;
-  slots = slots;
-  blocks = λ u. elim (is_tid t u) as (λ v. IsWellHeld (held (cond v s (w.threads u)).life (cond v s (w.threads u)).guest)) [ true ↦ well | false ↦ a.blocks u ];
-}
 
 -- ## Slots that change hands
 
@@ -94,9 +56,9 @@ given n slots f y = cond (has y slots) (Of_node n) (f y)
 abbrev pub taken : Tid → List ℕ → (ℕ → Holder) → ℕ → Holder
 taken t slots f y = cond (has y slots) (Of_thread t) (f y)
 
--- who holds what, once it has changed hands between node n and thread t, whose spot is s then
+-- who holds what, once it has changed hands between node n and thread t, whose is.threads s then
 pub record Changes (n : ℕ) (w : Spots) (t : Tid) (s : Spot) (now : List ℕ) (f : ℕ → Holder) : Type 0 where
-  pub own : (y : ℕ) → has y now ≡ is_free n (f y)
+  pub free : (y : ℕ) → has y now ≡ is_free n (f y)
   pub there : (k : ℕ) → eqb n k ≡ false → (y : ℕ) → is_free k (f y) ≡ is_free k (w.slots y)
   pub slots : (u : Tid) (y : ℕ) → has y (slots_held (held (update w.threads t s u).life (update w.threads t s u).guest)) ≡ is_thread u (f y)
 
@@ -110,7 +72,7 @@ module _ (p : Program) (n : ℕ) (w : Spots) (t : Tid) (s : Spot) (old slots : L
 
   pub gives_change : ((y : ℕ) → has y slots ≡ true → w.slots y ≡ Of_thread t) → ((y : ℕ) → after y ≡ cond (has y slots) false (before y)) → Changes n w t s (union old slots) (given n slots w.slots)
   gives_change holder less = record {
-    own = λ y. has-union y old slots ∙ elim (has y slots) as (λ b. cond (has y old) true b ≡ is_free n (cond b (Of_node n) (w.slots y))) [
+    free = λ y. has-union y old slots ∙ elim (has y slots) as (λ b. cond (has y old) true b ≡ is_free n (cond b (Of_node n) (w.slots y))) [
       | true ↦ elim (has y old) as (λ b. cond b true true ≡ eqb n n) [ true ↦ sym (eq-eqb n n refl) | false ↦ sym (eq-eqb n n refl) ]
       | false ↦ elim (has y old) as (λ b. has y old ≡ b → cond b true false ≡ is_free n (w.slots y)) [ true ↦ λ e. sym e ∙ mine y | false ↦ λ e. sym e ∙ mine y ] refl
     ];
@@ -129,7 +91,7 @@ module _ (p : Program) (n : ℕ) (w : Spots) (t : Tid) (s : Spot) (old slots : L
 
   pub takes_change : ((y : ℕ) → has y slots ≡ true → w.slots y ≡ Of_node n) → ((y : ℕ) → after y ≡ cond (has y slots) true (before y)) → Changes n w t s (minus old slots) (taken t slots w.slots)
   takes_change holder more = record {
-    own = λ y. has-minus y old slots ∙ elim (has y slots) as (λ b. cond b false (has y old) ≡ is_free n (cond b (Of_thread t) (w.slots y))) [ true ↦ refl | false ↦ mine y ];
+    free = λ y. has-minus y old slots ∙ elim (has y slots) as (λ b. cond b false (has y old) ≡ is_free n (cond b (Of_thread t) (w.slots y))) [ true ↦ refl | false ↦ mine y ];
     there = λ k e y. elim (has y slots) as (λ b. has y slots ≡ b → is_free k (cond b (Of_thread t) (w.slots y)) ≡ is_free k (w.slots y)) [
       | true ↦ λ h. sym e ∙ ap (is_free k) (sym (holder y h))
       | false ↦ λ h. refl
@@ -145,70 +107,69 @@ module _ (p : Program) (n : ℕ) (w : Spots) (t : Tid) (s : Spot) (old slots : L
 
 -- ## Ends
 
-module _ (p : Program) (net : Net) (q : Occasion) (n : ℕ) (opening ahead : List Item) (w : World) (L : Links) where
-  abbrev Is : Doing → List Busy → Type 0
-  Is d hand = Midst p net q n opening ahead w L d hand
+-- a label by which slots go between the event's node and its thread t, said of the world v, and what it leaves as it was
+pub record IsHandover (outset : Outset) (ahead : List Item) (d : EventSoFar) (hand more : List Busy) (l : Label) (t : Tid) (r : Spot) (now : Local) (f : ℕ → Holder) (v : World) : Type 0 where
+  pub same : after_label outset.program outset.node l v.spots ≡ spots_with (update v.spots.threads t r) f v.spots.births v.spots.halts v.spots.remote
+  pub may : Allows outset.program (having_said d.labels outset.occasion) outset.node l v
+  pub ties : Ties outset.node v.spots t r now more
+  pub births : now.births ≡ d.node.births
+  pub halted : now.halted ≡ d.node.halted
+  pub change : Changes outset.node v.spots t r now.slots.free f
+  pub well : IsWellHeld (held r.life r.guest)
+  pub next : Own outset.node l t v.spots ahead ahead hand more r.life
+  pub run_lists : now.run_lists ≡ run_lists_after l v.spots d.node.run_lists
+  pub booted : now.booted ≡ d.node.booted
 
-  abbrev spot : Spots → Tid → Spot
-  spot v t = v.threads t
-
-  -- a label by which slots go between node n and its thread t, and what it leaves as it was
-  pub record IsHandover (d : Doing) (hand more : List Busy) (l : Label) (t : Tid) (r : Spot) (now : Local) (f : ℕ → Holder) (m : Is d hand) : Type 0 where
-    pub same : after_label p n l m.now.spots ≡ spots_with (update m.now.spots.threads t r) f m.now.spots.births m.now.spots.halts m.now.spots.remote
-    pub may : Allows p (having_said d.labels q) n l m.now
-    pub ties : Ties p net q n opening ahead w L m.now.spots t r now more
-    pub names : now.names ≡ d.node.names
-    pub halted : now.halted ≡ d.node.halted
-    pub change : Changes n m.now.spots t r now.slots.own f
-    pub well : IsWellHeld (held r.life r.guest)
-    pub next : Own n l t m.now.spots ahead ahead hand more r.life
-    pub places : now.places ≡ places_after l m.now.spots d.node.places
-    pub booted : now.booted ≡ d.node.booted
+module _ {outset : Outset} {ahead : List Item} {L : Links} where
+  open outset use {program as p, net, occasion as q, node as n, opening, world as w}
 
   -- by it the thread stays on the node
-  pub slots_step : (d : Doing) (hand more : List Busy) (l : Label) (t : Tid) (r : Spot) (now : Local) (f : ℕ → Holder) (a b : Stage)
-      → (m : Is d hand) → IsHandover d hand more l t r now f m → IsAtHome p net q n opening ahead w L l t r a b m.now.spots
-      → Then p net q n opening ahead w L m.now l (record { node = now; labels = d.labels ++ l ∷ []; sends = d.sends; prints = d.prints }) more
-  slots_step d hand more l t r now f a b m move home =
+  pub slots_step : {d : EventSoFar} {hand : List Busy} (more : List Busy) (l : Label) (t : Tid) (r : Spot) (now : Local) (f : ℕ → Holder) (a b : Stage)
+      → (m : Midst outset ahead L d hand) → IsHandover outset ahead d hand more l t r now f m.now → IsAtHome p n l t r a b m.now.spots
+      → Then outset ahead L m.now l (record { node = now; labels = d.labels ++ l ∷ []; sends = d.sends; prints = d.prints }) more
+  slots_step {d} more l t r now f a b m move home =
       let v : Spots = m.now.spots in
-      let s : Spot = spot m.now.spots t in
+      let s : Spot = v.threads t in
       let x : s.life ≡ On n a = home.was in
       let y : r.life ≡ On n b = home.is in
       let before : ways_of t s.life s.verdict s.guest ≡ [] = ap (λ z. ways_of t z s.verdict s.guest) x ∙ home_way t n a s.verdict s.guest home.home_was in
       let after : ways_of t r.life r.verdict r.guest ≡ [] = ap (λ z. ways_of t z r.verdict r.guest) y ∙ home_way t n b r.verdict r.guest home.home_is in
-      labelled p net q n opening ahead w ahead L L d hand more l (spots_with (update v.threads t r) f v.births v.halts v.remote) now d.sends d.prints m move.same move.may
+      labelled L more l (spots_with (update v.threads t r) f v.births v.halts v.remote) now m move.same move.may
       (sym (append-nil d.sends) ∙ ap (λ z. d.sends ++ z) (sym home.sent)) (sym (append-nil d.prints) ∙ ap (λ z. d.prints ++ z) (sym home.shown))
-      (record { threads = move.ties.threads; rows = move.ties.rows; busy = move.ties.busy; names = move.names ∙ m.here.names; own = move.change.own; halted = move.halted ∙ m.here.halted })
-      (λ k e. here_kept k v t r f v.births v.halts (net.nodes k) [] (m.there k e) (frame_home n k t s r a b x y home.home_was home.home_is e) refl (move.change.there k e) refl)
-      (λ i j. links_kept t r v.threads (under n L d.sends) m.links (after ∙ sym before) i j)
-      (agrees_slots p v t r f m.agrees (ap phase_of y ∙ sym (ap phase_of x)) (λ u k e. home_quiet n a home.home_was u k (sym x ∙ e)) (λ e. absurd (cc (e, x))) (subst (λ z. Plain z) (sym y) (home_plain n b home.home_is)) move.change.slots move.well)
-      (beside p n v l t ahead ahead d.node now hand more r.life move.next (life_then p net q n opening ahead w L m.now.spots l t r _ move.same refl) move.places move.booted)
+      (record {
+        here = record { threads = move.ties.threads; rows = move.ties.rows; busy = move.ties.busy; births = move.births ∙ m.here.births; free = move.change.free; halted = move.halted ∙ m.here.halted };
+        there = λ k e. here_kept k v t r (net.nodes k) [] (m.there k e) (frame_home n k t s r a b x y home.home_was home.home_is e) refl (move.change.there k e) refl;
+        links = λ i j. links_kept t r v.threads (under n L d.sends) m.links (after ∙ sym before) i j;
+        agrees = agrees_changed p v t r m.agrees (ap phase_of y ∙ sym (ap phase_of x)) (λ u k e. home_quiet n a home.home_was u k (sym x ∙ e)) (λ e. absurd (cc (e, x)))
+            (λ u k e. home_quiet n b home.home_is u k (sym y ∙ e)) (λ k e. absurd ((home_plain n b home.home_is).stays k (sym y ∙ e))) (λ k e. e) move.change.slots move.well;
+      })
+      (beside move.next (life_then p n m.now.spots l t r _ move.same refl) move.run_lists move.booted)
 
-  pub gives_ok : (d : Doing) (t : Tid) (end : End) (hs : List Busy) → (m : Is d (busy t (On n (Ends end)) ∷ hs)) → Is (gives t (waits wait.No (spot m.now.spots t).guest) d) (busy t (On n (Leaves end)) ∷ hs)
+  pub gives_ok : (d : EventSoFar) (t : Tid) (end : End) (hs : List Busy) → (m : Midst outset ahead L d (busy t (On n (Ends end)) ∷ hs)) → Midst outset ahead L (gives t (waits wait.No (m.now.spots.threads t).guest) d) (busy t (On n (Leaves end)) ∷ hs)
   unfolding gives thread_out slots_in say
   gives_ok d t end hs m =
       let v : Spots = m.now.spots in
-      let s : Spot = spot m.now.spots t in
-      let x : s.life ≡ On n (Ends end) = in_hand p net q n opening ahead w L d t (On n (Ends end)) hs m in
+      let s : Spot = m.now.spots.threads t in
+      let x : s.life ≡ On n (Ends end) = in_hand m in
       let mine : List ℕ = guest_slots s.guest in
       let r : Spot = record s { life = On n (Leaves end); guest = gives_slots mine s.guest } in
       let had : (y : ℕ) → has y (slots_held (held s.life s.guest)) ≡ has y mine = λ y. ap (λ z. has y (slots_held (held z s.guest))) x in
       let holder : (y : ℕ) → has y mine ≡ true → v.slots y ≡ Of_thread t = λ y h. thread_holds t (v.slots y) (sym (sym (had y) ∙ m.agrees.slots t y) ∙ h) in
-      (slots_step d _ (busy t (On n (Leaves end)) ∷ hs) (Gave t mine) t r _ (given n mine v.slots) (Ends end) (Leaves end) m
+      (slots_step (busy t (On n (Leaves end)) ∷ hs) (Gave t mine) t r _ (given n mine v.slots) (Ends end) (Leaves end) m
       (record {
         same = ap (λ z. spots_with (update v.threads t (record s { life = gave_life z; guest = gives_slots mine s.guest })) (given n mine v.slots) v.births v.halts v.remote) x;
         may = record { solo = tt; holders = holder; life = subst (λ z. MayGive n z s.guest mine) (sym x) (refl, refl); replies = tt; grants = tt };
         ties = record {
-          threads = map_removed is_tid is-true is-refl (thread_part n) v.threads t r d.node.threads m.here.threads (thread_was p net q n opening ahead w L r t (Leaves end) refl);
-          rows = kept is_tid is-true is-refl listed_name (row_part n) v.threads t r (map listed d.node.places.rows) m.here.rows (row_was p net q n opening ahead w L r t (Leaves end) refl ∙ sym (row_was p net q n opening ahead w L s t (Ends end) x));
-          busy = refronted is_tid is-true is-refl busy_name (busy_part n) v.threads t r hs (busy t (On n (Ends end))) (busy t (On n (Leaves end))) m.here.busy refl refl (busy_was p net q n opening ahead w L r t (On n (Leaves end)) refl (eq-eqb n n refl));
+          threads = map_removed is_tid is-true is-refl (thread_part n) v.threads t r d.node.threads m.here.threads (thread_was n t r (Leaves end) refl);
+          rows = kept is_tid is-true is-refl listed_name (row_part n) v.threads t r (map listed d.node.run_lists.rows) m.here.rows (row_was n t r (Leaves end) refl ∙ sym (row_was n t s (Ends end) x));
+          busy = refronted is_tid is-true is-refl busy_name (busy_part n) v.threads t r hs (busy t (On n (Ends end))) (busy t (On n (Leaves end))) m.here.busy refl refl (busy_was n t r (On n (Leaves end)) refl (eq-eqb n n refl));
         };
-        names = refl;
+        births = refl;
         halted = refl;
-        change = gives_change p n v t r d.node.slots.own mine m.agrees m.here.own holder (λ y. elim (has y mine) as (λ b. has y mine ≡ b → false ≡ cond b false (has y (slots_held (held s.life s.guest)))) [ true ↦ λ h. refl | false ↦ λ h. sym (had y ∙ h) ] refl);
+        change = gives_change p n v t r d.node.slots.free mine m.agrees m.here.free holder (λ y. elim (has y mine) as (λ b. has y mine ≡ b → false ≡ cond b false (has y (slots_held (held s.life s.guest)))) [ true ↦ λ h. refl | false ↦ λ h. sym (had y ∙ h) ] refl);
         well = tt;
-        next = own_stays p net q n opening ahead w L d t (On n (Ends end)) hs (Gave t mine) (On n (Leaves end)) (On n (Leaves end)) m refl refl (eq-eqb n n refl);
-        places = refl;
+        next = own_stays m refl refl (eq-eqb n n refl);
+        run_lists = refl;
         booted = refl;
       })
       (record {
@@ -220,27 +181,27 @@ module _ (p : Program) (net : Net) (q : Occasion) (n : ℕ) (opening ahead : Lis
         home_is = refl;
       })).midst
 
-  pub ends_ok : (d : Doing) (t : Tid) (end : End) (hs : List Busy) → (m : Is d (busy t (On n (Leaves end)) ∷ hs)) → Is (ends t end d) hs
+  pub ends_ok : (d : EventSoFar) (t : Tid) (end : End) (hs : List Busy) → (m : Midst outset ahead L d (busy t (On n (Leaves end)) ∷ hs)) → Midst outset ahead L (ends t end d) hs
   unfolding ends put say
   ends_ok d t end hs m =
       let v : Spots = m.now.spots in
-      let s : Spot = spot m.now.spots t in
-      let x : s.life ≡ On n (Leaves end) = in_hand p net q n opening ahead w L d t (On n (Leaves end)) hs m in
+      let s : Spot = m.now.spots.threads t in
+      let x : s.life ≡ On n (Leaves end) = in_hand m in
       let r : Spot = record s { life = Noting n end } in
-      (send_step p net q n opening ahead w L ahead d _ hs (Ended t end) t r d.node t.home (EndNote t.seq end) m
+      (send_step hs (Ended t end) t r d.node t.home (EndNote t.seq end) m
       (record {
         same = refl;
         may = record { solo = tt; holders = tt; life = x; replies = tt; grants = tt };
         ties = record {
-          threads = map_kept is_tid is-true is-refl (thread_part n) v.threads t r d.node.threads m.here.threads (sym (thread_was p net q n opening ahead w L s t (Leaves end) x));
-          rows = kept is_tid is-true is-refl listed_name (row_part n) v.threads t r (map listed d.node.places.rows) m.here.rows (sym (row_was p net q n opening ahead w L s t (Leaves end) x));
+          threads = map_kept is_tid is-true is-refl (thread_part n) v.threads t r d.node.threads m.here.threads (sym (thread_was n t s (Leaves end) x));
+          rows = kept is_tid is-true is-refl listed_name (row_part n) v.threads t r (map listed d.node.run_lists.rows) m.here.rows (sym (row_was n t s (Leaves end) x));
           busy = unfronted is_tid is-true is-refl busy_name (busy_part n) v.threads t r hs (busy t (On n (Leaves end))) m.here.busy refl refl;
         };
-        names = refl;
-        own = refl;
+        births = refl;
+        free = refl;
         halted = refl;
-        next = own_goes p net q n opening ahead w L d t (On n (Leaves end)) hs (Ended t end) (Noting n end) m refl refl refl;
-        places = refl;
+        next = own_goes m refl refl refl;
+        run_lists = refl;
         booted = refl;
       })
       (record {
@@ -263,139 +224,137 @@ module _ (p : Program) (net : Net) (q : Occasion) (n : ℕ) (opening ahead : Lis
         whole = plain _ refl;
       })).midst
 
-  pub end_thread_ok : (d : Doing) (t : Tid) (end : End) (hs : List Busy) → (m : Is d (busy t (On n (Ends end)) ∷ hs)) → Is (end_thread t (waits wait.No (spot m.now.spots t).guest) end d) hs
-  end_thread_ok d t end hs m = ends_ok (gives t (waits wait.No (spot m.now.spots t).guest) d) t end hs (gives_ok d t end hs m)
+  pub end_thread_ok : (d : EventSoFar) (t : Tid) (end : End) (hs : List Busy) → (m : Midst outset ahead L d (busy t (On n (Ends end)) ∷ hs)) → Midst outset ahead L (end_thread t (waits wait.No (m.now.spots.threads t).guest) end d) hs
+  end_thread_ok d t end hs m = ends_ok (gives t (waits wait.No (m.now.spots.threads t).guest) d) t end hs (gives_ok d t end hs m)
 
 -- ## Births
 
--- all that is said of these spots, with node n in the state s
-record Holds_there (p : Program) (net : Net) (n : ℕ) (v : Spots) (M : Links) (s : Local) (hand : List Busy) : Type 0 where
-  here : Here n v s hand
-  there : (k : ℕ) → eqb n k ≡ false → Here k v (net.nodes k) []
-  links : (i j : ℕ) → LinkStands i j (M i j) v.threads
-  agrees : Agrees p v
-
 -- a node with one more thread
-abbrev with_newborn : ℕ → Tid → Thread → ℕ → ℕ → Local → Local
-with_newborn n t x priority slot s = record s {
-  slots = record s.slots { own = minus s.slots.own (slot ∷ []) };
-  threads = insert_entry tid_cmp s.threads t x;
-  places = arrived t priority s.places;
-  names = s.names ++ Lives ∷ [];
+abbrev with_newborn : Tid → Guest → ℕ → Local → Local
+with_newborn t g slot s = record s {
+  slots = record s.slots { free = minus s.slots.free (slot ∷ []) };
+  threads = insert_entry tid_cmp s.threads t (waits wait.No g);
+  run_lists = arrived t g.priority s.run_lists;
+  births = s.births ++ Lives ∷ [];
 }
 
--- a new thread has its stack alone, and no block
-new_well : (entry a0 a1 sp slot priority : ℕ) → IsWellHeld (held (On 0 Ready) (newborn entry a0 a1 sp slot priority))
-new_well entry a0 a1 sp slot priority = record { stack = rw (eq-eqb slot slot refl) refl; blocks = λ x h. absurd (cc h) }
+-- the next name of node n, and what is told once it has a thread with this slot
+abbrev new_name : ℕ → Spots → Tid
+new_name n v = tid n (length (v.births n))
 
-module _ (p : Program) (net : Net) (n : ℕ) (v : Spots) (M : Links) (s : Local) (hand : List Busy) (below : nat_lt n (nodes_of p) ≡ true) (g : Guest) (verdict : Response) (slot : ℕ) (holder : v.slots slot ≡ Of_node n) (mine : guest_slots g ≡ slot ∷ []) (well : IsWellHeld (held (On n Ready) g)) where
-  abbrev new_name : Tid
-  new_name = tid n (length (v.births n))
+abbrev new_spot : ℕ → Guest → Spot
+new_spot n g = record { life = On n Ready; guest = g; verdict = no_response }
 
-  abbrev new_spot : Spot
-  new_spot = record { life = On n Ready; guest = g; verdict = verdict }
+abbrev born_spots : ℕ → Guest → (slot : ℕ) → Spots → Spots
+born_spots n g slot v =
+    spots_with (update v.threads (new_name n v) (new_spot n g)) (at_node v.slots slot (Of_thread (new_name n v))) (at_node v.births n (v.births n ++ Lives ∷ [])) v.halts v.remote
 
-  abbrev born_spots : Spots
-  born_spots = spots_with (update v.threads new_name new_spot) (at_node v.slots slot (Of_thread new_name)) (at_node v.births n (v.births n ++ Lives ∷ [])) v.halts v.remote
+-- a guest that node n can begin with this slot: it has its stack alone, and no block
+record Newborn (n : ℕ) (v : Spots) (g : Guest) (slot : ℕ) : Type 0 where
+  holder : v.slots slot ≡ Of_node n
+  mine : guest_slots g ≡ slot ∷ []
+  well : IsWellHeld (held (On n Ready) g)
 
-  unborn : Holds_there p net n v M s hand → (v.threads new_name).life ≡ Unborn
-  unborn o = unborn_of (v.threads new_name).life (sym (ap phase_at (get-past (v.births n))) ∙ o.agrees.named new_name)
+new_guest : (n : ℕ) (v : Spots) (entry a0 a1 sp slot priority : ℕ) → v.slots slot ≡ Of_node n → Newborn n v (newborn entry a0 a1 sp slot priority) slot
+new_guest n v entry a0 a1 sp slot priority holder = record { holder = holder; mine = refl; well = record { stack = rw (eq-eqb slot slot refl) refl; blocks = λ x h. absurd (cc h) } }
 
-  -- the births of another thread are as before
-  other_births : (u : Tid) → is_tid new_name u ≡ false → slice_get (at_node v.births n (v.births n ++ Lives ∷ []) u.home) u.seq ≡ slice_get (v.births u.home) u.seq
-  other_births u e = elim (eqb n u.home) as (λ b. eqb n u.home ≡ b → slice_get (cond b (v.births n ++ Lives ∷ []) (v.births u.home)) u.seq ≡ slice_get (v.births u.home) u.seq) [
-    | true ↦ λ h.
-        let home : n ≡ u.home = eqb-true n u.home h in
-        subst (λ k. slice_get (v.births n ++ Lives ∷ []) u.seq ≡ slice_get (v.births k) u.seq) home
-        (get-push (v.births n) Lives u.seq ∙ elim (eqb u.seq (length (v.births n))) as (λ b. eqb u.seq (length (v.births n)) ≡ b → cond b (Some Lives) (slice_get (v.births n) u.seq) ≡ slice_get (v.births n) u.seq) [
-          | true ↦ λ k. absurd (is-false new_name u e (same_name new_name u home (sym (eqb-true u.seq (length (v.births n)) k))))
-          | false ↦ λ k. refl
-        ] refl)
-    | false ↦ λ h. refl
-  ] refl
+unborn : {p : Program} {v : Spots} (n : ℕ) → Agrees p v → (v.threads (new_name n v)).life ≡ Unborn
+unborn {v = v} n a = unborn_of (v.threads (new_name n v)).life (sym (ap phase_at (get-past (v.births n))) ∙ a.named (new_name n v))
 
-  own_birth : slice_get (at_node v.births n (v.births n ++ Lives ∷ []) n) (length (v.births n)) ≡ Some Lives
-  own_birth = rw (eq-eqb n n refl) (get-push (v.births n) Lives (length (v.births n)) ∙ (rw (eq-eqb (length (v.births n)) (length (v.births n)) refl) refl))
+-- the births of another thread are as before
+other_births : (n : ℕ) (v : Spots) (u : Tid) → is_tid (new_name n v) u ≡ false → slice_get (at_node v.births n (v.births n ++ Lives ∷ []) u.home) u.seq ≡ slice_get (v.births u.home) u.seq
+other_births n v u e = elim (eqb n u.home) as (λ b. eqb n u.home ≡ b → slice_get (cond b (v.births n ++ Lives ∷ []) (v.births u.home)) u.seq ≡ slice_get (v.births u.home) u.seq) [
+  | true ↦ λ h.
+      let home : n ≡ u.home = eqb-true n u.home h in
+      subst (λ k. slice_get (v.births n ++ Lives ∷ []) u.seq ≡ slice_get (v.births k) u.seq) home
+      (get-push (v.births n) Lives u.seq ∙ elim (eqb u.seq (length (v.births n))) as (λ b. eqb u.seq (length (v.births n)) ≡ b → cond b (Some Lives) (slice_get (v.births n) u.seq) ≡ slice_get (v.births n) u.seq) [
+        | true ↦ λ k. absurd (is-false (new_name n v) u e (same_name (new_name n v) u home (sym (eqb-true u.seq (length (v.births n)) k))))
+        | false ↦ λ k. refl
+      ] refl)
+  | false ↦ λ h. refl
+] refl
 
-  newcomer : Holds_there p net n v M s hand → Holds_there p net n born_spots M (with_newborn n new_name (waits wait.No g) g.priority slot s) hand
-  newcomer o =
-      let t : Tid = new_name in
-      let old : Spot = v.threads t in
-      let x : old.life ≡ Unborn = unborn o in
-      record {
-        here = record {
-          threads = map_added is_tid is-true is-refl tid_cmp (λ a b. refl) (thread_part n) v.threads t new_spot s.threads (waits wait.No g) o.here.threads (ap (λ z. thread_in_life n z old.guest) x) (rw (eq-eqb n n refl) refl);
-          rows = subst (λ rows. StandsFor is_tid listed_name (row_part n) rows (update v.threads t new_spot)) (sym (listed_arrived_at t))
-              (added is_tid is-true is-refl listed_name (row_part n) v.threads t new_spot (map listed s.places.rows) _ o.here.rows refl (ap (λ z. row_in_life n t z old.guest.priority) x) (rw (eq-eqb n n refl) refl));
-          busy = kept is_tid is-true is-refl busy_name (busy_part n) v.threads t new_spot hand o.here.busy (sym (busy_none n t old Unborn x refl));
-          names = rw (eq-eqb n n refl) (ap (λ bs. bs ++ Lives ∷ []) o.here.names);
-          own = λ y. has-minus y s.slots.own (slot ∷ []) ∙ elim (eqb slot y) as (λ b. cond (cond b true false) false (has y s.slots.own) ≡ is_free n (cond b (Of_thread t) (v.slots y))) [ true ↦ refl | false ↦ o.here.own y ];
-          halted = o.here.halted;
-        };
-        there = λ k e. here_kept k v t new_spot (at_node v.slots slot (Of_thread t)) (at_node v.births n (v.births n ++ Lives ∷ [])) v.halts (net.nodes k) [] (o.there k e)
-            (record {
-              thread = away_thread n k t new_spot Ready refl e ∙ sym (ap (λ z. thread_in_life k z old.guest) x);
-              row = away_row n k t new_spot Ready refl e ∙ sym (ap (λ z. row_in_life k t z old.guest.priority) x);
-              busy = sym (busy_none k t old Unborn x refl);
-            })
-            (rw e refl)
-            (λ y. elim (eqb slot y) as (λ b. eqb slot y ≡ b → is_free k (cond b (Of_thread t) (v.slots y)) ≡ is_free k (v.slots y)) [
-              | true ↦ λ h. sym e ∙ ap (is_free k) (sym holder ∙ ap v.slots (eqb-true slot y h))
-              | false ↦ λ h. refl
-            ] refl)
-            refl;
-        links = λ i j. links_kept t new_spot v.threads M o.links (sym (ap (λ z. ways_of t z old.verdict old.guest) x)) i j;
-        agrees = record {
-          homes = λ u out. elim (is_tid t u) as (λ b. is_tid t u ≡ b → (cond b new_spot (v.threads u)).life ≡ Unborn) [
-            | true ↦ λ e. let h : n ≡ u.home = ap (λ (z : Tid). z.home) (is-true t u e) in absurd (cc (below, out, ap (λ k. nat_lt k (nodes_of p)) h))
-            | false ↦ λ e. o.agrees.homes u out
-          ] refl;
-          named = λ u. elim (is_tid t u) as (λ b. is_tid t u ≡ b → phase_at (slice_get (at_node v.births n (v.births n ++ Lives ∷ []) u.home) u.seq) ≡ phase_of (cond b new_spot (v.threads u)).life) [
-            | true ↦ λ e. subst (λ (z : Tid). phase_at (slice_get (at_node v.births n (v.births n ++ Lives ∷ []) z.home) z.seq) ≡ During) (is-true t u e) (ap phase_at own_birth)
-            | false ↦ λ e. ap phase_at (other_births u e) ∙ o.agrees.named u
-          ] refl;
-          waits = λ u by at e. elim (is_tid t by) as (λ b. (cond b new_spot (v.threads by)).life ≡ On at (Awaits u) → slice_get (at_node v.births n (v.births n ++ Lives ∷ []) u.home) u.seq ≡ Some (Awaited by at)) [
-            | true ↦ λ f. absurd (cc f)
-            | false ↦ λ f.
-                let was : slice_get (v.births u.home) u.seq ≡ Some (Awaited by at) = o.agrees.waits u by at f in
-                elim (is_tid t u) as (λ b. is_tid t u ≡ b → slice_get (at_node v.births n (v.births n ++ Lives ∷ []) u.home) u.seq ≡ Some (Awaited by at)) [
-                  | true ↦ λ g. let none : slice_get (v.births u.home) u.seq ≡ None = subst (λ (z : Tid). slice_get (v.births z.home) z.seq ≡ None) (is-true t u g) (get-past (v.births n)) in absurd (cc (was, none))
-                  | false ↦ λ g. other_births u g ∙ was
-                ] refl
-          ] e;
-          stays = λ u k e. elim (is_tid t u) as (λ b. (cond b new_spot (v.threads u)).life ≡ On k Stays → v.halts k ≡ true) [ true ↦ λ f. absurd (cc f) | false ↦ λ f. o.agrees.stays u k f ] e;
-          awaits = λ u by at e. elim (is_tid t u) as (λ b. is_tid t u ≡ b → (update v.threads t new_spot by).life ≡ On at (Awaits u)) [
-            | true ↦ λ f. let same : Some Lives ≡ Some (Awaited by at) = sym own_birth ∙ subst (λ (z : Tid). slice_get (at_node v.births n (v.births n ++ Lives ∷ []) z.home) z.seq ≡ Some (Awaited by at)) (sym (is-true t u f)) e in absurd (cc same)
-            | false ↦ λ f.
-                let was : (v.threads by).life ≡ On at (Awaits u) = o.agrees.awaits u by at (sym (other_births u f) ∙ e) in
-                elim (is_tid t by) as (λ b. is_tid t by ≡ b → (cond b new_spot (v.threads by)).life ≡ On at (Awaits u)) [
-                  | true ↦ λ h. absurd (cc (x, was, ap (λ z. (v.threads z).life) (is-true t by h)))
-                  | false ↦ λ h. was
-                ] refl
-          ] refl;
-          slots = λ u y. elim (is_tid t u) as (λ b. is_tid t u ≡ b → has y (slots_held (held (cond b new_spot (v.threads u)).life (cond b new_spot (v.threads u)).guest)) ≡ is_thread u (cond (eqb slot y) (Of_thread t) (v.slots y))) [
-            | true ↦ λ e. ap (λ xs. has y xs) mine ∙ subst (λ z. cond (eqb slot y) true false ≡ is_thread z (cond (eqb slot y) (Of_thread t) (v.slots y))) (is-true t u e)
-                (elim (eqb slot y) as (λ b. cond b true false ≡ is_thread t (cond b (Of_thread t) (v.slots y))) [
-                  | true ↦ sym (is-refl t)
-                  | false ↦ ap (λ z. has y (slots_held (held z old.guest))) (sym x) ∙ o.agrees.slots t y
-                ])
-            | false ↦ λ e. o.agrees.slots u y ∙ elim (eqb slot y) as (λ b. eqb slot y ≡ b → is_thread u (v.slots y) ≡ is_thread u (cond b (Of_thread t) (v.slots y))) [
-              | true ↦ λ h. ap (is_thread u) (sym (ap v.slots (eqb-true slot y h)) ∙ holder) ∙ sym (is-flip t u e)
-              | false ↦ λ h. refl
-            ] refl
-          ] refl;
-          blocks = λ u. elim (is_tid t u) as (λ b. IsWellHeld (held (cond b new_spot (v.threads u)).life (cond b new_spot (v.threads u)).guest)) [ true ↦ well | false ↦ o.agrees.blocks u ];
-        };
-      }
-    where
-      listed_arrived_at : (t : Tid) → map listed (arrived t g.priority s.places).rows ≡ map listed s.places.rows ++ (record { tid = t; list = 0; priority = g.priority }) ∷ []
-      listed_arrived_at t = listed_arrived t g.priority s.places
+own_birth : (n : ℕ) (v : Spots) → slice_get (at_node v.births n (v.births n ++ Lives ∷ []) n) (length (v.births n)) ≡ Some Lives
+own_birth n v = rw (eq-eqb n n refl) (get-push (v.births n) Lives (length (v.births n)) ∙ (rw (eq-eqb (length (v.births n)) (length (v.births n)) refl) refl))
+
+-- nodes and links stand for what is told with it
+newcomer : {p : Program} {net : Net} {n : ℕ} {v : Spots} {M : Links} {s : Local} {hand : List Busy} (g : Guest) (slot : ℕ) → nat_lt n (nodes_of p) ≡ true → Newborn n v g slot → StandsAmid p net n v M s hand
+    → StandsAmid p net n (born_spots n g slot v) M (with_newborn (new_name n v) g slot s) hand
+newcomer {p} {net} {n} {v} {M} {s} {hand} g slot below new o =
+    let t : Tid = new_name n v in
+    let r : Spot = new_spot n g in
+    let old : Spot = v.threads t in
+    let x : old.life ≡ Unborn = unborn n o.agrees in
+    record {
+      here = record {
+        threads = map_added is_tid is-true is-refl tid_cmp (λ a b. refl) (thread_part n) v.threads t r s.threads (waits wait.No g) o.here.threads (ap (λ z. thread_in_life n z old.guest) x) (rw (eq-eqb n n refl) refl);
+        rows = rows_arrived n v.threads t r s.run_lists o.here.rows (ap (λ z. row_in_life n t z old.guest.priority) x) (rw (eq-eqb n n refl) refl);
+        busy = kept is_tid is-true is-refl busy_name (busy_part n) v.threads t r hand o.here.busy (sym (busy_none n t old Unborn x refl));
+        births = rw (eq-eqb n n refl) (ap (λ bs. bs ++ Lives ∷ []) o.here.births);
+        free = λ y. has-minus y s.slots.free (slot ∷ []) ∙ elim (eqb slot y) as (λ b. cond (cond b true false) false (has y s.slots.free) ≡ is_free n (cond b (Of_thread t) (v.slots y))) [ true ↦ refl | false ↦ o.here.free y ];
+        halted = o.here.halted;
+      };
+      there = λ k e. here_kept k v t r (net.nodes k) [] (o.there k e)
+          (record {
+            thread = away_thread n k t r Ready refl e ∙ sym (ap (λ z. thread_in_life k z old.guest) x);
+            row = away_row n k t r Ready refl e ∙ sym (ap (λ z. row_in_life k t z old.guest.priority) x);
+            busy = sym (busy_none k t old Unborn x refl);
+          })
+          (rw e refl)
+          (λ y. elim (eqb slot y) as (λ b. eqb slot y ≡ b → is_free k (cond b (Of_thread t) (v.slots y)) ≡ is_free k (v.slots y)) [
+            | true ↦ λ h. sym e ∙ ap (is_free k) (sym new.holder ∙ ap v.slots (eqb-true slot y h))
+            | false ↦ λ h. refl
+          ] refl)
+          refl;
+      links = λ i j. links_kept t r v.threads M o.links (sym (ap (λ z. ways_of t z old.verdict old.guest) x)) i j;
+      agrees = record {
+        homes = λ u out. elim (is_tid t u) as (λ b. is_tid t u ≡ b → (cond b r (v.threads u)).life ≡ Unborn) [
+          | true ↦ λ e. let h : n ≡ u.home = ap (λ (z : Tid). z.home) (is-true t u e) in absurd (cc (below, out, ap (λ k. nat_lt k (nodes_of p)) h))
+          | false ↦ λ e. o.agrees.homes u out
+        ] refl;
+        named = λ u. elim (is_tid t u) as (λ b. is_tid t u ≡ b → phase_at (slice_get (at_node v.births n (v.births n ++ Lives ∷ []) u.home) u.seq) ≡ phase_of (cond b r (v.threads u)).life) [
+          | true ↦ λ e. subst (λ (z : Tid). phase_at (slice_get (at_node v.births n (v.births n ++ Lives ∷ []) z.home) z.seq) ≡ During) (is-true t u e) (ap phase_at (own_birth n v))
+          | false ↦ λ e. ap phase_at (other_births n v u e) ∙ o.agrees.named u
+        ] refl;
+        waits = λ u by at e. elim (is_tid t by) as (λ b. (cond b r (v.threads by)).life ≡ On at (Awaits u) → slice_get (at_node v.births n (v.births n ++ Lives ∷ []) u.home) u.seq ≡ Some (Awaited by at)) [
+          | true ↦ λ f. absurd (cc f)
+          | false ↦ λ f.
+              let was : slice_get (v.births u.home) u.seq ≡ Some (Awaited by at) = o.agrees.waits u by at f in
+              elim (is_tid t u) as (λ b. is_tid t u ≡ b → slice_get (at_node v.births n (v.births n ++ Lives ∷ []) u.home) u.seq ≡ Some (Awaited by at)) [
+                | true ↦ λ g. let none : slice_get (v.births u.home) u.seq ≡ None = subst (λ (z : Tid). slice_get (v.births z.home) z.seq ≡ None) (is-true t u g) (get-past (v.births n)) in absurd (cc (was, none))
+                | false ↦ λ g. other_births n v u g ∙ was
+              ] refl
+        ] e;
+        stays = λ u k e. elim (is_tid t u) as (λ b. (cond b r (v.threads u)).life ≡ On k Stays → v.halts k ≡ true) [ true ↦ λ f. absurd (cc f) | false ↦ λ f. o.agrees.stays u k f ] e;
+        awaits = λ u by at e. elim (is_tid t u) as (λ b. is_tid t u ≡ b → (update v.threads t r by).life ≡ On at (Awaits u)) [
+          | true ↦ λ f. let same : Some Lives ≡ Some (Awaited by at) = sym (own_birth n v) ∙ subst (λ (z : Tid). slice_get (at_node v.births n (v.births n ++ Lives ∷ []) z.home) z.seq ≡ Some (Awaited by at)) (sym (is-true t u f)) e in absurd (cc same)
+          | false ↦ λ f.
+              let was : (v.threads by).life ≡ On at (Awaits u) = o.agrees.awaits u by at (sym (other_births n v u f) ∙ e) in
+              elim (is_tid t by) as (λ b. is_tid t by ≡ b → (cond b r (v.threads by)).life ≡ On at (Awaits u)) [
+                | true ↦ λ h. absurd (cc (x, was, ap (λ z. (v.threads z).life) (is-true t by h)))
+                | false ↦ λ h. was
+              ] refl
+        ] refl;
+        slots = λ u y. elim (is_tid t u) as (λ b. is_tid t u ≡ b → has y (slots_held (held (cond b r (v.threads u)).life (cond b r (v.threads u)).guest)) ≡ is_thread u (cond (eqb slot y) (Of_thread t) (v.slots y))) [
+          | true ↦ λ e. ap (λ xs. has y xs) new.mine ∙ subst (λ z. cond (eqb slot y) true false ≡ is_thread z (cond (eqb slot y) (Of_thread t) (v.slots y))) (is-true t u e)
+              (elim (eqb slot y) as (λ b. cond b true false ≡ is_thread t (cond b (Of_thread t) (v.slots y))) [
+                | true ↦ sym (is-refl t)
+                | false ↦ ap (λ z. has y (slots_held (held z old.guest))) (sym x) ∙ o.agrees.slots t y
+              ])
+          | false ↦ λ e. o.agrees.slots u y ∙ elim (eqb slot y) as (λ b. eqb slot y ≡ b → is_thread u (v.slots y) ≡ is_thread u (cond b (Of_thread t) (v.slots y))) [
+            | true ↦ λ h. ap (is_thread u) (sym (ap v.slots (eqb-true slot y h)) ∙ new.holder) ∙ sym (is-flip t u e)
+            | false ↦ λ h. refl
+          ] refl
+        ] refl;
+        blocks = λ u. elim (is_tid t u) as (λ b. IsWellHeld (held (cond b r (v.threads u)).life (cond b r (v.threads u)).guest)) [ true ↦ new.well | false ↦ o.agrees.blocks u ];
+      };
+    }
 
 -- ## The steps of a birth
 
 -- a node's lowest run is the lowest that no thread holds
-pub lowest_is : (n count : ℕ) (v : Spots) (s : Local) (hand : List Busy) → Here n v s hand → lowest_free n count v ≡ free_run s.slots.own count
-lowest_is n count v s hand h = lowest_run-same (λ x. is_free n (v.slots x)) (λ x. has x s.slots.own) count 4096 (λ x. sym (h.own x))
+pub lowest_is : (n count : ℕ) (v : Spots) (s : Local) (hand : List Busy) → Here n v s hand → lowest_free n count v ≡ free_run s.slots.free count
+lowest_is n count v s hand h = lowest_run-same (λ x. is_free n (v.slots x)) (λ x. has x s.slots.free) count 4096 (λ x. sym (h.free x))
 
 pub lowest_held : (n count : ℕ) (v : Spots) (first y : ℕ) → lowest_free n count v ≡ Some first → has y (run first count) ≡ true → v.slots y ≡ Of_node n
 lowest_held n count v first y e h = node_holds n (v.slots y) (found (λ x. is_free n (v.slots x)) count 4096 first y e h)
@@ -406,38 +365,36 @@ one_run slot = has-run slot slot 1 ∙ grind (arith, ltb-true slot slot, lt-ltb 
 least_held : (n : ℕ) (v : Spots) (slot : ℕ) → lowest_free n 1 v ≡ Some slot → v.slots slot ≡ Of_node n
 least_held n v slot e = lowest_held n 1 v slot slot e (one_run slot)
 
-module _ (p : Program) (net : Net) (q : Occasion) (n : ℕ) (opening ahead : List Item) (w : World) (L : Links) (below : nat_lt n (nodes_of p) ≡ true) where
-  abbrev Is_so : Doing → List Busy → Type 0
-  Is_so d hand = Midst p net q n opening ahead w L d hand
+module _ {outset : Outset} {ahead : List Item} {L : Links} (below : nat_lt outset.node (nodes_of outset.program) ≡ true) where
+  open outset use {program as p, net, occasion as q, node as n, opening, world as w}
 
   -- the first thread
-  pub main_born_ok : (d : Doing) (slot : ℕ) (i : Item) → (m : Midst p net q n opening (i ∷ ahead) w L d []) → i ≡ Says (Born (tid n (length (m.now.spots.births n))) why.Main p.image.main 0 0 (stack_end slot) slot) → n ≡ 0 → free_slot d.node.slots.own ≡ Some slot
-      → Is_so (birth n why.Main p.image.main 0 main_priority slot d) []
-  unfolding birth arrive thread_in name_in slots_out say
+  pub main_born_ok : (d : EventSoFar) (slot : ℕ) (i : Item) → (m : Midst outset (i ∷ ahead) L d []) → i ≡ Says (Born (tid n (length (m.now.spots.births n))) why.Main p.image.main 0 0 (stack_end slot) slot) → n ≡ 0 → free_slot d.node.slots.free ≡ Some slot
+      → Midst outset ahead L (birth n why.Main p.image.main 0 main_priority slot d) []
+  unfolding birth arrive thread_in birth_in slots_out say
   main_born_ok d slot i m says zero free =
       let v : Spots = m.now.spots in
-      let t : Tid = tid n (length (v.births n)) in
+      let t : Tid = new_name n v in
       let g : Guest = newborn p.image.main 0 0 (stack_end slot) slot main_priority in
       let least : lowest_free n 1 v ≡ Some slot = lowest_is n 1 v d.node [] m.here ∙ free in
-      let o : Holds_there p net n v (under n L d.sends) d.node [] = record { here = m.here; there = m.there; links = m.links; agrees = m.agrees } in
       let holder : v.slots slot ≡ Of_node n = least_held n v slot least in
-      let new : Holds_there p net n (born_spots p net n v (under n L d.sends) d.node [] below g no_response slot holder refl (new_well p.image.main 0 0 (stack_end slot) slot main_priority)) (under n L d.sends) (with_newborn n t (waits wait.No g) g.priority slot d.node) [] =
-      newcomer p net n v (under n L d.sends) d.node [] below g no_response slot holder refl (new_well p.image.main 0 0 (stack_end slot) slot main_priority) o in
-      subst (λ (k : ℕ). Midst p net q n opening ahead w L (record { node = with_newborn n (tid n k) (waits wait.No g) g.priority slot d.node; labels = d.labels ++ Born (tid n k) why.Main p.image.main 0 0 (stack_end slot) slot ∷ []; sends = d.sends; prints = d.prints }) [])
-      (ap length (sym m.here.names))
-      (labelled p net q n opening ahead w (i ∷ ahead) L L d [] [] (Born t why.Main p.image.main 0 0 (stack_end slot) slot) _ _ d.sends d.prints m (ap (λ z. spots_with (update v.threads t (record { life = On n Ready; guest = z; verdict = no_response })) (at_node v.slots slot (Of_thread t)) (at_node v.births n (v.births n ++ Lives ∷ [])) v.halts v.remote) (no_bytes (stack_end slot) g))
-      (record { solo = ((refl, refl, zero), refl, plain_start slot); holders = holder; life = (unborn p net n v (under n L d.sends) d.node [] below g no_response slot holder refl (new_well p.image.main 0 0 (stack_end slot) slot main_priority) o, refl); replies = tt; grants = least })
-      (sym (append-nil d.sends)) (sym (append-nil d.prints)) new.here new.there new.links new.agrees
-      (record { places = refl; booted = refl; next = subst (λ j. IsBy n (Born t why.Main p.image.main 0 0 (stack_end slot) slot) v j) (sym says) refl; still = refl })).midst
+      subst (λ (k : ℕ). Midst outset ahead L (record { node = with_newborn (tid n k) g slot d.node; labels = d.labels ++ Born (tid n k) why.Main p.image.main 0 0 (stack_end slot) slot ∷ []; sends = d.sends; prints = d.prints }) [])
+      (ap length (sym m.here.births))
+      (labelled L [] (Born t why.Main p.image.main 0 0 (stack_end slot) slot) (born_spots n g slot v) _ m
+      (ap (λ z. spots_with (update v.threads t (new_spot n z)) (at_node v.slots slot (Of_thread t)) (at_node v.births n (v.births n ++ Lives ∷ [])) v.halts v.remote) (no_bytes (stack_end slot) g))
+      (record { solo = ((refl, refl, zero), refl, plain_start slot); holders = holder; life = (unborn n m.agrees, refl); replies = tt; grants = least })
+      (sym (append-nil d.sends)) (sym (append-nil d.prints))
+      (newcomer g slot below (new_guest n v p.image.main 0 0 (stack_end slot) slot main_priority holder) (amid m))
+      (record { run_lists = refl; booted = refl; next = subst (λ j. IsBy n (Born t why.Main p.image.main 0 0 (stack_end slot) slot) v j) (sym says) refl; still = refl })).midst
 
   -- a thread that another one creates, which is due the new name then
-  pub born_ok : (d : Doing) (by : Tid) (e a k slot : ℕ) (hs : List Busy) → (m : Is_so d (busy by (On n (Served (Create e a k))) ∷ hs)) → free_slot d.node.slots.own ≡ Some slot
-      → Is_so (birth n (why.Create by) e a k slot d) (busy by (On n (Due (tid_value (next_name n d)))) ∷ hs)
-  unfolding birth arrive thread_in name_in slots_out say
+  pub born_ok : (d : EventSoFar) (by : Tid) (e a k slot : ℕ) (hs : List Busy) → (m : Midst outset ahead L d (busy by (On n (Served (Create e a k))) ∷ hs)) → free_slot d.node.slots.free ≡ Some slot
+      → Midst outset ahead L (birth n (why.Create by) e a k slot d) (busy by (On n (Due (tid_value (next_name n d)))) ∷ hs)
+  unfolding birth arrive thread_in birth_in slots_out say
   born_ok d by e a k slot hs m free =
       let v : Spots = m.now.spots in
       let s : Spot = v.threads by in
-      let x : s.life ≡ On n (Served (Create e a k)) = in_hand p net q n opening ahead w L d by (On n (Served (Create e a k))) hs m in
+      let x : s.life ≡ On n (Served (Create e a k)) = in_hand m in
       let t : Tid = tid n (length (v.births n)) in
       let g : Guest = newborn e a 0 (stack_end slot) slot k in
       let r : Spot = record s { life = On n (Due (tid_value t)) } in
@@ -446,35 +403,34 @@ module _ (p : Program) (net : Net) (q : Occasion) (n : ℕ) (opening ahead : Lis
       let v1 : Spots = spots_with (update v.threads by r) v.slots v.births v.halts v.remote in
       let hand : List Busy = busy by (On n (Due (tid_value t))) ∷ hs in
       let M : Links = under n L d.sends in
-      let none : Response = no_response in
-      let served : Holds_there p net n v1 M d.node hand = record {
+      let served : StandsAmid p net n v1 M d.node hand = record {
         here = record {
-          threads = map_kept is_tid is-true is-refl (thread_part n) v.threads by r d.node.threads m.here.threads (thread_was p net q n opening ahead w L r by (Due (tid_value t)) refl ∙ sym (thread_was p net q n opening ahead w L s by (Served (Create e a k)) x));
-          rows = kept is_tid is-true is-refl listed_name (row_part n) v.threads by r (map listed d.node.places.rows) m.here.rows (row_was p net q n opening ahead w L r by (Due (tid_value t)) refl ∙ sym (row_was p net q n opening ahead w L s by (Served (Create e a k)) x));
-          busy = refronted is_tid is-true is-refl busy_name (busy_part n) v.threads by r hs (busy by (On n (Served (Create e a k)))) (busy by (On n (Due (tid_value t)))) m.here.busy refl refl (busy_was p net q n opening ahead w L r by (On n (Due (tid_value t))) refl (eq-eqb n n refl));
-          names = m.here.names;
-          own = m.here.own;
+          threads = map_kept is_tid is-true is-refl (thread_part n) v.threads by r d.node.threads m.here.threads (thread_was n by r (Due (tid_value t)) refl ∙ sym (thread_was n by s (Served (Create e a k)) x));
+          rows = kept is_tid is-true is-refl listed_name (row_part n) v.threads by r (map listed d.node.run_lists.rows) m.here.rows (row_was n by r (Due (tid_value t)) refl ∙ sym (row_was n by s (Served (Create e a k)) x));
+          busy = refronted is_tid is-true is-refl busy_name (busy_part n) v.threads by r hs (busy by (On n (Served (Create e a k)))) (busy by (On n (Due (tid_value t)))) m.here.busy refl refl (busy_was n by r (On n (Due (tid_value t))) refl (eq-eqb n n refl));
+          births = m.here.births;
+          free = m.here.free;
           halted = m.here.halted;
         };
-        there = λ j f. here_kept j v by r v.slots v.births v.halts (net.nodes j) [] (m.there j f) (frame_home n j by s r (Served (Create e a k)) (Due (tid_value t)) x refl refl refl f) refl (λ y. refl) refl;
+        there = λ j f. here_kept j v by r (net.nodes j) [] (m.there j f) (frame_home n j by s r (Served (Create e a k)) (Due (tid_value t)) x refl refl refl f) refl (λ y. refl) refl;
         links = λ i j. links_kept by r v.threads M m.links (sym (ap (λ z. ways_of by z s.verdict s.guest) x)) i j;
         agrees = agrees_kept p v by r v.halts m.agrees (sym (ap phase_of x)) (λ u j f. home_quiet n (Served (Create e a k)) refl u j (sym x ∙ f)) (keeps _ _ (ap (λ z. held z s.guest) (sym x))) (λ f. absurd (cc (f, x))) (λ u j f. absurd (cc f)) (λ j f. absurd (cc f)) (λ j f. f);
       } in
-      let new : Holds_there p net n (born_spots p net n v1 M d.node hand below g none slot holder refl (new_well e a 0 (stack_end slot) slot k)) M (with_newborn n t (waits wait.No g) g.priority slot d.node) hand = newcomer p net n v1 M d.node hand below g none slot holder refl (new_well e a 0 (stack_end slot) slot k) served in
-      let fresh : (v.threads t).life ≡ Unborn = unborn_of (v.threads t).life (sym (ap phase_at (get-past (v.births n))) ∙ m.agrees.named t) in
-      let same : after_label p n (Born t (why.Create by) e a 0 (stack_end slot) slot) v ≡ born_spots p net n v1 M d.node hand below g none slot holder refl (new_well e a 0 (stack_end slot) slot k) =
+      let fresh : (v.threads t).life ≡ Unborn = unborn n m.agrees in
+      let same : after_label p n (Born t (why.Create by) e a 0 (stack_end slot) slot) v ≡ born_spots n g slot v1 =
       ap (λ z. spots_with (update (update v.threads by r) t (born_spot n [] e a 0 (stack_end slot) slot (asked_priority z))) (at_node v.slots slot (Of_thread t)) (at_node v.births n (v.births n ++ Lives ∷ [])) v.halts v.remote) x
-      ∙ ap (λ z. spots_with (update (update v.threads by r) t (record { life = On n Ready; guest = z; verdict = no_response })) (at_node v.slots slot (Of_thread t)) (at_node v.births n (v.births n ++ Lives ∷ [])) v.halts v.remote) (no_bytes (stack_end slot) g) in
-      subst (λ (j : ℕ). Midst p net q n opening ahead w L (record { node = with_newborn n (tid n j) (waits wait.No g) g.priority slot d.node; labels = d.labels ++ Born (tid n j) (why.Create by) e a 0 (stack_end slot) slot ∷ []; sends = d.sends; prints = d.prints }) (busy by (On n (Due (tid_value (tid n j)))) ∷ hs))
-      (ap length (sym m.here.names))
-      (labelled p net q n opening ahead w ahead L L d _ hand (Born t (why.Create by) e a 0 (stack_end slot) slot) _ _ d.sends d.prints m same
+      ∙ ap (λ z. spots_with (update (update v.threads by r) t (new_spot n z)) (at_node v.slots slot (Of_thread t)) (at_node v.births n (v.births n ++ Lives ∷ [])) v.halts v.remote) (no_bytes (stack_end slot) g) in
+      subst (λ (j : ℕ). Midst outset ahead L (record { node = with_newborn (tid n j) g slot d.node; labels = d.labels ++ Born (tid n j) (why.Create by) e a 0 (stack_end slot) slot ∷ []; sends = d.sends; prints = d.prints }) (busy by (On n (Due (tid_value (tid n j)))) ∷ hs))
+      (ap length (sym m.here.births))
+      (labelled L hand (Born t (why.Create by) e a 0 (stack_end slot) slot) _ _ m same
       (record { solo = ((k, x), refl, plain_start slot); holders = holder; life = (fresh, refl); replies = tt; grants = least })
-      (sym (append-nil d.sends)) (sym (append-nil d.prints)) new.here new.there new.links new.agrees
+      (sym (append-nil d.sends)) (sym (append-nil d.prints))
+      (newcomer g slot below (new_guest n v1 e a 0 (stack_end slot) slot k holder) served)
       (record {
-        places = ap (λ z. arrived t (asked_priority z) d.node.places) (sym x);
+        run_lists = ap (λ z. arrived t (asked_priority z) d.node.run_lists) (sym x);
         booted = refl;
         next = (refl, ap (is_busy n) x ∙ eq-eqb n n refl);
-        still = sym (ap (λ z. cond (is_busy n z) (Does (Its by) ∷ []) [] ++ doing hs ahead) (ap (λ (z : Spots). (z.threads by).life) same ∙ at_by t r v (record { life = On n Ready; guest = g; verdict = none }) x fresh) ∙ (rw (eq-eqb n n refl) refl));
+        still = sym (ap (λ z. cond (is_busy n z) (Does (Its by) ∷ []) [] ++ doing hs ahead) (ap (λ (z : Spots). (z.threads by).life) same ∙ at_by t r v (new_spot n g) x fresh) ∙ (rw (eq-eqb n n refl) refl));
       })).midst
     where
       at_by : (t : Tid) (r : Spot) (v : Spots) (s : Spot) → (v.threads by).life ≡ On n (Served (Create e a k)) → (v.threads t).life ≡ Unborn → (update (update v.threads by r) t s by).life ≡ r.life

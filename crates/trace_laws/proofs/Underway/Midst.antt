@@ -1,4 +1,4 @@
--- An event in its midst: what holds of it, and the one lemma for a label.
+-- An event in its midst: what holds of it, one more label, what the label does to spots and links, and the one lemma for a label.
 use Rattle.std.proofs.Common.{◌≡◌, ℕ, List, [], ◌∷◌, ◌++◌, Option, Some, Bool, true, false, eqb, cond, ◌&&◌, refl, sym, ap, ◌∙◌, subst, append_assoc, map}
 use Rattle.std.specs.Prelude.{slice_get, ⊤}
 use Rattle.std.proofs.lemmas.Bool.{eqb-true}
@@ -12,15 +12,15 @@ use Rattle.run_trace.specs.declared.packet.Body.{Body}
 use Rattle.run_trace.specs.declared.packet.Send.{Send}
 use Rattle.run_trace.specs.Names.{is_tid}
 use Rattle.run_trace.specs.Program.{Program}
-use Rattle.run_trace.specs.Local.{Local, Doing}
+use Rattle.run_trace.specs.Local.{Local, EventSoFar}
 use Rattle.run_trace.specs.Cluster.{Net}
 use Rattle.run_trace.specs.Spots.{Stays, Life, Awaits, Unborn, On, Spot, Remote, Spots, Holder, update, after_label, after_labels}
 use Rattle.run_trace.specs.Rules.{Occasion, saying, Rule, SoloRule, HoldersRule, LifeRule, RepliesRule, GrantsRule, is_free}
 use Rattle.run_trace.specs.World.{World, world_after}
 use Rattle.trace_laws.specs.Obeys.{ObeyEach, all_causes}
 use Rattle.run_trace.specs.Console.{shown_by, shown_by_all}
-use Rattle.run_trace.specs.Places.{Places, IsRising}
-use Rattle.trace_laws.proofs.Lists.Arriving.{places_after, places_after_all, rising_after}
+use Rattle.run_trace.specs.RunLists.{RunLists, IsRising}
+use Rattle.trace_laws.proofs.Lists.Arriving.{run_lists_after, run_lists_after_all, rising_after}
 use Rattle.run_trace.specs.Causes.{causes, send_to}
 use Rattle.run_trace.specs.Obeying.{IsNext, Allows}
 use Rattle.run_trace.specs.Stands.{Here, Agrees, Busy, busy_name, busy_part, thread_part, row_part, link_part, listed, listed_name, Word, word_subject, word_of, words_about, Way, way, ways_of, on_link, phase_of, phase_at, Holding, held, slots_held, IsWellHeld, is_thread}
@@ -28,6 +28,16 @@ use Rattle.run_trace.proofs.Lemmas.{is-true, is-refl, is-same}
 use Rattle.trace_laws.proofs.Lists.Subjects.{less_word, rest_words, about-append, about-less, about-less_other, on_link-append}
 use Rattle.trace_laws.proofs.Lists.KeyedLemmas.{kept, map_kept}
 use Rattle.run_trace.specs.Items.{Subject, Thread, same_subject, Item, Does, is_busy, goes_on_with, busy_among, all_but_first, to_do_after}
+
+-- an event before anything is said: of which program, on which occasion and node, all that it has to do, and the cluster and what
+-- was told before it
+pub record Outset : Type 0 where
+  pub program : Program
+  pub net : Net
+  pub occasion : Occasion
+  pub node : ℕ
+  pub opening : List Item
+  pub world : World
 
 abbrev pub Links : Type 0
 Links = ℕ → ℕ → List Word
@@ -69,37 +79,51 @@ doing hand ahead = map busy_item hand ++ ahead
 
 -- beside the spots: the run list, what there is still to do, and that the node has begun
 pub record Aside (p : Program) (n : ℕ) (opening ahead : List Item) (w : Spots) (before now : Local) (labels : List Label) (hand : List Busy) : Type 0 where
-  pub places : now.places ≡ places_after_all p n labels w before.places
+  pub run_lists : now.run_lists ≡ run_lists_after_all p n labels w before.run_lists
   pub still : doing hand ahead ≡ to_do_after_all p n labels w opening
   pub next : NextAll p n labels w opening
-  pub rising : IsRising now.places
+  pub rising : IsRising now.run_lists
   pub booted : before.booted ≡ true → now.booted ≡ true
 
 -- the same of one more label, before which this was ahead
 pub record Beside (p : Program) (n : ℕ) (v : Spots) (l : Label) (due ahead : List Item) (old now : Local) (hand more : List Busy) : Type 0 where
-  pub places : now.places ≡ places_after l v old.places
+  pub run_lists : now.run_lists ≡ run_lists_after l v old.run_lists
   pub still : doing more ahead ≡ to_do_after p n l v (doing hand due)
   pub next : IsNext n l v (doing hand due)
   pub booted : now.booted ≡ old.booted
 
--- the event on node n, of the world w before it, has come to d and has told now; it is busy with hand, and then what is ahead is left
--- to do, of all that it began with; L are the links without what it sent
-pub record Midst (p : Program) (net : Net) (q : Occasion) (n : ℕ) (opening ahead : List Item) (w : World) (L : Links) (d : Doing) (hand : List Busy) : Type 0 where
-  pub now : World
-  pub told : now ≡ record w { spots = after_labels p n d.labels w.spots }
-  pub allowed : Obeyed p q n d.labels w
-  pub sends : d.sends ≡ all_causes p n d.labels w.spots
-  pub prints : d.prints ≡ shown_by_all p n d.labels w.spots
-  pub here : Here n now.spots d.node hand
-  pub there : (k : ℕ) → eqb n k ≡ false → Here k now.spots (net.nodes k) []
-  pub links : (i j : ℕ) → LinkStands i j (under n L d.sends i j) now.spots.threads
-  pub agrees : Agrees p now.spots
-  pub aside : Aside p n opening ahead w.spots (net.nodes n) d.node d.labels hand
+-- nodes and links stand for these spots, with node n in the state s, busy with hand
+pub record StandsAmid (p : Program) (net : Net) (n : ℕ) (v : Spots) (M : Links) (s : Local) (hand : List Busy) : Type 0 where
+  pub here : Here n v s hand
+  pub there : (k : ℕ) → eqb n k ≡ false → Here k v (net.nodes k) []
+  pub links : (i j : ℕ) → LinkStands i j (M i j) v.threads
+  pub agrees : Agrees p v
 
--- the same after one more label, of a world that was told
-pub record Then (p : Program) (net : Net) (q : Occasion) (n : ℕ) (opening ahead : List Item) (w : World) (L : Links) (v : World) (l : Label) (d : Doing) (hand : List Busy) : Type 0 where
-  pub midst : Midst p net q n opening ahead w L d hand
-  pub now : midst.now ≡ world_after p n l v
+module _ (outset : Outset) where
+  open outset use {program as p, net, occasion as q, node as n, opening, world as w}
+
+  -- the event has come to d and has told now; it is busy with hand, and then what is ahead is left to do, of all that it began with;
+  -- L are the links without what it sent
+  pub record Midst (ahead : List Item) (L : Links) (d : EventSoFar) (hand : List Busy) : Type 0 where
+    pub now : World
+    pub told : now ≡ record w { spots = after_labels p n d.labels w.spots }
+    pub allowed : Obeyed p q n d.labels w
+    pub sends : d.sends ≡ all_causes p n d.labels w.spots
+    pub prints : d.prints ≡ shown_by_all p n d.labels w.spots
+    pub here : Here n now.spots d.node hand
+    pub there : (k : ℕ) → eqb n k ≡ false → Here k now.spots (net.nodes k) []
+    pub links : (i j : ℕ) → LinkStands i j (under n L d.sends i j) now.spots.threads
+    pub agrees : Agrees p now.spots
+    pub aside : Aside p n opening ahead w.spots (net.nodes n) d.node d.labels hand
+
+  -- the same after one more label, of a world that was told
+  pub record Then (ahead : List Item) (L : Links) (v : World) (l : Label) (d : EventSoFar) (hand : List Busy) : Type 0 where
+    pub midst : Midst ahead L d hand
+    pub now : midst.now ≡ world_after p n l v
+
+-- nodes and links stand for what is told then
+pub amid : {outset : Outset} {ahead : List Item} {L : Links} {d : EventSoFar} {hand : List Busy} → (m : Midst outset ahead L d hand) → StandsAmid outset.program outset.net outset.node m.now.spots (under outset.node L d.sends) d.node hand
+amid m = record { here = m.here; there = m.there; links = m.links; agrees = m.agrees }
 
 -- ## One more label
 
@@ -123,9 +147,9 @@ shown_append : (p : Program) (n : ℕ) (ls : List Label) (l : Label) (w : Spots)
 shown_append p n [] l w = append-nil (shown_by l w)
 shown_append p n (x ∷ ls) l w = ap (λ xs. shown_by x w ++ xs) (shown_append p n ls l (after_label p n x w)) ∙ sym (append_assoc (shown_by x w) (shown_by_all p n ls (after_label p n x w)) (shown_by l (after_labels p n (x ∷ ls) w)))
 
-places_append : (p : Program) (n : ℕ) (ls : List Label) (l : Label) (w : Spots) (s : Places) → places_after_all p n (ls ++ l ∷ []) w s ≡ places_after l (after_labels p n ls w) (places_after_all p n ls w s)
+places_append : (p : Program) (n : ℕ) (ls : List Label) (l : Label) (w : Spots) (s : RunLists) → run_lists_after_all p n (ls ++ l ∷ []) w s ≡ run_lists_after l (after_labels p n ls w) (run_lists_after_all p n ls w s)
 places_append p n [] l w s = refl
-places_append p n (x ∷ ls) l w s = places_append p n ls l (after_label p n x w) (places_after x w s)
+places_append p n (x ∷ ls) l w s = places_append p n ls l (after_label p n x w) (run_lists_after x w s)
 
 to_do_append : (p : Program) (n : ℕ) (ls : List Label) (l : Label) (w : Spots) (to_do : List Item) → to_do_after_all p n (ls ++ l ∷ []) w to_do ≡ to_do_after p n l (after_labels p n ls w) (to_do_after_all p n ls w to_do)
 to_do_append p n [] l w to_do = refl
@@ -135,13 +159,13 @@ next_append : (p : Program) (n : ℕ) (ls : List Label) (l : Label) (w : Spots) 
 next_append p n [] l w to_do a k = (k, tt)
 next_append p n (x ∷ ls) l w to_do a k = (a.0, next_append p n ls l (after_label p n x w) (to_do_after p n x w to_do) a.1 k)
 
-aside_append : (p : Program) (n : ℕ) (opening due ahead : List Item) (w : Spots) (before old now : Local) (labels : List Label) (l : Label) (hand more : List Busy)
+aside_append : {p : Program} {n : ℕ} {opening due ahead : List Item} {w : Spots} {before old now : Local} {labels : List Label} {l : Label} {hand more : List Busy}
     → Aside p n opening due w before old labels hand → Beside p n (after_labels p n labels w) l due ahead old now hand more → Aside p n opening ahead w before now (labels ++ l ∷ []) more
-aside_append p n opening due ahead w before old now labels l hand more a b = record {
-  places = b.places ∙ ap (places_after l (after_labels p n labels w)) a.places ∙ sym (places_append p n labels l w before.places);
+aside_append {p} {n} {opening} {due} {ahead} {w} {before} {old} {now} {labels} {l} a b = record {
+  run_lists = b.run_lists ∙ ap (run_lists_after l (after_labels p n labels w)) a.run_lists ∙ sym (places_append p n labels l w before.run_lists);
   still = b.still ∙ ap (to_do_after p n l (after_labels p n labels w)) a.still ∙ sym (to_do_append p n labels l w opening);
   next = next_append p n labels l w opening a.next (subst (λ h. IsNext n l (after_labels p n labels w) h) a.still b.next);
-  rising = subst (λ z. IsRising z) (sym b.places) (rising_after l (after_labels p n labels w) old.places a.rising);
+  rising = subst (λ z. IsRising z) (sym b.run_lists) (rising_after l (after_labels p n labels w) old.run_lists a.rising);
   booted = λ h. b.booted ∙ a.booted h;
 }
 
@@ -151,11 +175,11 @@ pub record Own (n : ℕ) (l : Label) (t : Tid) (v : Spots) (due ahead : List Ite
   pub next : IsNext n l v (doing hand due)
   pub still : doing more ahead ≡ cond (is_busy n new) (Does (Thread t) ∷ []) [] ++ all_but_first (doing hand due)
 
-pub beside : (p : Program) (n : ℕ) (v : Spots) (l : Label) (t : Tid) (due ahead : List Item) (old now : Local) (hand more : List Busy) (new : Life)
-    → Own n l t v due ahead hand more new → ((after_label p n l v).threads t).life ≡ new → now.places ≡ places_after l v old.places → now.booted ≡ old.booted
+pub beside : {p : Program} {n : ℕ} {v : Spots} {l : Label} {t : Tid} {due ahead : List Item} {old now : Local} {hand more : List Busy} {new : Life}
+    → Own n l t v due ahead hand more new → ((after_label p n l v).threads t).life ≡ new → now.run_lists ≡ run_lists_after l v old.run_lists → now.booted ≡ old.booted
     → Beside p n v l due ahead old now hand more
-beside p n v l t due ahead old now hand more new o life places booted = record {
-  places = places;
+beside {p} {n} {v} {l} {t} {due} {hand = hand} o life run_lists booted = record {
+  run_lists = run_lists;
   booted = booted;
   next = o.next;
   still = o.still ∙ ap (λ z. cond (is_busy n z) (Does (Thread t) ∷ []) [] ++ all_but_first (doing hand due)) (sym life) ∙ ap (λ z. busy_among n z (after_label p n l v) ++ all_but_first (doing hand due)) (sym o.heir);
@@ -172,14 +196,14 @@ pub record Frame (k : ℕ) (t : Tid) (r s : Spot) : Type 0 where
 abbrev pub spots_with : (Tid → Spot) → (ℕ → Holder) → (ℕ → List Birth) → (ℕ → Bool) → Remote → Spots
 spots_with threads slots births halts remote = record { threads = threads; slots = slots; births = births; halts = halts; remote = remote }
 
-pub here_kept : {remote : Remote} (k : ℕ) (w : Spots) (t : Tid) (s : Spot) (f : ℕ → Holder) (b : ℕ → List Birth) (h : ℕ → Bool) (st : Local) (hand : List Busy) → Here k w st hand → Frame k t (w.threads t) s
+pub here_kept : {f : ℕ → Holder} {b : ℕ → List Birth} {h : ℕ → Bool} {remote : Remote} (k : ℕ) (w : Spots) (t : Tid) (s : Spot) (st : Local) (hand : List Busy) → Here k w st hand → Frame k t (w.threads t) s
     → b k ≡ w.births k → ((x : ℕ) → is_free k (f x) ≡ is_free k (w.slots x)) → h k ≡ w.halts k → Here k (spots_with (update w.threads t s) f b h remote) st hand
-here_kept k w t s f b h st hand m frame births slots halts = record {
+here_kept k w t s st hand m frame births slots halts = record {
   threads = map_kept is_tid is-true is-refl (thread_part k) w.threads t s st.threads m.threads frame.thread;
-  rows = kept is_tid is-true is-refl listed_name (row_part k) w.threads t s (map listed st.places.rows) m.rows frame.row;
+  rows = kept is_tid is-true is-refl listed_name (row_part k) w.threads t s (map listed st.run_lists.rows) m.rows frame.row;
   busy = kept is_tid is-true is-refl busy_name (busy_part k) w.threads t s hand m.busy frame.busy;
-  names = m.names ∙ sym births;
-  own = λ x. m.own x ∙ sym (slots x);
+  births = m.births ∙ sym births;
+  free = λ x. m.free x ∙ sym (slots x);
   halted = m.halted ∙ sym halts;
 }
 
@@ -279,6 +303,10 @@ take_link a b y t s L w h old i j (Thread u) = by (eqb a i) (eqb b j) (is_tid t 
     by false z true e f g = subst (λ k. words_about (L i j) (Thread k) ≡ on_link i j (ways_in k s)) (is-true t u g) (h i j (Thread t) ∙ of_t false z e f)
     by false z false e f g = h i j (Thread u)
 
+-- the links without t's packet, which is the first of its own on the link to node n
+abbrev pub links_less : ℕ → Links → ℕ → Tid → Links
+links_less n L from t = at_link from n (less_word (Thread t)) L
+
 none_under : (n : ℕ) (L : Links) (i j : ℕ) → under n L [] i j ≡ L i j
 none_under n L i j = elim (eqb n i) as (λ v. L i j ++ cond v [] [] ≡ L i j) [ true ↦ append-nil (L i j) | false ↦ append-nil (L i j) ]
 
@@ -311,19 +339,20 @@ pub record Keeps (old new : Option Holding) : Type 0 where
 pub keeps : (old new : Option Holding) → new ≡ old → Keeps old new
 keeps old new e = record { slots = ap slots_held e; well = λ h. subst (λ x. IsWellHeld x) (sym e) h }
 
--- a thread that keeps its phase and its slots, and that no record names as a joiner
-pub agrees_kept : {remote : Remote} (p : Program) (w : Spots) (t : Tid) (s : Spot) (h : ℕ → Bool) → Agrees p w
+-- a thread that keeps its phase, and that no record names as a joiner; f are the holders and h the halts then
+pub agrees_changed : {remote : Remote} (p : Program) (w : Spots) (t : Tid) (s : Spot) {f : ℕ → Holder} {h : ℕ → Bool} → Agrees p w
     → phase_of s.life ≡ phase_of (w.threads t).life
     → ((u : Tid) (m : ℕ) → (w.threads t).life ≡ On m (Awaits u) → ⊥)
-    → Keeps (held (w.threads t).life (w.threads t).guest) (held s.life s.guest)
     → ((w.threads t).life ≡ Unborn → ⊥)
     → ((u : Tid) (m : ℕ) → s.life ≡ On m (Awaits u) → ⊥)
     → ((m : ℕ) → s.life ≡ On m Stays → h m ≡ true)
     → ((m : ℕ) → w.halts m ≡ true → h m ≡ true)
-    → Agrees p (spots_with (update w.threads t s) w.slots w.births h remote)
-agrees_kept p w t s h a phase quiet kept born idle stay more = record {
-  waits = λ u by at e. elim (is_tid t by) as (λ v. (cond v s (w.threads by)).life ≡ On at (Awaits u) → slice_get (w.births u.home) u.seq ≡ Some (Awaited by at)) [ true ↦ λ f. absurd (idle u at f) | false ↦ λ f. a.waits u by at f ] e;
-  stays = λ u m e. elim (is_tid t u) as (λ v. (cond v s (w.threads u)).life ≡ On m Stays → h m ≡ true) [ true ↦ λ f. stay m f | false ↦ λ f. more m (a.stays u m f) ] e;
+    → ((u : Tid) (y : ℕ) → has y (slots_held (held (update w.threads t s u).life (update w.threads t s u).guest)) ≡ is_thread u (f y))
+    → IsWellHeld (held s.life s.guest)
+    → Agrees p (spots_with (update w.threads t s) f w.births h remote)
+agrees_changed p w t s {h = h} a phase quiet born idle stay more slots well = record {
+  waits = λ u by at e. elim (is_tid t by) as (λ v. (cond v s (w.threads by)).life ≡ On at (Awaits u) → slice_get (w.births u.home) u.seq ≡ Some (Awaited by at)) [ true ↦ λ g. absurd (idle u at g) | false ↦ λ g. a.waits u by at g ] e;
+  stays = λ u m e. elim (is_tid t u) as (λ v. (cond v s (w.threads u)).life ≡ On m Stays → h m ≡ true) [ true ↦ λ g. stay m g | false ↦ λ g. more m (a.stays u m g) ] e;
   homes = λ u out. elim (is_tid t u) as (λ v. is_tid t u ≡ v → (cond v s (w.threads u)).life ≡ Unborn) [
     | true ↦ λ e. absurd (born (subst (λ x. (w.threads x).life ≡ Unborn) (sym (is-true t u e)) (a.homes u out)))
     | false ↦ λ e. a.homes u out
@@ -333,33 +362,43 @@ agrees_kept p w t s h a phase quiet kept born idle stay more = record {
     | false ↦ λ e. a.named u
   ] refl;
   awaits = λ u by at e. elim (is_tid t by) as (λ v. is_tid t by ≡ v → (cond v s (w.threads by)).life ≡ On at (Awaits u)) [
-    | true ↦ λ f. absurd (quiet u at (subst (λ x. (w.threads x).life ≡ On at (Awaits u)) (sym (is-true t by f)) (a.awaits u by at e)))
-    | false ↦ λ f. a.awaits u by at e
+    | true ↦ λ g. absurd (quiet u at (subst (λ x. (w.threads x).life ≡ On at (Awaits u)) (sym (is-true t by g)) (a.awaits u by at e)))
+    | false ↦ λ g. a.awaits u by at e
   ] refl;
-  slots = λ u x. elim (is_tid t u) as (λ v. is_tid t u ≡ v → has x (slots_held (held (cond v s (w.threads u)).life (cond v s (w.threads u)).guest)) ≡ is_thread u (w.slots x)) [
-    | true ↦ λ e. ap (has x) kept.slots ∙ ap (λ y. has x (slots_held (held (w.threads y).life (w.threads y).guest))) (is-true t u e) ∙ a.slots u x
-    | false ↦ λ e. a.slots u x
-  ] refl;
-  blocks = λ u. elim (is_tid t u) as (λ v. IsWellHeld (held (cond v s (w.threads u)).life (cond v s (w.threads u)).guest)) [
-    | true ↦ kept.well (a.blocks t)
-    | false ↦ a.blocks u
-  ];
+  slots = slots;
+  blocks = λ u. elim (is_tid t u) as (λ v. IsWellHeld (held (cond v s (w.threads u)).life (cond v s (w.threads u)).guest)) [ true ↦ well | false ↦ a.blocks u ];
 }
+
+-- one that keeps its slots too
+pub agrees_kept : {remote : Remote} (p : Program) (w : Spots) (t : Tid) (s : Spot) (h : ℕ → Bool) → Agrees p w
+    → phase_of s.life ≡ phase_of (w.threads t).life
+    → ((u : Tid) (m : ℕ) → (w.threads t).life ≡ On m (Awaits u) → ⊥)
+    → Keeps (held (w.threads t).life (w.threads t).guest) (held s.life s.guest)
+    → ((w.threads t).life ≡ Unborn → ⊥)
+    → ((u : Tid) (m : ℕ) → s.life ≡ On m (Awaits u) → ⊥)
+    → ((m : ℕ) → s.life ≡ On m Stays → h m ≡ true)
+    → ((m : ℕ) → w.halts m ≡ true → h m ≡ true)
+    → Agrees p (spots_with (update w.threads t s) w.slots w.births h remote)
+agrees_kept p w t s h a phase quiet kept born idle stay more = agrees_changed p w t s a phase quiet born idle stay more
+    (λ u x. elim (is_tid t u) as (λ v. is_tid t u ≡ v → has x (slots_held (held (cond v s (w.threads u)).life (cond v s (w.threads u)).guest)) ≡ is_thread u (w.slots x)) [
+      | true ↦ λ e. ap (has x) kept.slots ∙ ap (λ y. has x (slots_held (held (w.threads y).life (w.threads y).guest))) (is-true t u e) ∙ a.slots u x
+      | false ↦ λ e. a.slots u x
+    ] refl)
+    (kept.well (a.blocks t))
 
 -- ## The one lemma for a label
 
-module _ (p : Program) (net : Net) (q : Occasion) (n : ℕ) (opening ahead : List Item) (w : World) where
-  -- a label, with what goes with it, before which this was ahead
-  pub labelled : (due : List Item) (L M : Links) (d : Doing) (hand more : List Busy) (l : Label) (v : Spots) (now : Local) (sends : List Send) (prints : List ℕ)
-      → (m : Midst p net q n opening due w L d hand) → after_label p n l m.now.spots ≡ v → Allows p (having_said d.labels q) n l m.now
+module _ {outset : Outset} {ahead : List Item} where
+  open outset use {program as p, net, occasion as q, node as n, opening, world as w}
+
+  -- a label, with what goes with it, before which what is due was ahead
+  pub labelled : {due : List Item} {L : Links} {d : EventSoFar} {hand : List Busy} {sends : List Send} {prints : List ℕ} (M : Links) (more : List Busy) (l : Label) (v : Spots) (now : Local)
+      → (m : Midst outset due L d hand) → after_label p n l m.now.spots ≡ v → Allows p (having_said d.labels q) n l m.now
       → sends ≡ d.sends ++ causes p n l m.now.spots → prints ≡ d.prints ++ shown_by l m.now.spots
-      → Here n v now more
-      → ((k : ℕ) → eqb n k ≡ false → Here k v (net.nodes k) [])
-      → ((i j : ℕ) → LinkStands i j (under n M sends i j) v.threads)
-      → Agrees p v
+      → StandsAmid p net n v (under n M sends) now more
       → Beside p n m.now.spots l due ahead d.node now hand more
-      → Then p net q n opening ahead w M m.now l (record { node = now; labels = d.labels ++ l ∷ []; sends = sends; prints = prints }) more
-  labelled due L M d hand more l v now sends prints m same ok sent shown here there links agrees aside =
+      → Then outset ahead M m.now l (record { node = now; labels = d.labels ++ l ∷ []; sends = sends; prints = prints }) more
+  labelled {due} {L} {d} {hand} M more l v now m same ok sent shown stands aside =
       let told : m.now ≡ record w { spots = after_labels p n d.labels w.spots } = m.told in
       let spots : m.now.spots ≡ after_labels p n d.labels w.spots = ap (λ (z : World). z.spots) told in
       let may : Allows p (having_said d.labels q) n l (record w { spots = after_labels p n d.labels w.spots }) = subst (λ z. Allows p (having_said d.labels q) n l z) told ok in
@@ -377,10 +416,10 @@ module _ (p : Program) (net : Net) (q : Occasion) (n : ℕ) (opening ahead : Lis
           };
           sends = sent ∙ ap (λ z. d.sends ++ causes p n l z) spots ∙ ap (λ xs. xs ++ causes p n l (after_labels p n d.labels w.spots)) m.sends ∙ sym (causes_append p n d.labels l w.spots);
           prints = shown ∙ ap (λ z. d.prints ++ shown_by l z) spots ∙ ap (λ xs. xs ++ shown_by l (after_labels p n d.labels w.spots)) m.prints ∙ sym (shown_append p n d.labels l w.spots);
-          here = here;
-          there = there;
-          links = links;
-          agrees = agrees;
-          aside = aside_append p n opening due ahead w.spots (net.nodes n) d.node now d.labels l hand more m.aside (subst (λ z. Beside p n z l due ahead d.node now hand more) spots aside);
+          here = stands.here;
+          there = stands.there;
+          links = stands.links;
+          agrees = stands.agrees;
+          aside = aside_append m.aside (subst (λ z. Beside p n z l due ahead d.node now hand more) spots aside);
         };
       }

@@ -15,16 +15,19 @@ use Rattle.run_trace.specs.declared.packet.Body.{Body}
 use Rattle.run_trace.specs.declared.packet.Body.TheVariants.{Mover, Show, ShowDone, JoinAsk, Answer, EndNote}
 use Rattle.run_trace.specs.declared.packet.Packet.{Packet}
 use Rattle.run_trace.specs.declared.packet.Send.{Send}
-use Rattle.run_trace.specs.declared.node.Row.{Row}
+use Rattle.run_trace.specs.declared.node.ReadyRow.{ReadyRow}
 use Rattle.run_trace.specs.declared.node.Wait.TheVariants as wait
 use Rattle.run_trace.specs.Names.{is_tid, tid}
+use Rattle.run_trace.specs.Calls.{extra_of}
 use Rattle.run_trace.specs.Program.{Program, nodes_of, tree_of}
 use Rattle.run_trace.specs.Guests.{Guest, Thread, waits, stack_end}
-use Rattle.run_trace.specs.Places.{best_on, is_listed, IsRising}
-use Rattle.run_trace.specs.Local.{Local, Doing, nothing, with_booted}
+use Rattle.run_trace.specs.RunLists.{best_on, is_listed, IsRising}
+use Rattle.run_trace.specs.Local.{Local, EventSoFar, nothing, with_booted}
 use Rattle.run_trace.specs.Steps.{tell, leaves, put, say, thread_out, take_off}
 use Rattle.run_trace.specs.Machine.{local_event, acts, is_range, boots, boots_in, free_slot, run_picked, run_found, run_thread, goes, moves_found, takes, accepts, is_stray}
-use Rattle.run_trace.specs.Cluster.{Event, Net, net_after, next_packet, after_or, IsTaken}
+use Rattle.run_trace.specs.Cluster.{Event, Net, net_after, next_packet, after_or, IsTaken, Happens}
+use Rattle.run_trace.specs.Trace.{event_of}
+use Rattle.run_trace.specs.declared.entry.Entry.{Entry}
 use Rattle.run_trace.specs.Keyed.{item_of}
 use Rattle.run_trace.specs.Rules.{Occasion, quantum_in, lowest_free}
 use Rattle.run_trace.specs.Console.{shown_by_all}
@@ -33,14 +36,15 @@ use Rattle.run_trace.specs.Spots.{Ready, Shown_there, Answered, Unborn, On, Noti
 use Rattle.run_trace.specs.Stands.{Here, Stands, Line_shown, Reply, word_subject, word_of, words_of, words_about, way, ways_of, link_part, listed, listed_name, phase_of}
 use Rattle.run_trace.proofs.Lemmas.{is-refl}
 use Rattle.run_trace.specs.declared.label.Label.{Label}
-use Rattle.trace_laws.proofs.Lists.Arriving.{places_after_all, picked_is, on_list_is}
+use Rattle.trace_laws.proofs.Lists.Arriving.{run_lists_after_all, picked_is, on_list_is}
 use Rattle.run_trace.specs.World.{Listed, World}
-use Rattle.trace_laws.proofs.Underway.Midst.{NextAll, Links, Midst, Obeyed, LinkStands, sent_words, at_link, nothing_sent, to_do_after_all}
+use Rattle.trace_laws.proofs.Underway.Midst.{Outset, NextAll, Links, Midst, Obeyed, LinkStands, sent_words, at_link, nothing_sent, to_do_after_all}
 use Rattle.trace_laws.proofs.Lists.Parts.{at_row, not_busy, row_found, listed_found, at_way, Tells}
 use Rattle.trace_laws.proofs.Lists.Subjects.{subject-refl, less_word, IsOneOf, on_way}
 use Rattle.run_trace.specs.Items.{Thread as Subject_of, Item, Says, Runs, for_packet}
 use Rattle.trace_laws.proofs.Lists.Picking.{best_is}
-use Rattle.trace_laws.proofs.Underway.Steps.{on_node, sent_ok, second-extra}
+use Rattle.trace_laws.proofs.Underway.Steps.{on_node}
+use Rattle.trace_laws.proofs.Underway.CallSteps.{sent_ok}
 use Rattle.trace_laws.proofs.Underway.Lifetimes.{main_born_ok, lowest_is}
 use Rattle.trace_laws.proofs.Underway.Takes.{shows_ok, acknowledges_ok, tell_taken_ok, open_birth, may_come_ok, comes_ok}
 use Rattle.trace_laws.proofs.Underway.Joins.{hears_ok, knows_ok}
@@ -48,9 +52,18 @@ use Rattle.trace_laws.proofs.Underway.Events.{run_ok}
 use Rattle.run_trace.specs.Links.{first_of, rest_of, left_after, packets_to}
 use Rattle.trace_laws.specs.Obeys.{world_at, PicksBest, RunsNext, all_causes}
 
+-- the extra of a judged call is what is told
+second-extra : (o : Option ℕ) → second_of (extra_of o) ≡ o
+second-extra None = refl
+second-extra (Some second) = refl
+
 -- an act and the packet that it takes, before anything is said
 abbrev pub asked_of : Act → Option Packet → Occasion
 asked_of a o = record { act = a; took = o; said = [] }
+
+-- the event, before it begins with this
+abbrev pub outset : Program → Spots → Net → Occasion → ℕ → List Item → Outset
+outset p w net q n opening = record { program = p; net = net; occasion = q; node = n; opening = opening; world = world_at w net }
 
 abbrev pub under_way : Net → Links
 under_way net i j = words_of j (net.links i j)
@@ -59,7 +72,7 @@ under_way net i j = words_of j (net.links i j)
 abbrev pub left : Net → ℕ → Act → Links
 left net n a i j = words_of j (cond (eqb n j) (left_after i a (net.links i j)) (net.links i j))
 
-abbrev begins : (p : Program) (q : Occasion) (n : ℕ) (opening : List Item) (w : Spots) (net : Net) → Stands p w net → Midst p net q n opening opening (world_at w net) (under_way net) (nothing (net.nodes n)) []
+abbrev begins : (p : Program) (q : Occasion) (n : ℕ) (opening : List Item) (w : Spots) (net : Net) → Stands p w net → Midst (outset p w net q n opening) opening (under_way net) (nothing (net.nodes n)) []
 begins p q n opening w net s = record {
   now = world_at w net;
   told = refl;
@@ -70,13 +83,26 @@ begins p q n opening w net s = record {
   there = λ k e. s.nodes k;
   links = λ i j. nothing_sent n (under_way net) i j w.threads (s.links i j);
   agrees = s.agrees;
-  aside = record { places = refl; still = refl; next = tt; rising = s.rising n; booted = λ h. h };
+  aside = record { run_lists = refl; still = refl; next = tt; rising = s.rising n; booted = λ h. h };
 }
 
 -- ## The end of an event
 
-abbrev pub event : (stamp n round : ℕ) → Act → Option Packet → Doing → Event
+abbrev pub event : (stamp n round : ℕ) → Act → Option Packet → EventSoFar → Event
 event stamp n round a o d = record { stamp = stamp; node = n; round = round; act = a; took = o; labels = d.labels; sends = d.sends; prints = d.prints }
+
+-- an event of a run is what the machine does there
+pub event_made : (p : Program) (net : Net) (x : Entry) → (h : Happens p net (event_of p net x)) → event x.stamp x.node x.round x.act (next_packet net x.node x.act) h.step.done ≡ event_of p net x
+event_made p net x h = λ i. record {
+  stamp = x.stamp;
+  node = x.node;
+  round = x.round;
+  act = x.act;
+  took = next_packet net x.node x.act;
+  labels = (sym h.step.labels) i;
+  sends = (sym h.step.sends) i;
+  prints = (sym h.step.prints) i;
+}
 
 packets_words : (j s : ℕ) (xs : List Send) → words_of j (packets_to j s xs) ≡ sent_words j xs
 packets_words j s [] = refl
@@ -91,9 +117,11 @@ words_after : (b : Bool) (ps : List Packet) (j s : ℕ) (xs : List Send) → wor
 words_after true ps j s xs = ap (λ bs. words_of j ps ++ bs) (sym (packets_words j s xs)) ∙ sym (words_append j ps (packets_to j s xs))
 words_after false ps j s xs = append-nil (words_of j ps) ∙ sym (ap (words_of j) (append-nil ps))
 
-ends_well : (p : Program) (q : Occasion) (opening : List Item) (w : Spots) (net : Net) (stamp n round : ℕ) (a : Act) (o : Option Packet) (d : Doing) (M : Links) → local_event p n (net.nodes n) a o ≡ Some d → Midst p net q n opening [] (world_at w net) M d [] → ((i j : ℕ) → M i j ≡ left net n a i j) → ((k : ℕ) → IsRising (net.nodes k).places)
+-- what it comes to, nodes and links stand for
+ends_well : {p : Program} {q : Occasion} {opening : List Item} {w : Spots} {net : Net} {n : ℕ} {d : EventSoFar} {M : Links} (stamp round : ℕ) (a : Act) (o : Option Packet) → Stands p w net → local_event p n (net.nodes n) a o ≡ Some d
+    → Midst (outset p w net q n opening) [] M d [] → ((i j : ℕ) → M i j ≡ left net n a i j)
     → Stands p (after_labels p n d.labels w) (net_after p net (event stamp n round a o d))
-ends_well p q opening w net stamp n round a o d M is m same rises =
+ends_well {p = p} {w = w} {net = net} {n = n} {d = d} stamp round a o s is m same =
     let v : Spots = m.now.spots in
     subst (λ z. Stands p z (net_after p net (event stamp n round a o d))) (ap (λ (z : World). z.spots) m.told) (record {
       nodes = λ k. elim (eqb n k) as (λ b. eqb n k ≡ b → Here k v (cond b (after_or (local_event p k (net.nodes k) a o) (net.nodes k)) (net.nodes k)) []) [
@@ -103,15 +131,15 @@ ends_well p q opening w net stamp n round a o d M is m same rises =
       links = λ i j. subst (λ bs. LinkStands i j bs v.threads)
           (ap (λ bs. bs ++ cond (eqb n i) (sent_words j d.sends) []) (same i j) ∙ words_after (eqb n i) (cond (eqb n j) (left_after i a (net.links i j)) (net.links i j)) j stamp d.sends) (m.links i j);
       agrees = m.agrees;
-      rising = λ k. elim (eqb n k) as (λ b. eqb n k ≡ b → IsRising (cond b (after_or (local_event p k (net.nodes k) a o) (net.nodes k)) (net.nodes k)).places) [
-        | true ↦ λ e. subst (λ j. IsRising (after_or (local_event p j (net.nodes j) a o) (net.nodes j)).places) (eqb-true n k e) (subst (λ z. IsRising (after_or z (net.nodes n)).places) (sym is) m.aside.rising)
-        | false ↦ λ e. rises k
+      rising = λ k. elim (eqb n k) as (λ b. eqb n k ≡ b → IsRising (cond b (after_or (local_event p k (net.nodes k) a o) (net.nodes k)) (net.nodes k)).run_lists) [
+        | true ↦ λ e. subst (λ j. IsRising (after_or (local_event p j (net.nodes j) a o) (net.nodes j)).run_lists) (eqb-true n k e) (subst (λ z. IsRising (after_or z (net.nodes n)).run_lists) (sym is) m.aside.rising)
+        | false ↦ λ e. s.rising k
       ] refl;
     })
 
 -- what an event does to its own node, beside the spots
 pub record Beyond (p : Program) (w : Spots) (s now : Local) (n : ℕ) (opening : List Item) (labels : List Label) : Type 0 where
-  pub places : now.places ≡ places_after_all p n labels w s.places
+  pub run_lists : now.run_lists ≡ run_lists_after_all p n labels w s.run_lists
   pub next : NextAll p n labels w opening
   pub ends : to_do_after_all p n labels w opening ≡ []
   pub booted : s.booted ≡ true → now.booted ≡ true
@@ -121,16 +149,17 @@ pub record Simulates (p : Program) (w : Spots) (net : Net) (e : Event) : Type 0 
   pub allowed : Obeyed p (asked_of e.act e.took) e.node e.labels (world_at w net)
   pub sends : e.sends ≡ all_causes p e.node e.labels w
   pub prints : e.prints ≡ shown_by_all p e.node e.labels w
-  pub picks : PicksBest p e.act (net.nodes e.node).places.rows e.labels
+  pub picks : PicksBest p e.act (net.nodes e.node).run_lists.rows e.labels
   pub opening : List Item
   pub starts : IsTaken e.stamp e.act e.took → Starts p e.stamp e.node e.act (world_at w net) opening
-  pub beyond : (d : Doing) → local_event p e.node (net.nodes e.node) e.act e.took ≡ Some d → Beyond p w (net.nodes e.node) d.node e.node opening e.labels
+  pub beyond : (d : EventSoFar) → local_event p e.node (net.nodes e.node) e.act e.took ≡ Some d → Beyond p w (net.nodes e.node) d.node e.node opening e.labels
   pub stands : Stands p (after_labels p e.node e.labels w) (net_after p net e)
 
-simulated : (p : Program) (w : Spots) (net : Net) (stamp n round : ℕ) (a : Act) (o : Option Packet) (d : Doing) (M : Links) (opening : List Item) → local_event p n (net.nodes n) a o ≡ Some d → Midst p net (asked_of a o) n opening [] (world_at w net) M d [] → ((i j : ℕ) → M i j ≡ left net n a i j)
+simulated : {p : Program} {w : Spots} {net : Net} {stamp n round : ℕ} {a : Act} {o : Option Packet} {d : EventSoFar} {M : Links} {opening : List Item} → Stands p w net → local_event p n (net.nodes n) a o ≡ Some d
+    → Midst (outset p w net (asked_of a o) n opening) [] M d [] → ((i j : ℕ) → M i j ≡ left net n a i j)
     → (IsTaken stamp a o → Starts p stamp n a (world_at w net) opening)
-    → PicksBest p a (net.nodes n).places.rows d.labels → ((k : ℕ) → IsRising (net.nodes k).places) → Simulates p w net (event stamp n round a o d)
-simulated p w net stamp n round a o d M opening is m same starts picks rises = record {
+    → PicksBest p a (net.nodes n).run_lists.rows d.labels → Simulates p w net (event stamp n round a o d)
+simulated {stamp = stamp} {round = round} {a = a} {o = o} {d = d} {opening = opening} s is m same starts picks = record {
   opening = opening;
   starts = starts;
   allowed = m.allowed;
@@ -140,12 +169,12 @@ simulated p w net stamp n round a o d M opening is m same starts picks rises = r
   beyond = λ f g.
       let one : d ≡ f = cc (is, g) in
       record {
-        places = ap (λ (z : Doing). z.node.places) (sym one) ∙ m.aside.places;
+        run_lists = ap (λ (z : EventSoFar). z.node.run_lists) (sym one) ∙ m.aside.run_lists;
         next = m.aside.next;
         ends = sym m.aside.still;
-        booted = λ h. ap (λ (z : Doing). z.node.booted) (sym one) ∙ m.aside.booted h;
+        booted = λ h. ap (λ (z : EventSoFar). z.node.booted) (sym one) ∙ m.aside.booted h;
       };
-  stands = ends_well p (asked_of a o) opening w net stamp n round a o d M is m same rises;
+  stands = ends_well stamp round a o s is m same;
 }
 
 -- ## The packet that is taken
@@ -195,7 +224,7 @@ unfolding leaves put say thread_out take_off
 leaves_labels t to x s = refl
 
 module _ (p : Program) (w : Spots) (net : Net) (s : Stands p w net) (q : Occasion) (n : ℕ) where
-  abbrev here : (opening : List Item) → Midst p net q n opening opening (world_at w net) (under_way net) (nothing (net.nodes n)) []
+  abbrev here : (opening : List Item) → Midst (outset p w net q n opening) opening (under_way net) (nothing (net.nodes n)) []
   here opening = begins p q n opening w net s
 
   in_cluster : (t : Tid) → ((w.threads t).life ≡ Unborn → ⊥) → nat_lt t.home (nodes_of p) ≡ true
@@ -203,7 +232,7 @@ module _ (p : Program) (w : Spots) (net : Net) (s : Stands p w net) (q : Occasio
 
   record Taken (i : ℕ) (body : Body) : Type 0 where
     expected : is_stray p n (net.nodes n) body ≡ false
-    comes : Midst p net q n (for_packet n body) [] (world_at w net) (at_link i n (less_word (word_subject (word_of n body))) (under_way net)) (accepts n i body (net.nodes n)) []
+    comes : Midst (outset p w net q n (for_packet n body)) [] (at_link i n (less_word (word_subject (word_of n body))) (under_way net)) (accepts n i body (net.nodes n)) []
 
   taken : (i : ℕ) (x : Packet) → Some x ≡ first_of (net.links i n) → Taken i x.body
   taken i x h = by x.body (λ t e. first_tells p w net s i n x t h e)
@@ -215,100 +244,100 @@ module _ (p : Program) (w : Spots) (net : Net) (s : Stands p w net) (q : Occasio
           let g : Guest = (w.threads t).guest in
           subst (λ y. Taken i (Mover y)) (sym k.1)
           (record {
-            expected = ap not (may_come_ok p net q n [] [] (world_at w net) (under_way net) (net.nodes n) i t (here []) k.0 (in_cluster t (λ e. absurd (cc (e, k.0)))));
-            comes = comes_ok p net q n (Says (Came t) ∷ []) [] (world_at w net) (under_way net) (net.nodes n) i t (here (Says (Came t) ∷ [])) k.0;
+            expected = ap not (may_come_ok (net.nodes n) i t (here []) k.0 (in_cluster t (λ e. absurd (cc (e, k.0)))));
+            comes = comes_ok (net.nodes n) i t (here (Says (Came t) ∷ [])) k.0;
           })
       by (Show t bytes) tells =
           let k = tells t refl in
           record {
             expected = rw (k.2, in_cluster t (λ e. absurd (cc (e, k.1)))) refl;
-            comes = acknowledges_ok p net q n (Says (Shown t) ∷ []) [] (world_at w net) (at_link i n (less_word (Subject_of t)) (under_way net)) _ t i [] (shows_ok p net q n (Says (Shown t) ∷ []) [] (world_at w net) (under_way net) (net.nodes n) i t bytes (here (Says (Shown t) ∷ [])) k.1 k.2);
+            comes = acknowledges_ok _ t i [] (shows_ok (net.nodes n) i t bytes (here (Says (Shown t) ∷ [])) k.1 k.2);
           }
       by (ShowDone t) tells =
           let k = tells t refl in
           let v : Response = (w.threads t).verdict in
           record {
-            expected = rw (on_node p net q n [] [] (world_at w net) (under_way net) (nothing (net.nodes n)) [] t Shown_there (here []) k.1, in_cluster t (λ e. absurd (cc (e, k.1)))) refl;
-            comes = subst (λ z. Midst p net q n (Says (Told t) ∷ []) [] (world_at w net) (at_link i n (less_word (Subject_of t)) (under_way net)) (tell t z None (nothing (net.nodes n))) []) k.3
-                (subst (λ z. Midst p net q n (Says (Told t) ∷ []) [] (world_at w net) (at_link i n (less_word (Subject_of t)) (under_way net)) (tell t v.code (second_of z) (nothing (net.nodes n))) []) k.4
-                (tell_taken_ok p net q n (Says (Told t) ∷ []) [] (world_at w net) (under_way net) (net.nodes n) i t Shown_there wait.ForShow (Line_shown t v.code v.extra) (here (Says (Told t) ∷ [])) k.1 refl refl (ap (λ z. way z n (Line_shown t v.code v.extra)) (sym k.2)) refl refl (λ j. refl) (λ u j e. absurd (cc e)) refl));
+            expected = rw (on_node t Shown_there (here []) k.1, in_cluster t (λ e. absurd (cc (e, k.1)))) refl;
+            comes = subst (λ z. Midst (outset p w net q n (Says (Told t) ∷ [])) [] (at_link i n (less_word (Subject_of t)) (under_way net)) (tell t z None (nothing (net.nodes n))) []) k.3
+                (subst (λ z. Midst (outset p w net q n (Says (Told t) ∷ [])) [] (at_link i n (less_word (Subject_of t)) (under_way net)) (tell t v.code (second_of z) (nothing (net.nodes n))) []) k.4
+                (tell_taken_ok (net.nodes n) i t Shown_there wait.ForShow (Line_shown t v.code v.extra) (here (Says (Told t) ∷ [])) k.1 refl refl (ap (λ z. way z n (Line_shown t v.code v.extra)) (sym k.2)) (record { thread = refl; row = refl; idle = λ j. refl; held = refl; plain = refl })));
           }
       by (JoinAsk t seq) tells =
           let k = tells t refl in
           record {
             expected = rw (in_cluster t (λ e. absurd (cc (e, k.1)))) refl;
-            comes = hears_ok p net q n (Says (Heard t) ∷ []) [] (world_at w net) (under_way net) (net.nodes n) i seq t (here (Says (Heard t) ∷ [])) k.1;
+            comes = hears_ok (net.nodes n) i seq t (here (Says (Heard t) ∷ [])) k.1;
           }
       by (Answer t reply second) tells =
           let k = tells t refl in
           let v : Response = (w.threads t).verdict in
           record {
-            expected = rw (on_node p net q n [] [] (world_at w net) (under_way net) (nothing (net.nodes n)) [] t (Answered i) (here []) k.1, in_cluster t (λ e. absurd (cc (e, k.1)))) refl;
-            comes = subst (λ z. Midst p net q n (Says (Told t) ∷ []) [] (world_at w net) (at_link i n (less_word (Subject_of t)) (under_way net)) (tell t z second (nothing (net.nodes n))) []) k.2
-                (subst (λ z. Midst p net q n (Says (Told t) ∷ []) [] (world_at w net) (at_link i n (less_word (Subject_of t)) (under_way net)) (tell t v.code z (nothing (net.nodes n))) []) (ap second_of k.3 ∙ second-extra second)
-                (tell_taken_ok p net q n (Says (Told t) ∷ []) [] (world_at w net) (under_way net) (net.nodes n) i t (Answered i) wait.ForAnswer (Reply t v.code v.extra) (here (Says (Told t) ∷ [])) k.1 refl refl refl refl refl (λ j. refl) (λ u j e. absurd (cc e)) refl));
+            expected = rw (on_node t (Answered i) (here []) k.1, in_cluster t (λ e. absurd (cc (e, k.1)))) refl;
+            comes = subst (λ z. Midst (outset p w net q n (Says (Told t) ∷ [])) [] (at_link i n (less_word (Subject_of t)) (under_way net)) (tell t z second (nothing (net.nodes n))) []) k.2
+                (subst (λ z. Midst (outset p w net q n (Says (Told t) ∷ [])) [] (at_link i n (less_word (Subject_of t)) (under_way net)) (tell t v.code z (nothing (net.nodes n))) []) (ap second_of k.3 ∙ second-extra second)
+                (tell_taken_ok (net.nodes n) i t (Answered i) wait.ForAnswer (Reply t v.code v.extra) (here (Says (Told t) ∷ [])) k.1 refl refl refl (record { thread = refl; row = refl; idle = λ j. refl; held = refl; plain = refl })));
           }
       by (EndNote seq end) tells =
           let k = tells (tid n seq) refl in
           let x : (w.threads (tid n seq)).life ≡ Noting i end = k.1 in
           let opened : is_open (slice_get (w.births n) seq) ≡ true = open_birth (slice_get (w.births n) seq) (s.agrees.named (tid n seq) ∙ ap phase_of x) in
           record {
-            expected = ap (λ (bs : List Birth). not (is_open (slice_get bs seq))) (s.nodes n).names ∙ ap not opened;
-            comes = knows_ok p net q n (Says (Known (tid n seq)) ∷ []) [] (world_at w net) (under_way net) (net.nodes n) i seq end (here (Says (Known (tid n seq)) ∷ [])) x;
+            expected = ap (λ (bs : List Birth). not (is_open (slice_get bs seq))) (s.nodes n).births ∙ ap not opened;
+            comes = knows_ok (net.nodes n) i seq end (here (Says (Known (tid n seq)) ∷ [])) x;
           }
 
   -- ## The run list
 
   -- between events a thread on the run list is ready
-  row_ready : (t : Tid) (y : Listed) → item_of is_tid listed_name (map listed (net.nodes n).places.rows) t ≡ Some y → (w.threads t).life ≡ On n Ready
+  row_ready : (t : Tid) (y : Listed) → item_of is_tid listed_name (map listed (net.nodes n).run_lists.rows) t ≡ Some y → (w.threads t).life ≡ On n Ready
   row_ready t y found =
       (at_row n t (w.threads t).life (w.threads t).guest.priority y (not_busy n t (w.threads t) ((s.nodes n).busy.shows t)) (sym ((s.nodes n).rows.shows t) ∙ found)).0
 
   -- the thread that is picked is ready
-  pub picked_ready : (vp : ℕ) (r : Row) → best_on (tree_of p) vp (net.nodes n).places.rows ≡ Some r → (w.threads r.tid).life ≡ On n Ready
-  picked_ready vp r picked = row_ready r.tid (listed r) (row_found (net.nodes n).places.rows r (s.nodes n).rows.apart (best_is (tree_of p) vp (net.nodes n).places.rows r picked).0)
+  pub picked_ready : (vp : ℕ) (r : ReadyRow) → best_on (tree_of p) vp (net.nodes n).run_lists.rows ≡ Some r → (w.threads r.tid).life ≡ On n Ready
+  picked_ready vp r picked = row_ready r.tid (listed r) (row_found (net.nodes n).run_lists.rows r (s.nodes n).rows.apart (best_is (tree_of p) vp (net.nodes n).run_lists.rows r picked).0)
 
   -- and so is each that is on it
-  pub listed_ready : (t : Tid) → is_listed t (net.nodes n).places.rows ≡ true → (w.threads t).life ≡ On n Ready
-  listed_ready t h = by (item_of is_tid listed_name (map listed (net.nodes n).places.rows) t) refl
+  pub listed_ready : (t : Tid) → is_listed t (net.nodes n).run_lists.rows ≡ true → (w.threads t).life ≡ On n Ready
+  listed_ready t h = by (item_of is_tid listed_name (map listed (net.nodes n).run_lists.rows) t) refl
     where
-      by : (o : Option Listed) → item_of is_tid listed_name (map listed (net.nodes n).places.rows) t ≡ o → (w.threads t).life ≡ On n Ready
-      by None e = absurd (cc (e, h, listed_found (net.nodes n).places.rows t))
+      by : (o : Option Listed) → item_of is_tid listed_name (map listed (net.nodes n).run_lists.rows) t ≡ o → (w.threads t).life ≡ On n Ready
+      by None e = absurd (cc (e, h, listed_found (net.nodes n).run_lists.rows t))
       by (Some y) e = row_ready t y e
 
   -- ## A move
 
   record Sent (t : Tid) (to : ℕ) (x : Thread) : Type 0 where
-    left : Midst p net q n (Says (Left t to) ∷ []) [] (world_at w net) (under_way net) (goes p t to x (nothing (net.nodes n))) []
+    left : Midst (outset p w net q n (Says (Left t to) ∷ [])) [] (under_way net) (goes p t to x (nothing (net.nodes n))) []
     labels : (goes p t to x (nothing (net.nodes n))).labels ≡ Left t to ∷ []
 
-  sent : (t : Tid) (to : ℕ) (x : Thread) → is_listed t (net.nodes n).places.rows ≡ true → lookup (is_tid t) (net.nodes n).threads ≡ Some x → to < nodes_of p → (to ≡ n → ⊥) → Sent t to x
+  sent : (t : Tid) (to : ℕ) (x : Thread) → is_listed t (net.nodes n).run_lists.rows ≡ true → lookup (is_tid t) (net.nodes n).threads ≡ Some x → to < nodes_of p → (to ≡ n → ⊥) → Sent t to x
   sent t to x listed f inside other =
       let ready : (w.threads t).life ≡ On n Ready = listed_ready t listed in
-      let same : Some (waits wait.No (w.threads t).guest) ≡ Some x = sym (on_node p net q n [] [] (world_at w net) (under_way net) (nothing (net.nodes n)) [] t Ready (here []) ready) ∙ f in
+      let same : Some (waits wait.No (w.threads t).guest) ≡ Some x = sym (on_node t Ready (here []) ready) ∙ f in
       let one : waits wait.No (w.threads t).guest ≡ x = cc same in
       record {
-        left = subst (λ z. Midst p net q n (Says (Left t to) ∷ []) [] (world_at w net) (under_way net) (goes p t to z (nothing (net.nodes n))) []) one (sent_ok p net q n (Says (Left t to) ∷ []) [] (world_at w net) (under_way net) (nothing (net.nodes n)) t to (here (Says (Left t to) ∷ [])) ready inside other);
+        left = subst (λ z. Midst (outset p w net q n (Says (Left t to) ∷ [])) [] (under_way net) (goes p t to z (nothing (net.nodes n))) []) one (sent_ok (nothing (net.nodes n)) t to (here (Says (Left t to) ∷ [])) ready inside other);
         labels = ap (λ z. (cond z (leaves t to x (nothing (net.nodes n))) (nothing (net.nodes n))).labels) (in_cluster t (λ e. absurd (cc (e, ready)))) ∙ leaves_labels t to x (net.nodes n);
       }
 
   -- ## A run of the thread that is picked
 
-  ran_midst : nat_lt n (nodes_of p) ≡ true → (vp : ℕ) (r : Row) (x : Thread) → best_on (tree_of p) vp (net.nodes n).places.rows ≡ Some r → lookup (is_tid r.tid) (net.nodes n).threads ≡ Some x
-      → Midst p net q n (Runs r.tid vp ∷ []) [] (world_at w net) (under_way net) (run_thread p n vp (quantum_in q.act) r.tid x (nothing (net.nodes n))) []
+  ran_midst : nat_lt n (nodes_of p) ≡ true → (vp : ℕ) (r : ReadyRow) (x : Thread) → best_on (tree_of p) vp (net.nodes n).run_lists.rows ≡ Some r → lookup (is_tid r.tid) (net.nodes n).threads ≡ Some x
+      → Midst (outset p w net q n (Runs r.tid vp ∷ [])) [] (under_way net) (run_thread p n vp (quantum_in q.act) r.tid x (nothing (net.nodes n))) []
   ran_midst below vp r x picked f =
       let t : Tid = r.tid in
       let ready : (w.threads t).life ≡ On n Ready = picked_ready vp r picked in
-      let same : Some (waits wait.No (w.threads t).guest) ≡ Some x = sym (on_node p net q n [] [] (world_at w net) (under_way net) (nothing (net.nodes n)) [] t Ready (here []) ready) ∙ f in
+      let same : Some (waits wait.No (w.threads t).guest) ≡ Some x = sym (on_node t Ready (here []) ready) ∙ f in
       let one : waits wait.No (w.threads t).guest ≡ x = cc same in
-      subst (λ z. Midst p net q n (Runs t vp ∷ []) [] (world_at w net) (under_way net) (run_thread p n vp (quantum_in q.act) t z (nothing (net.nodes n))) []) one (run_ok p net q n (Runs t vp ∷ []) [] (world_at w net) (under_way net) below (nothing (net.nodes n)) t vp (here (Runs t vp ∷ [])) ready)
+      subst (λ z. Midst (outset p w net q n (Runs t vp ∷ [])) [] (under_way net) (run_thread p n vp (quantum_in q.act) t z (nothing (net.nodes n))) []) one (run_ok below (nothing (net.nodes n)) t vp (here (Runs t vp ∷ [])) ready)
 
   -- ## A beginning
 
-  boots_midst : nat_lt n (nodes_of p) ≡ true → Midst p net q n (cond (eqb n 0) (first_birth p n (lowest_free n 1 w) w) []) [] (world_at w net) (under_way net) (boots p n (nothing (net.nodes n))) []
+  boots_midst : nat_lt n (nodes_of p) ≡ true → Midst (outset p w net q n (cond (eqb n 0) (first_birth p n (lowest_free n 1 w) w) [])) [] (under_way net) (boots p n (nothing (net.nodes n))) []
   boots_midst below = by (eqb n 0) refl
     where
-      awake : (opening : List Item) → Midst p net q n opening opening (world_at w net) (under_way net) (with_booted (nothing (net.nodes n))) []
+      awake : (opening : List Item) → Midst (outset p w net q n opening) opening (under_way net) (with_booted (nothing (net.nodes n))) []
       awake opening = let k = here opening in record {
         now = k.now;
         told = k.told;
@@ -318,19 +347,19 @@ module _ (p : Program) (w : Spots) (net : Net) (s : Stands p w net) (q : Occasio
         there = k.there;
         links = k.links;
         agrees = k.agrees;
-        aside = record { places = refl; still = refl; next = tt; rising = s.rising n; booted = λ h. refl };
-        here = record { threads = k.here.threads; rows = k.here.rows; busy = k.here.busy; names = k.here.names; own = k.here.own; halted = k.here.halted };
+        aside = record { run_lists = refl; still = refl; next = tt; rising = s.rising n; booted = λ h. refl };
+        here = record { threads = k.here.threads; rows = k.here.rows; busy = k.here.busy; births = k.here.births; free = k.here.free; halted = k.here.halted };
       }
 
-      by_slot : n ≡ 0 → (o : Option ℕ) → free_slot (net.nodes n).slots.own ≡ o → Midst p net q n (first_birth p n o w) [] (world_at w net) (under_way net) (boots_in p n o (with_booted (nothing (net.nodes n)))) []
+      by_slot : n ≡ 0 → (o : Option ℕ) → free_slot (net.nodes n).slots.free ≡ o → Midst (outset p w net q n (first_birth p n o w)) [] (under_way net) (boots_in p n o (with_booted (nothing (net.nodes n)))) []
       by_slot zero None f = awake []
       by_slot zero (Some slot) f =
           let i : Item = Says (Born (tid n (length (w.births n))) why.Main p.image.main 0 0 (stack_end slot) slot) in
-          main_born_ok p net q n (i ∷ []) [] (world_at w net) (under_way net) below (with_booted (nothing (net.nodes n))) slot i (awake (i ∷ [])) refl zero f
+          main_born_ok below (with_booted (nothing (net.nodes n))) slot i (awake (i ∷ [])) refl zero f
 
-      by : (v : Bool) → eqb n 0 ≡ v → Midst p net q n (cond v (first_birth p n (lowest_free n 1 w) w) []) [] (world_at w net) (under_way net) (cond v (boots_in p n (free_slot (net.nodes n).slots.own) (with_booted (nothing (net.nodes n)))) (with_booted (nothing (net.nodes n)))) []
-      by true e = subst (λ o. Midst p net q n (first_birth p n o w) [] (world_at w net) (under_way net) (boots_in p n (free_slot (net.nodes n).slots.own) (with_booted (nothing (net.nodes n)))) []) (sym (lowest_is n 1 w (net.nodes n) [] (s.nodes n)))
-          (by_slot (eqb-true n 0 e) (free_slot (net.nodes n).slots.own) refl)
+      by : (v : Bool) → eqb n 0 ≡ v → Midst (outset p w net q n (cond v (first_birth p n (lowest_free n 1 w) w) [])) [] (under_way net) (cond v (boots_in p n (free_slot (net.nodes n).slots.free) (with_booted (nothing (net.nodes n)))) (with_booted (nothing (net.nodes n)))) []
+      by true e = subst (λ o. Midst (outset p w net q n (first_birth p n o w)) [] (under_way net) (boots_in p n (free_slot (net.nodes n).slots.free) (with_booted (nothing (net.nodes n)))) []) (sym (lowest_is n 1 w (net.nodes n) [] (s.nodes n)))
+          (by_slot (eqb-true n 0 e) (free_slot (net.nodes n).slots.free) refl)
       by false e = awake []
 
 -- the packet that comes is one that the node expects
@@ -355,70 +384,60 @@ range_to p n s t to h =
     let c = and_parts (nat_lt to (nodes_of p)) _ b.1 in
     (ltb-true to (nodes_of p) c.0, λ e. (let same : eqb to n ≡ true = eq-eqb to n e in absurd (cc (same, c.1))))
 
-opened : (p : Program) (n : ℕ) (s : Local) (a : Act) (o : Option Packet) (d : Doing) → local_event p n s a o ≡ Some d → cond (is_range p n s a) (acts p n s a o) None ≡ Some d
+opened : (p : Program) (n : ℕ) (s : Local) (a : Act) (o : Option Packet) (d : EventSoFar) → local_event p n s a o ≡ Some d → cond (is_range p n s a) (acts p n s a o) None ≡ Some d
 unfolding local_event
 opened p n s a o d h = h
 
--- an event in range, case by case
-acts_simulate : (p : Program) (w : Spots) (net : Net) (stamp n round : ℕ) (a : Act) (o : Option Packet) (d : Doing) → Stands p w net → is_range p n (net.nodes n) a ≡ true → local_event p n (net.nodes n) a o ≡ Some d → acts p n (net.nodes n) a o ≡ Some d → o ≡ next_packet net n a
-    → Simulates p w net (event stamp n round a o d)
-acts_simulate p w net stamp n round Boot None d s range is i h =
-    let same : boots p n (nothing (net.nodes n)) ≡ d = cc i in
-    let opening : List Item = cond (eqb n 0) (first_birth p n (lowest_free n 1 w) w) [] in
-    simulated p w net stamp n round Boot None d _ opening is (subst (λ z. Midst p net (asked_of Boot None) n opening [] (world_at w net) (under_way net) z []) same (boots_midst p w net s (asked_of Boot None) n (range_below p n (net.nodes n) Boot range))) (none_left net n Boot (λ i ps. refl)) (λ k. refl) tt s.rising
-acts_simulate p w net stamp n round (RunThread vp q) None d s range is i h = by_row (best_on (tree_of p) vp (net.nodes n).places.rows) refl i
-  where
-    by_thread : (r : Row) → best_on (tree_of p) vp (net.nodes n).places.rows ≡ Some r → (x : Option Thread) → lookup (is_tid r.tid) (net.nodes n).threads ≡ x → run_found p n vp q r.tid x (net.nodes n) ≡ Some d → Simulates p w net (event stamp n round (RunThread vp q) None d)
-    by_thread r e None f g = absurd (cc g)
-    by_thread r e (Some x) f g =
-        let same : run_thread p n vp q r.tid x (nothing (net.nodes n)) ≡ d = cc g in
-        let m : Midst p net (asked_of (RunThread vp q) None) n (Runs r.tid vp ∷ []) [] (world_at w net) (under_way net) d [] = subst (λ z. Midst p net (asked_of (RunThread vp q) None) n (Runs r.tid vp ∷ []) [] (world_at w net) (under_way net) z []) same (ran_midst p w net s (asked_of (RunThread vp q) None) n (range_below p n (net.nodes n) (RunThread vp q) range) vp r x e f) in
-        simulated p w net stamp n round (RunThread vp q) None d _ (Runs r.tid vp ∷ []) is m (none_left net n (RunThread vp q) (λ i ps. refl))
-        (λ k. (listed r, picked_is (tree_of p) vp (net.nodes n).places.rows r (s.rising n).0 e, refl))
-        (r, best_is (tree_of p) vp (net.nodes n).places.rows r e, runs_next p n vp r.tid w d.labels m.aside.next m.aside.still) s.rising
-
-    by_row : (r : Option Row) → best_on (tree_of p) vp (net.nodes n).places.rows ≡ r → run_picked p n vp q r (net.nodes n) ≡ Some d → Simulates p w net (event stamp n round (RunThread vp q) None d)
-    by_row None e g = absurd (cc g)
-    by_row (Some r) e g = by_thread r e (lookup (is_tid r.tid) (net.nodes n).threads) refl g
-acts_simulate p w net stamp n round (Take from) (Some x) d s range is i h =
-    let same : takes p n from x.body (net.nodes n) ≡ d = cc i in
-    let k : Taken p w net s (asked_of (Take from) (Some x)) n from x.body = taken p w net s (asked_of (Take from) (Some x)) n from x h in
-    let accepted : accepts n from x.body (net.nodes n) ≡ d = sym (ap (λ z. cond z (nothing (net.nodes n)) (accepts n from x.body (net.nodes n))) k.expected) ∙ same in
-    simulated p w net stamp n round (Take from) (Some x) d _ (for_packet n x.body) is (subst (λ z. Midst p net (asked_of (Take from) (Some x)) n (for_packet n x.body) [] (world_at w net) (at_link from n (less_word (word_subject (word_of n x.body))) (under_way net)) z []) accepted k.comes)
-    (words_left net n from x h) (λ before. (x, sym h, before, refl)) tt s.rising
-acts_simulate p w net stamp n round (Move t to) None d s range is i h = by_listed (is_listed t (net.nodes n).places.rows) refl i
-  where
-    by_thread : is_listed t (net.nodes n).places.rows ≡ true → (x : Option Thread) → lookup (is_tid t) (net.nodes n).threads ≡ x → moves_found p t to x (net.nodes n) ≡ Some d → Simulates p w net (event stamp n round (Move t to) None d)
-    by_thread e None f g = absurd (cc g)
-    by_thread e (Some x) f g =
-        let same : goes p t to x (nothing (net.nodes n)) ≡ d = cc g in
-        let inside = range_to p n (net.nodes n) t to range in
-        let k : Sent p w net s (asked_of (Move t to) None) n t to x = sent p w net s (asked_of (Move t to) None) n t to x e f inside.0 inside.1 in
-        simulated p w net stamp n round (Move t to) None d _ (Says (Left t to) ∷ []) is (subst (λ z. Midst p net (asked_of (Move t to) None) n (Says (Left t to) ∷ []) [] (world_at w net) (under_way net) z []) same k.left) (none_left net n (Move t to) (λ i ps. refl))
-        (λ j. (sym (on_list_is t (net.nodes n).places.rows) ∙ e, refl))
-        (e, subst (λ (z : Doing). z.labels ≡ Left t to ∷ []) same k.labels) s.rising
-
-    by_listed : (v : Bool) → is_listed t (net.nodes n).places.rows ≡ v → cond v (moves_found p t to (lookup (is_tid t) (net.nodes n).threads) (net.nodes n)) None ≡ Some d → Simulates p w net (event stamp n round (Move t to) None d)
-    by_listed true e g = by_thread e (lookup (is_tid t) (net.nodes n).threads) refl g
-    by_listed false e g = absurd (cc g)
-acts_simulate p w net stamp n round Boot (Some x) d s range is i h = absurd (cc i)
-acts_simulate p w net stamp n round (RunThread vp q) (Some x) d s range is i h = absurd (cc i)
-acts_simulate p w net stamp n round (Take from) None d s range is i h = absurd (cc i)
-acts_simulate p w net stamp n round (Move t to) (Some x) d s range is i h = absurd (cc i)
-
 -- an event is in range, and is what its act does
-pub possible : (p : Program) (n : ℕ) (s : Local) (a : Act) (o : Option Packet) (d : Doing) → local_event p n s a o ≡ Some d → (is_range p n s a ≡ true) × (acts p n s a o ≡ Some d)
+pub possible : (p : Program) (n : ℕ) (s : Local) (a : Act) (o : Option Packet) (d : EventSoFar) → local_event p n s a o ≡ Some d → (is_range p n s a ≡ true) × (acts p n s a o ≡ Some d)
 possible p n s a o d is = by (is_range p n s a) refl (opened p n s a o d is)
   where
     by : (v : Bool) → is_range p n s a ≡ v → cond v (acts p n s a o) None ≡ Some d → (is_range p n s a ≡ true) × (acts p n s a o ≡ Some d)
     by true e g = (e, g)
     by false e g = absurd (cc g)
 
-pub event_below : (p : Program) (n : ℕ) (s : Local) (a : Act) (o : Option Packet) (d : Doing) → local_event p n s a o ≡ Some d → nat_lt n (nodes_of p) ≡ true
-event_below p n s a o d is = range_below p n s a (possible p n s a o d is).0
-
-pub simulates : (p : Program) (w : Spots) (net : Net) (stamp n round : ℕ) (a : Act) (o : Option Packet) (d : Doing) → Stands p w net → local_event p n (net.nodes n) a o ≡ Some d → o ≡ next_packet net n a
+-- an event, case by case
+pub simulates : (p : Program) (w : Spots) (net : Net) (stamp n round : ℕ) (a : Act) (o : Option Packet) (d : EventSoFar) → Stands p w net → local_event p n (net.nodes n) a o ≡ Some d → o ≡ next_packet net n a
     → Simulates p w net (event stamp n round a o d)
-simulates p w net stamp n round a o d s is h =
-    let k = possible p n (net.nodes n) a o d is in
-    acts_simulate p w net stamp n round a o d s k.0 is k.1 h
+simulates p w net stamp n round Boot None d s is h =
+    let same : boots p n (nothing (net.nodes n)) ≡ d = cc (possible p n (net.nodes n) Boot None d is).1 in
+    let opening : List Item = cond (eqb n 0) (first_birth p n (lowest_free n 1 w) w) [] in
+    simulated s is (subst (λ z. Midst (outset p w net (asked_of Boot None) n opening) [] (under_way net) z []) same (boots_midst p w net s (asked_of Boot None) n (range_below p n (net.nodes n) Boot (possible p n (net.nodes n) Boot None d is).0))) (none_left net n Boot (λ i ps. refl)) (λ k. refl) tt
+simulates p w net stamp n round (RunThread vp q) None d s is h = by_row (best_on (tree_of p) vp (net.nodes n).run_lists.rows) refl (possible p n (net.nodes n) (RunThread vp q) None d is).1
+  where
+    by_thread : (r : ReadyRow) → best_on (tree_of p) vp (net.nodes n).run_lists.rows ≡ Some r → (x : Option Thread) → lookup (is_tid r.tid) (net.nodes n).threads ≡ x → run_found p n vp q r.tid x (net.nodes n) ≡ Some d → Simulates p w net (event stamp n round (RunThread vp q) None d)
+    by_thread r e None f g = absurd (cc g)
+    by_thread r e (Some x) f g =
+        let same : run_thread p n vp q r.tid x (nothing (net.nodes n)) ≡ d = cc g in
+        let m : Midst (outset p w net (asked_of (RunThread vp q) None) n (Runs r.tid vp ∷ [])) [] (under_way net) d [] = subst (λ z. Midst (outset p w net (asked_of (RunThread vp q) None) n (Runs r.tid vp ∷ [])) [] (under_way net) z []) same (ran_midst p w net s (asked_of (RunThread vp q) None) n (range_below p n (net.nodes n) (RunThread vp q) (possible p n (net.nodes n) (RunThread vp q) None d is).0) vp r x e f) in
+        simulated s is m (none_left net n (RunThread vp q) (λ i ps. refl)) (λ k. (listed r, picked_is (tree_of p) vp (net.nodes n).run_lists.rows r (s.rising n).0 e, refl)) (r, best_is (tree_of p) vp (net.nodes n).run_lists.rows r e, runs_next p n vp r.tid w d.labels m.aside.next m.aside.still)
+
+    by_row : (r : Option ReadyRow) → best_on (tree_of p) vp (net.nodes n).run_lists.rows ≡ r → run_picked p n vp q r (net.nodes n) ≡ Some d → Simulates p w net (event stamp n round (RunThread vp q) None d)
+    by_row None e g = absurd (cc g)
+    by_row (Some r) e g = by_thread r e (lookup (is_tid r.tid) (net.nodes n).threads) refl g
+simulates p w net stamp n round (Take from) (Some x) d s is h =
+    let same : takes p n from x.body (net.nodes n) ≡ d = cc (possible p n (net.nodes n) (Take from) (Some x) d is).1 in
+    let k : Taken p w net s (asked_of (Take from) (Some x)) n from x.body = taken p w net s (asked_of (Take from) (Some x)) n from x h in
+    let accepted : accepts n from x.body (net.nodes n) ≡ d = sym (ap (λ z. cond z (nothing (net.nodes n)) (accepts n from x.body (net.nodes n))) k.expected) ∙ same in
+    simulated s is (subst (λ z. Midst (outset p w net (asked_of (Take from) (Some x)) n (for_packet n x.body)) [] (at_link from n (less_word (word_subject (word_of n x.body))) (under_way net)) z []) accepted k.comes)
+    (words_left net n from x h) (λ before. (x, sym h, before, refl)) tt
+simulates p w net stamp n round (Move t to) None d s is h = by_listed (is_listed t (net.nodes n).run_lists.rows) refl (possible p n (net.nodes n) (Move t to) None d is).1
+  where
+    by_thread : is_listed t (net.nodes n).run_lists.rows ≡ true → (x : Option Thread) → lookup (is_tid t) (net.nodes n).threads ≡ x → moves_found p t to x (net.nodes n) ≡ Some d → Simulates p w net (event stamp n round (Move t to) None d)
+    by_thread e None f g = absurd (cc g)
+    by_thread e (Some x) f g =
+        let same : goes p t to x (nothing (net.nodes n)) ≡ d = cc g in
+        let inside = range_to p n (net.nodes n) t to (possible p n (net.nodes n) (Move t to) None d is).0 in
+        let k : Sent p w net s (asked_of (Move t to) None) n t to x = sent p w net s (asked_of (Move t to) None) n t to x e f inside.0 inside.1 in
+        simulated s is (subst (λ z. Midst (outset p w net (asked_of (Move t to) None) n (Says (Left t to) ∷ [])) [] (under_way net) z []) same k.left) (none_left net n (Move t to) (λ i ps. refl)) (λ j. (sym (on_list_is t (net.nodes n).run_lists.rows) ∙ e, refl)) (e, subst (λ (z : EventSoFar). z.labels ≡ Left t to ∷ []) same k.labels)
+
+    by_listed : (v : Bool) → is_listed t (net.nodes n).run_lists.rows ≡ v → cond v (moves_found p t to (lookup (is_tid t) (net.nodes n).threads) (net.nodes n)) None ≡ Some d → Simulates p w net (event stamp n round (Move t to) None d)
+    by_listed true e g = by_thread e (lookup (is_tid t) (net.nodes n).threads) refl g
+    by_listed false e g = absurd (cc g)
+simulates p w net stamp n round Boot (Some x) d s is h = absurd (cc h)
+simulates p w net stamp n round (RunThread vp q) (Some x) d s is h = absurd (cc h)
+simulates p w net stamp n round (Take from) None d s is h = absurd (cc (possible p n (net.nodes n) (Take from) None d is).1)
+simulates p w net stamp n round (Move t to) (Some x) d s is h = absurd (cc h)
+
+pub event_below : (p : Program) (n : ℕ) (s : Local) (a : Act) (o : Option Packet) (d : EventSoFar) → local_event p n s a o ≡ Some d → nat_lt n (nodes_of p) ≡ true
+event_below p n s a o d is = range_below p n s a (possible p n s a o d is).0

@@ -18,29 +18,26 @@ use Rattle.run_trace.specs.declared.packet.Body.TheVariants.{ShowDone, Answer}
 use Rattle.run_trace.specs.declared.node.Wait.{Wait}
 use Rattle.run_trace.specs.declared.node.Wait.TheVariants as wait
 use Rattle.run_trace.specs.Names.{is_tid, tid_cmp}
-use Rattle.run_trace.specs.Program.{Program, nodes_of}
+use Rattle.run_trace.specs.Program.{nodes_of}
 use Rattle.run_trace.specs.Guests.{Guest, waits, told, guest_slots, packed}
-use Rattle.run_trace.specs.Local.{Local, Doing, nothing}
+use Rattle.run_trace.specs.Local.{Local, EventSoFar, nothing}
 use Rattle.run_trace.specs.Steps.{say, put, print, arrive, keep, thread_in, comes, tell, tell_found, reply_by_link, shows, acknowledges, line_of}
 use Rattle.run_trace.specs.Machine.{may_come, lives_yet, are_away}
-use Rattle.run_trace.specs.Cluster.{Net}
-use Rattle.run_trace.specs.Keyed.{StandsFor, AreDistinct}
-use Rattle.run_trace.specs.Spots.{Stage, Ready, Shows, Showing, Shown_there, Awaits, Answers, Answered, On, Moving, Spot, Spots, Of_thread, update, shown_life, judged_life, judged_guest, told_stage, second_of}
-use Rattle.run_trace.specs.Rules.{Occasion, MayTell, is_free}
+use Rattle.run_trace.specs.Keyed.{AreDistinct}
+use Rattle.run_trace.specs.Spots.{Stage, Ready, Shows, Showing, Shown_there, Answers, Answered, On, Moving, Spot, Spots, Of_thread, update, shown_life, judged_life, judged_guest, told_stage, second_of}
+use Rattle.run_trace.specs.Rules.{MayTell, is_free}
 use Rattle.run_trace.specs.Console.{asked_bytes}
-use Rattle.run_trace.specs.Stands.{Busy, busy, busy_name, busy_part, thread_part, thread_in_life, thread_in_stage, row_part, row_in_life, row_in_stage, listed, listed_name, Word, Travels, Line, Line_shown, way, ways_of, phase_of, phase_at, During, held, holding_of, slots_held, is_thread}
+use Rattle.run_trace.specs.Stands.{Busy, busy, busy_name, busy_part, thread_part, thread_in_life, row_part, row_in_life, listed, listed_name, Word, Travels, Line, Line_shown, way, ways_of, phase_of, phase_at, During, held, slots_held, is_thread}
 use Rattle.run_trace.proofs.Lemmas.{is-true, is-refl}
-use Rattle.trace_laws.proofs.Lists.KeyedLemmas.{kept, added, fronted, unfronted, map_kept, map_set, map_added}
-use Rattle.run_trace.specs.World.{World}
-use Rattle.trace_laws.proofs.Underway.Midst.{Links, Midst, plain, keeps, LinkStands, at_link, spots_with, take_link, nothing_sent, nothing_sent_from}
-use Rattle.trace_laws.proofs.Lists.Parts.{listed_arrived, away_thread, away_row, busy_none}
+use Rattle.trace_laws.proofs.Lists.KeyedLemmas.{kept, fronted, unfronted, map_kept, map_set, map_added}
+use Rattle.trace_laws.proofs.Underway.Midst.{Outset, links_less, Links, Midst, plain, keeps, LinkStands, spots_with, take_link, nothing_sent, nothing_sent_from}
+use Rattle.trace_laws.proofs.Lists.Parts.{thread_holds, rows_arrived, away_thread, away_row, busy_none, thread_was, row_was}
+use Rattle.trace_laws.proofs.Lists.Stages.{StandsWaiting}
 use Rattle.trace_laws.proofs.Outcomes.Consequences.{OnNode, on_node_is}
-use Rattle.trace_laws.proofs.Underway.Lifetimes.{thread_holds}
-use Rattle.trace_laws.proofs.Underway.Steps.{own_goes, moved, send_step, in_hand, is_in_hand, on_node, thread_was, row_was, idle_was}
+use Rattle.trace_laws.proofs.Underway.Steps.{own_goes, moved, send_step, in_hand, busy_in_hand}
 use Rattle.run_trace.specs.Calls.{extra_of}
 use Rattle.run_trace.specs.Causes.{judged_causes}
-use Rattle.run_trace.specs.Items.{is_busy, Item, Says, Thread as Subject_of}
-use Rattle.trace_laws.proofs.Lists.Subjects.{less_word}
+use Rattle.run_trace.specs.Items.{is_busy, Item, Says}
 
 -- ## What a home and a map have
 
@@ -70,41 +67,43 @@ all_entries same same-true same-refl test (e ∷ es) a each =
     ] refl) in
     rw (first, rest) refl
 
-module _ (p : Program) (net : Net) (q : Occasion) (n : ℕ) (opening ahead : List Item) (w : World) (L : Links) where
-  -- the links without t's packet
-  abbrev pub Left : ℕ → Tid → Links
-  Left from t = at_link from n (less_word (Subject_of t)) L
+-- the links before anything is said
+pub links_whole : {outset : Outset} {due : List Item} {L : Links} {s : Local} → (m : Midst outset due L (nothing s) []) → (i j : ℕ) → LinkStands i j (L i j) m.now.spots.threads
+links_whole {outset} {L = L} m i j = nothing_sent_from outset.node L i j m.now.spots.threads (m.links i j)
 
-  pub links_whole : (due : List Item) (s : Local) → (m : Midst p net q n opening due w L (nothing s) []) → (i j : ℕ) → LinkStands i j (L i j) m.now.spots.threads
-  links_whole due s m i j = nothing_sent_from n L i j m.now.spots.threads (m.links i j)
+module _ {outset : Outset} {ahead : List Item} {L : Links} where
+  open outset use {program as p, net, occasion as q, node as n, opening, world as w}
 
   -- ## Lines
 
-  pub shows_ok : (s : Local) (from : ℕ) (t : Tid) (bytes : List ℕ) → (m : Midst p net q n opening (Says (Shown t) ∷ ahead) w L (nothing s) []) → (m.now.spots.threads t).life ≡ On from (Shows bytes) → n ≡ 0
-      → Midst p net q n opening ahead w (Left from t) (shows t bytes (nothing s)) (busy t (On from Showing) ∷ [])
+  pub shows_ok : (s : Local) (from : ℕ) (t : Tid) (bytes : List ℕ) → (m : Midst outset (Says (Shown t) ∷ ahead) L (nothing s) []) → (m.now.spots.threads t).life ≡ On from (Shows bytes) → n ≡ 0
+      → Midst outset ahead (links_less n L from t) (shows t bytes (nothing s)) (busy t (On from Showing) ∷ [])
   unfolding shows print say
   shows_ok s from t bytes m x zero =
       let o : Spot = m.now.spots.threads t in
       let r : Spot = record o { life = On from Showing } in
       let here_busy : is_busy n (On from Showing) ≡ true = eq-eqb 0 n (sym zero) in
-      (moved p net q n opening ahead w L (Says (Shown t) ∷ ahead) (Left from t) (nothing s) [] (busy t (On from Showing) ∷ []) (Shown t) t r s [] _ m
+      (moved (links_less n L from t) (busy t (On from Showing) ∷ []) (Shown t) t r s m
       (record {
         same = ap (λ z. spots_with (update m.now.spots.threads t (record o { life = shown_life z })) m.now.spots.slots m.now.spots.births m.now.spots.halts m.now.spots.remote) x;
         may = record { solo = tt; holders = tt; life = rw x zero; replies = tt; grants = tt };
         ties = record {
           threads = map_kept is_tid is-true is-refl (thread_part n) m.now.spots.threads t r s.threads m.here.threads (sym (ap (λ z. thread_in_life n z o.guest) x));
-          rows = kept is_tid is-true is-refl listed_name (row_part n) m.now.spots.threads t r (map listed s.places.rows) m.here.rows (sym (ap (λ z. row_in_life n t z o.guest.priority) x));
-          busy = fronted is_tid is-true is-refl busy_name (busy_part n) m.now.spots.threads t r [] (busy t (On from Showing)) m.here.busy refl (idle_was p net q n opening ahead w L o t (On from (Shows bytes)) x refl) (rw here_busy refl);
+          rows = kept is_tid is-true is-refl listed_name (row_part n) m.now.spots.threads t r (map listed s.run_lists.rows) m.here.rows (sym (ap (λ z. row_in_life n t z o.guest.priority) x));
+          busy = fronted is_tid is-true is-refl busy_name (busy_part n) m.now.spots.threads t r [] (busy t (On from Showing)) m.here.busy refl (busy_none n t o (On from (Shows bytes)) x refl) (rw here_busy refl);
         };
-        names = refl;
-        own = refl;
+        births = refl;
+        free = refl;
         halted = refl;
         next = record { heir = refl; next = refl; still = rw here_busy refl };
-        places = refl;
+        run_lists = refl;
         booted = refl;
       })
-      refl
-      (ap (λ z. line_of t (asked_bytes z)) (sym x))
+      (record {
+        sent = refl;
+        shown = ap (λ z. line_of t (asked_bytes z)) (sym x);
+        links = λ i j. nothing_sent n (links_less n L from t) i j (update m.now.spots.threads t r) (take_link from n (Line t bytes) t r L m.now.spots.threads (links_whole m) (ap (λ z. ways_of t z o.verdict o.guest) x ∙ ap (λ z. way from z (Line t bytes)) (sym zero)) i j);
+      })
       (record {
         frame = λ k e. record {
           thread = sym (ap (λ z. thread_in_life k z o.guest) x);
@@ -116,79 +115,78 @@ module _ (p : Program) (net : Net) (q : Occasion) (n : ℕ) (opening ahead : Lis
         holds = keeps _ _ (sym (ap (λ z. held z o.guest) x));
         unborn = λ e. absurd (cc (e, x));
         whole = plain _ refl;
-      })
-      (λ i j. nothing_sent n (Left from t) i j (update m.now.spots.threads t r) (take_link from n (Line t bytes) t r L m.now.spots.threads (links_whole (Says (Shown t) ∷ ahead) s m) (ap (λ z. ways_of t z o.verdict o.guest) x ∙ ap (λ z. way from z (Line t bytes)) (sym zero)) i j))).midst
+      })).midst
 
   -- ## Told by a packet
 
-  pub tell_taken_ok : (s : Local) (from : ℕ) (t : Tid) (a : Stage) (waiting : Wait) (y : Word) → (m : Midst p net q n opening (Says (Told t) ∷ ahead) w L (nothing s) []) → (m.now.spots.threads t).life ≡ On n a
+  pub tell_taken_ok : (s : Local) (from : ℕ) (t : Tid) (a : Stage) (waiting : Wait) (y : Word) → (m : Midst outset (Says (Told t) ∷ ahead) L (nothing s) []) → (m.now.spots.threads t).life ≡ On n a
       → MayTell n (On n a) → told_stage (On n a) ≡ Ready → ways_of t (On n a) (m.now.spots.threads t).verdict (m.now.spots.threads t).guest ≡ way from n y
-      → thread_in_stage a (m.now.spots.threads t).guest ≡ Some (waits waiting (m.now.spots.threads t).guest) → row_in_stage t a (m.now.spots.threads t).guest.priority ≡ None
-      → ((k : ℕ) → is_busy k (On n a) ≡ false) → ((u : Tid) (m : ℕ) → On n a ≡ On m (Awaits u) → ⊥) → Some (holding_of (m.now.spots.threads t).guest) ≡ held (On n a) (m.now.spots.threads t).guest
-      → Midst p net q n opening ahead w (Left from t) (tell t (m.now.spots.threads t).verdict.code (second_of (m.now.spots.threads t).verdict.extra) (nothing s)) []
+      → StandsWaiting n t a waiting (m.now.spots.threads t).guest
+      → Midst outset ahead (links_less n L from t) (tell t (m.now.spots.threads t).verdict.code (second_of (m.now.spots.threads t).verdict.extra) (nothing s)) []
   unfolding tell arrive say keep
-  tell_taken_ok s from t a waiting y m x may next ways there row idle quiet slots =
+  tell_taken_ok s from t a waiting y m x may next ways still =
       let o : Spot = m.now.spots.threads t in
       let g : Guest = told o.verdict.code (second_of o.verdict.extra) o.guest in
       let r : Spot = record o { life = On n Ready; guest = g } in
-      subst (λ f. Midst p net q n opening ahead w (Left from t) (tell_found t o.verdict.code (second_of o.verdict.extra) f (nothing s)) []) (sym (on_node p net q n opening (Says (Told t) ∷ ahead) w L (nothing s) [] t a m x ∙ there))
-      (moved p net q n opening ahead w L (Says (Told t) ∷ ahead) (Left from t) (nothing s) [] [] (Told t) t r _ [] [] m
+      subst (λ f. Midst outset ahead (links_less n L from t) (tell_found t o.verdict.code (second_of o.verdict.extra) f (nothing s)) []) (sym (m.here.threads.shows t ∙ thread_was n t o a x ∙ still.thread))
+      (moved (links_less n L from t) [] (Told t) t r _ m
       (record {
         same = ap (λ z. spots_with (update m.now.spots.threads t (record o { life = On n z; guest = g })) m.now.spots.slots m.now.spots.births m.now.spots.halts m.now.spots.remote) (ap told_stage x ∙ next);
         may = record { solo = tt; holders = tt; life = subst (λ z. MayTell n z) (sym x) may; replies = tt; grants = tt };
         ties = record {
-          threads = map_set is_tid is-true is-refl (thread_part n) m.now.spots.threads t r s.threads (waits waiting o.guest) (waits wait.No g) m.here.threads (thread_was p net q n opening ahead w L o t a x ∙ there) (thread_was p net q n opening ahead w L r t Ready refl);
-          rows = subst (λ rows. StandsFor is_tid listed_name (row_part n) rows (update m.now.spots.threads t r)) (sym (listed_arrived t o.guest.priority s.places))
-              (added is_tid is-true is-refl listed_name (row_part n) m.now.spots.threads t r (map listed s.places.rows) _ m.here.rows refl (row_was p net q n opening ahead w L o t a x ∙ row) (row_was p net q n opening ahead w L r t Ready refl));
-          busy = kept is_tid is-true is-refl busy_name (busy_part n) m.now.spots.threads t r [] m.here.busy (idle_was p net q n opening ahead w L r t (On n Ready) refl refl ∙ sym (idle_was p net q n opening ahead w L o t (On n a) x (idle n)));
+          threads = map_set is_tid is-true is-refl (thread_part n) m.now.spots.threads t r s.threads (waits waiting o.guest) (waits wait.No g) m.here.threads (thread_was n t o a x ∙ still.thread) (thread_was n t r Ready refl);
+          rows = rows_arrived n m.now.spots.threads t r s.run_lists m.here.rows (row_was n t o a x ∙ still.row) (row_was n t r Ready refl);
+          busy = kept is_tid is-true is-refl busy_name (busy_part n) m.now.spots.threads t r [] m.here.busy (busy_none n t r (On n Ready) refl refl ∙ sym (busy_none n t o (On n a) x (still.idle n)));
         };
-        names = refl;
-        own = refl;
+        births = refl;
+        free = refl;
         halted = refl;
         next = record { heir = refl; next = refl; still = refl };
-        places = refl;
+        run_lists = refl;
         booted = refl;
       })
-      refl
-      refl
+      (record {
+        sent = refl;
+        shown = refl;
+        links = λ i j. nothing_sent n (links_less n L from t) i j (update m.now.spots.threads t r) (take_link from n y t r L m.now.spots.threads (links_whole m) (ap (λ z. ways_of t z o.verdict o.guest) x ∙ ways) i j);
+      })
       (record {
         frame = λ k e. record {
           thread = away_thread n k t r Ready refl e ∙ sym (away_thread n k t o a x e);
           row = away_row n k t r Ready refl e ∙ sym (away_row n k t o a x e);
-          busy = busy_none k t r (On n Ready) refl refl ∙ sym (busy_none k t o (On n a) x (idle k));
+          busy = busy_none k t r (On n Ready) refl refl ∙ sym (busy_none k t o (On n a) x (still.idle k));
         };
         phase = sym (ap phase_of x);
-        quiet = λ u k e. quiet u k (sym x ∙ e);
-        holds = keeps _ _ (slots ∙ sym (ap (λ z. held z o.guest) x));
+        quiet = λ u k e. (plain (On n a) still.plain).waits u k (sym x ∙ e);
+        holds = keeps _ _ (sym still.held ∙ sym (ap (λ z. held z o.guest) x));
         unborn = λ e. absurd (cc (e, x));
         whole = plain _ refl;
-      })
-      (λ i j. nothing_sent n (Left from t) i j (update m.now.spots.threads t r) (take_link from n y t r L m.now.spots.threads (links_whole (Says (Told t) ∷ ahead) s m) (ap (λ z. ways_of t z o.verdict o.guest) x ∙ ways) i j))).midst
+      })).midst
 
   -- ## Replies that go back
 
-  pub acknowledges_ok : (d : Doing) (t : Tid) (at : ℕ) (hs : List Busy) → (m : Midst p net q n opening ahead w L d (busy t (On at Showing) ∷ hs)) → Midst p net q n opening ahead w L (acknowledges t at d) hs
+  pub acknowledges_ok : (d : EventSoFar) (t : Tid) (at : ℕ) (hs : List Busy) → (m : Midst outset ahead L d (busy t (On at Showing) ∷ hs)) → Midst outset ahead L (acknowledges t at d) hs
   unfolding acknowledges put say
   acknowledges_ok d t at hs m =
       let v : Spots = m.now.spots in
       let o : Spot = v.threads t in
-      let x : o.life ≡ On at Showing = in_hand p net q n opening ahead w L d t (On at Showing) hs m in
-      let zero : 0 ≡ n = eqb-true 0 n (is_in_hand p net q n opening ahead w L d t (On at Showing) hs m) in
+      let x : o.life ≡ On at Showing = in_hand m in
+      let zero : 0 ≡ n = eqb-true 0 n (busy_in_hand m) in
       let r : Spot = record o { life = On at Shown_there; verdict = record { code = 0; extra = Nothing } } in
-      (send_step p net q n opening ahead w L ahead d _ hs (Judged t 0 Nothing) t r d.node at (ShowDone t) m
+      (send_step hs (Judged t 0 Nothing) t r d.node at (ShowDone t) m
       (record {
         same = ap (λ z. spots_with (update v.threads t (record { life = judged_life z; guest = judged_guest z o.guest; verdict = record { code = 0; extra = Nothing } })) v.slots v.births v.halts v.remote) x;
         may = record { solo = tt; holders = tt; life = rw x (sym zero); replies = rw x (refl, refl); grants = rw x tt };
         ties = record {
           threads = map_kept is_tid is-true is-refl (thread_part n) v.threads t r d.node.threads m.here.threads (sym (ap (λ z. thread_in_life n z o.guest) x));
-          rows = kept is_tid is-true is-refl listed_name (row_part n) v.threads t r (map listed d.node.places.rows) m.here.rows (sym (ap (λ z. row_in_life n t z o.guest.priority) x));
+          rows = kept is_tid is-true is-refl listed_name (row_part n) v.threads t r (map listed d.node.run_lists.rows) m.here.rows (sym (ap (λ z. row_in_life n t z o.guest.priority) x));
           busy = unfronted is_tid is-true is-refl busy_name (busy_part n) v.threads t r hs (busy t (On at Showing)) m.here.busy refl refl;
         };
-        names = refl;
-        own = refl;
+        births = refl;
+        free = refl;
         halted = refl;
-        next = own_goes p net q n opening ahead w L d t (On at Showing) hs (Judged t 0 Nothing) (On at Shown_there) m refl refl refl;
-        places = refl;
+        next = own_goes m refl refl refl;
+        run_lists = refl;
         booted = refl;
       })
       (record {
@@ -211,27 +209,27 @@ module _ (p : Program) (net : Net) (q : Occasion) (n : ℕ) (opening ahead : Lis
         whole = plain _ refl;
       })).midst
 
-  pub reply_ok : (d : Doing) (t : Tid) (at : ℕ) (reply : TheReply) (second : Option ℕ) (hs : List Busy) → (m : Midst p net q n opening ahead w L d (busy t (On at (Answers n reply second)) ∷ hs)) → Midst p net q n opening ahead w L (reply_by_link t at reply second d) hs
+  pub reply_ok : (d : EventSoFar) (t : Tid) (at : ℕ) (reply : TheReply) (second : Option ℕ) (hs : List Busy) → (m : Midst outset ahead L d (busy t (On at (Answers n reply second)) ∷ hs)) → Midst outset ahead L (reply_by_link t at reply second d) hs
   unfolding reply_by_link put say
   reply_ok d t at reply second hs m =
       let v : Spots = m.now.spots in
       let o : Spot = v.threads t in
-      let x : o.life ≡ On at (Answers n reply second) = in_hand p net q n opening ahead w L d t (On at (Answers n reply second)) hs m in
+      let x : o.life ≡ On at (Answers n reply second) = in_hand m in
       let r : Spot = record o { life = On at (Answered n); verdict = record { code = reply_code reply; extra = extra_of second } } in
-      (send_step p net q n opening ahead w L ahead d _ hs (Judged t (reply_code reply) (extra_of second)) t r d.node at (Answer t reply second) m
+      (send_step hs (Judged t (reply_code reply) (extra_of second)) t r d.node at (Answer t reply second) m
       (record {
         same = ap (λ z. spots_with (update v.threads t (record { life = judged_life z; guest = judged_guest z o.guest; verdict = record { code = reply_code reply; extra = extra_of second } })) v.slots v.births v.halts v.remote) x;
         may = record { solo = tt; holders = tt; life = rw x refl; replies = rw x (refl, refl); grants = rw x tt };
         ties = record {
           threads = map_kept is_tid is-true is-refl (thread_part n) v.threads t r d.node.threads m.here.threads (sym (ap (λ z. thread_in_life n z o.guest) x));
-          rows = kept is_tid is-true is-refl listed_name (row_part n) v.threads t r (map listed d.node.places.rows) m.here.rows (sym (ap (λ z. row_in_life n t z o.guest.priority) x));
+          rows = kept is_tid is-true is-refl listed_name (row_part n) v.threads t r (map listed d.node.run_lists.rows) m.here.rows (sym (ap (λ z. row_in_life n t z o.guest.priority) x));
           busy = unfronted is_tid is-true is-refl busy_name (busy_part n) v.threads t r hs (busy t (On at (Answers n reply second))) m.here.busy refl refl;
         };
-        names = refl;
-        own = refl;
+        births = refl;
+        free = refl;
         halted = refl;
-        next = own_goes p net q n opening ahead w L d t (On at (Answers n reply second)) hs (Judged t (reply_code reply) (extra_of second)) (On at (Answered n)) m refl refl refl;
-        places = refl;
+        next = own_goes m refl refl refl;
+        run_lists = refl;
         booted = refl;
       })
       (record {
@@ -257,7 +255,7 @@ module _ (p : Program) (net : Net) (q : Occasion) (n : ℕ) (opening ahead : Lis
   -- ## A thread comes
 
   -- it is one that the node expects
-  pub may_come_ok : (s : Local) (from : ℕ) (t : Tid) → (m : Midst p net q n opening ahead w L (nothing s) []) → (m.now.spots.threads t).life ≡ Moving from n → nat_lt t.home (nodes_of p) ≡ true → may_come p n s (packed t (m.now.spots.threads t).guest) ≡ true
+  pub may_come_ok : (s : Local) (from : ℕ) (t : Tid) → (m : Midst outset ahead L (nothing s) []) → (m.now.spots.threads t).life ≡ Moving from n → nat_lt t.home (nodes_of p) ≡ true → may_come p n s (packed t (m.now.spots.threads t).guest) ≡ true
   may_come_ok s from t m x home =
       let o : Spot = m.now.spots.threads t in
       let away : lookup (is_tid t) s.threads ≡ None = m.here.threads.shows t ∙ ap (λ z. thread_in_life n z o.guest) x in
@@ -270,8 +268,8 @@ module _ (p : Program) (net : Net) (q : Occasion) (n : ℕ) (opening ahead : Lis
       mine : (y : ℕ) → has y (guest_slots g) ≡ true → m.now.spots.slots y ≡ Of_thread t
       mine y h = thread_holds t (m.now.spots.slots y) (sym (m.agrees.slots t y) ∙ ap (λ z. has y (slots_held (held z g))) x ∙ h)
 
-      no_own : meets (guest_slots g) s.slots.own ≡ false
-      no_own = meets_none (guest_slots g) s.slots.own (λ y h k. let free : is_free n (m.now.spots.slots y) ≡ true = sym (m.here.own y) ∙ k in let none : is_free n (m.now.spots.slots y) ≡ false = ap (is_free n) (mine y h) in absurd (cc (free, none)))
+      no_own : meets (guest_slots g) s.slots.free ≡ false
+      no_own = meets_none (guest_slots g) s.slots.free (λ y h k. let free : is_free n (m.now.spots.slots y) ≡ true = sym (m.here.free y) ∙ k in let none : is_free n (m.now.spots.slots y) ≡ false = ap (is_free n) (mine y h) in absurd (cc (free, none)))
 
       no_others : list_all (λ e. not (meets (guest_slots g) (guest_slots e.1.guest))) s.threads ≡ true
       no_others = all_entries is_tid is-true is-refl (λ e. not (meets (guest_slots g) (guest_slots e.1.guest))) s.threads m.here.threads.apart (λ u z f.
@@ -283,37 +281,39 @@ module _ (p : Program) (net : Net) (q : Occasion) (n : ℕ) (opening ahead : Lis
           absurd (cc (on.life, same, x)))))
 
       lives : lives_yet n s t ≡ true
-      lives = elim (eqb t.home n) as (λ v. eqb t.home n ≡ v → cond v (is_open (slice_get s.names t.seq)) true ≡ true) [
+      lives = elim (eqb t.home n) as (λ v. eqb t.home n ≡ v → cond v (is_open (slice_get s.births t.seq)) true ≡ true) [
         | true ↦ λ e.
-            let names : s.names ≡ m.now.spots.births t.home = m.here.names ∙ ap m.now.spots.births (sym (eqb-true t.home n e)) in
-            open_birth (slice_get s.names t.seq) (ap (λ (bs : List Birth). phase_at (slice_get bs t.seq)) names ∙ m.agrees.named t ∙ ap phase_of x)
+            let names : s.births ≡ m.now.spots.births t.home = m.here.births ∙ ap m.now.spots.births (sym (eqb-true t.home n e)) in
+            open_birth (slice_get s.births t.seq) (ap (λ (bs : List Birth). phase_at (slice_get bs t.seq)) names ∙ m.agrees.named t ∙ ap phase_of x)
         | false ↦ λ e. refl
       ] refl
 
-  pub comes_ok : (s : Local) (from : ℕ) (t : Tid) → (m : Midst p net q n opening (Says (Came t) ∷ ahead) w L (nothing s) []) → (m.now.spots.threads t).life ≡ Moving from n → Midst p net q n opening ahead w (Left from t) (comes (packed t (m.now.spots.threads t).guest) (nothing s)) []
+  pub comes_ok : (s : Local) (from : ℕ) (t : Tid) → (m : Midst outset (Says (Came t) ∷ ahead) L (nothing s) []) → (m.now.spots.threads t).life ≡ Moving from n → Midst outset ahead (links_less n L from t) (comes (packed t (m.now.spots.threads t).guest) (nothing s)) []
   unfolding comes arrive thread_in say
   comes_ok s from t m x =
       let o : Spot = m.now.spots.threads t in
       let r : Spot = record o { life = On n Ready } in
-      (moved p net q n opening ahead w L (Says (Came t) ∷ ahead) (Left from t) (nothing s) [] [] (Came t) t r _ [] [] m
+      (moved (links_less n L from t) [] (Came t) t r _ m
       (record {
         same = refl;
         may = record { solo = tt; holders = tt; life = rw x refl; replies = tt; grants = tt };
         ties = record {
-          threads = map_added is_tid is-true is-refl tid_cmp (λ a b. refl) (thread_part n) m.now.spots.threads t r s.threads (waits wait.No o.guest) m.here.threads (ap (λ z. thread_in_life n z o.guest) x) (thread_was p net q n opening ahead w L r t Ready refl);
-          rows = subst (λ rows. StandsFor is_tid listed_name (row_part n) rows (update m.now.spots.threads t r)) (sym (listed_arrived t o.guest.priority s.places))
-              (added is_tid is-true is-refl listed_name (row_part n) m.now.spots.threads t r (map listed s.places.rows) _ m.here.rows refl (ap (λ z. row_in_life n t z o.guest.priority) x) (row_was p net q n opening ahead w L r t Ready refl));
-          busy = kept is_tid is-true is-refl busy_name (busy_part n) m.now.spots.threads t r [] m.here.busy (idle_was p net q n opening ahead w L r t (On n Ready) refl refl ∙ sym (idle_was p net q n opening ahead w L o t (Moving from n) x refl));
+          threads = map_added is_tid is-true is-refl tid_cmp (λ a b. refl) (thread_part n) m.now.spots.threads t r s.threads (waits wait.No o.guest) m.here.threads (ap (λ z. thread_in_life n z o.guest) x) (thread_was n t r Ready refl);
+          rows = rows_arrived n m.now.spots.threads t r s.run_lists m.here.rows (ap (λ z. row_in_life n t z o.guest.priority) x) (row_was n t r Ready refl);
+          busy = kept is_tid is-true is-refl busy_name (busy_part n) m.now.spots.threads t r [] m.here.busy (busy_none n t r (On n Ready) refl refl ∙ sym (busy_none n t o (Moving from n) x refl));
         };
-        names = refl;
-        own = refl;
+        births = refl;
+        free = refl;
         halted = refl;
         next = record { heir = refl; next = refl; still = refl };
-        places = refl;
+        run_lists = refl;
         booted = refl;
       })
-      refl
-      refl
+      (record {
+        sent = refl;
+        shown = refl;
+        links = λ i j. nothing_sent n (links_less n L from t) i j (update m.now.spots.threads t r) (take_link from n (Travels (packed t o.guest)) t r L m.now.spots.threads (links_whole m) (ap (λ z. ways_of t z o.verdict o.guest) x) i j);
+      })
       (record {
         frame = λ k e. record {
           thread = away_thread n k t r Ready refl e ∙ sym (ap (λ z. thread_in_life k z o.guest) x);
@@ -325,5 +325,4 @@ module _ (p : Program) (net : Net) (q : Occasion) (n : ℕ) (opening ahead : Lis
         holds = keeps _ _ (sym (ap (λ z. held z o.guest) x));
         unborn = λ e. absurd (cc (e, x));
         whole = plain _ refl;
-      })
-      (λ i j. nothing_sent n (Left from t) i j (update m.now.spots.threads t r) (take_link from n (Travels (packed t o.guest)) t r L m.now.spots.threads (links_whole (Says (Came t) ∷ ahead) s m) (ap (λ z. ways_of t z o.verdict o.guest) x) i j))).midst
+      })).midst

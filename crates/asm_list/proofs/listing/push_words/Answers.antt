@@ -1,6 +1,6 @@
 use Rattle.std.proofs.Common.{◌/◌, ◌++◌, length, arith}
 use Rattle.asm_list.specs.Listing.{line_at, word_lines}
-use Rattle.asm_list.proofs.Ranges.{one_more}
+use Rattle.basics.proofs.Lemmas.{one_more}
 use Rattle.asm_list.proofs.listing.push_words.Goals as goal
 
 pub loop-index-preserved : goal.loop-index-preserved

@@ -1,6 +1,6 @@
 use Rattle.std.proofs.Common.{◌≤◌, arith, rules}
 use Rattle.std.specs.Prelude.{map}
-use Rattle.asm_text.specs.Tokens.{token_of, spans}
+use Rattle.asm_words.specs.Tokens.{token_of, spans}
 use Rattle.asm_text.specs.Statements.{fields_seen, bulk}
 use Rattle.asm_text.proofs.Sound.{made_sound}
 use Rattle.asm_text.proofs.reading.line_at.Goals as goal

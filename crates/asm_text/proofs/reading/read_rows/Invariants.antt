@@ -1,6 +1,6 @@
 use Rattle.std.proofs.Common.{◌≡◌, drop}
 use Rattle.std.specs.Prelude.{map}
-use Rattle.asm_text.specs.Tokens.{token_of}
+use Rattle.asm_words.specs.Tokens.{token_of}
 use Rattle.asm_text.specs.Lines.{read_rows}
 use Rattle.asm_text.specs.Rows.{row_of}
 use Rattle.asm_text.proofs.Misfits.{with_misfit}

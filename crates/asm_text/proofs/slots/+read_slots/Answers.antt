@@ -2,7 +2,7 @@ use Rattle.std.proofs.Common.{◌≡◌, List, ◌∷◌, length, ap, sym, ◌�
 use Rattle.std.specs.Prelude.{map}
 use Rattle.asm_text.specs.declared.slots.Slot.{Slot}
 use Rattle.asm_text.specs.declared.slots.Slot.TheVariants as slot
-use Rattle.asm_text.specs.Tokens.{token_of}
+use Rattle.asm_words.specs.Tokens.{token_of}
 use Rattle.asm_text.specs.Statements.{fields_seen}
 use Rattle.asm_text.specs.Slots.{read_slots}
 use Rattle.asm_text.proofs.Values.{values_last}

@@ -1,7 +1,7 @@
 use Rattle.std.proofs.Common.{◌≡◌, drop}
 use Rattle.std.specs.Prelude.{map}
 use Rattle.std.specs.List.{list_all}
-use Rattle.asm_text.specs.Tokens.{token_of}
+use Rattle.asm_words.specs.Tokens.{token_of}
 use Rattle.asm_text.specs.Slots.{value_fits}
 use Rattle.asm_text.proofs.slots.all_fit.Given as goal
 

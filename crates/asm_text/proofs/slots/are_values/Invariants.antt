@@ -1,6 +1,6 @@
 use Rattle.std.proofs.Common.{◌≡◌, false, drop}
 use Rattle.std.specs.Prelude.{map}
-use Rattle.asm_text.specs.Tokens.{token_of}
+use Rattle.asm_words.specs.Tokens.{token_of}
 use Rattle.asm_text.specs.Slots.{are_values}
 use Rattle.asm_text.proofs.slots.are_values.Given as goal
 

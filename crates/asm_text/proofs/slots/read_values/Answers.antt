@@ -1,7 +1,7 @@
 use Rattle.std.proofs.Common.{arith}
 use Rattle.std.specs.Prelude.{map}
-use Rattle.asm_text.specs.Tokens.{token_of}
-use Rattle.asm_text.proofs.Spans.{count_spans}
+use Rattle.asm_words.specs.Tokens.{token_of}
+use Rattle.asm_words.proofs.Lemmas.{count_spans}
 use Rattle.asm_text.proofs.slots.read_values.Goals as goal
 
 pub returns-clause-bulk : goal.returns-clause-bulk

@@ -1,6 +1,6 @@
 use Rattle.std.proofs.Common.{◌≡◌, ◌++◌, drop}
 use Rattle.std.specs.Prelude.{map}
-use Rattle.asm_text.specs.Tokens.{token_of}
+use Rattle.asm_words.specs.Tokens.{token_of}
 use Rattle.asm_text.specs.Statements.{value_seen, values_of}
 use Rattle.asm_text.proofs.statements.values_of.Given as goal
 

@@ -3,8 +3,8 @@ use Rattle.cluster.proofs.Gathered.{are_joined}
 use Rattle.cluster.proofs.laws.runs_join.Goals as goal
 
 pub returns : goal.returns
-returns c = λ p old lines histories j.
-    are_joined p old lines histories j
-    (c.joined.ensures.run p (net_after p old) lines histories j.joins)
-    (c.joined.ensures.nodes p (net_after p old) lines histories j.joins)
-    (c.joined.ensures.links p (net_after p old) lines histories j.joins)
+returns c = λ p old trace histories j.
+    are_joined p old trace histories j
+    (c.joined.ensures.run p (net_after p old) trace histories j.joins)
+    (c.joined.ensures.nodes p (net_after p old) trace histories j.joins)
+    (c.joined.ensures.links p (net_after p old) trace histories j.joins)

@@ -16,17 +16,17 @@ settle_self-requires-clause-numbered c = numbered_still c.args.nodes.now c.loop-
 
 pub loop-other-preserved-then-other-at : goal.loop-other-preserved-then-other-at
 loop-other-preserved-then-other-at c =
-    walks_below c.args.at c.loop-other.other c.args.rest.now c.args.nodes.now c.loop-other.nodes c.settle_pair.new.nodes c.if-other-at.true c.loop-other.invariant c.settle_pair.ensures.same c.settle_pair.ensures.settled
+    walks_below c.args.at c.loop-other.other c.args.rest.now c.args.nodes.now c.loop-other.nodes c.settle_pair.new.nodes c.if-other-at.true c.loop-other.invariant c.settle_pair.ensures.settled.0 c.settle_pair.ensures.settled.1
 
 pub loop-other-preserved-then-at-other : goal.loop-other-preserved-then-at-other
 loop-other-preserved-then-at-other c =
     walks_above c.args.at c.loop-other.other c.args.rest.now c.args.nodes.now c.loop-other.nodes c.settle_pair-then-at-other.new.nodes c.if-at-other.true c.loop-other.invariant
-    c.settle_pair-then-at-other.ensures.same c.settle_pair-then-at-other.ensures.settled
+    c.settle_pair-then-at-other.ensures.settled.0 c.settle_pair-then-at-other.ensures.settled.1
 
 pub loop-other-preserved : goal.loop-other-preserved
 loop-other-preserved c =
     walks_self c.args.at c.loop-other.other c.args.rest.now c.args.nodes.now c.loop-other.nodes c.settle_self.new.nodes (omega (arith, c.if-other-at.false, c.if-at-other.false)) c.loop-other.invariant
-    c.settle_self.ensures.same c.settle_self.ensures.settled
+    c.settle_self.ensures.settled.0 c.settle_self.ensures.settled.1
 
 pub returns-clause-settled : goal.returns-clause-settled
 returns-clause-settled c = walked c.args.at c.loop-other.other c.args.rest.now c.args.nodes.now c.loop-other.nodes c.requires.wired (omega arith) c.loop-other.invariant

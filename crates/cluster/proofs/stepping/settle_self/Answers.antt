@@ -18,14 +18,6 @@ settle_own-requires c =
     let here = wires-get vs c.args.rest.now i v at in
     paired_at (wires_in vs c.args.rest.now) i i v.ends v.ends c.requires.wired here here
 
-pub returns-clause-same : goal.returns-clause-same
-returns-clause-same c =
-    let vs = c.args.nodes.now in
-    let i = c.args.i in
-    let v = get_or vs i c.index-nodes-i.result in
-    let at : slice_get vs i ≡ Some v = slice_get-get_or vs i c.index-nodes-i.result c.requires.place in
-    keeps_one vs i v c.settle_own.new.self at c.settle_own.ensures.same
-
 pub returns-clause-settled : goal.returns-clause-settled
 returns-clause-settled c =
     let vs = c.args.nodes.now in
@@ -35,7 +27,9 @@ returns-clause-settled c =
     let w = c.settle_own.new.self in
     let at : slice_get vs i ≡ Some v = slice_get-get_or vs i c.index-nodes-i.result c.requires.place in
     let here = wires-get vs rest i v at in
-    let es = wires_in vs rest in
-    subst (λ fs. SelfChanged i (OwnBecomes IsSettled) es fs) (sym (wires-set vs rest i w c.requires.place))
-    (self_changed i (OwnBecomes IsSettled) es v.ends w.ends here c.requires.wired
-    (subst (λ m. LinkChanged m (OwnBecomes IsSettled) v.ends w.ends) (c.requires.numbered i v at ∙ sym (c.requires.wired.node i v.ends here)) c.settle_own.ensures.settled) c.settle_own.ensures.wired)
+    let es = wires_in vs rest in (
+      keeps_one vs i v w at c.settle_own.ensures.same,
+      subst (λ fs. SelfChanged i (OwnBecomes IsSettled) es fs) (sym (wires-set vs rest i w c.requires.place))
+          (self_changed i (OwnBecomes IsSettled) es v.ends w.ends here c.requires.wired
+          (subst (λ m. LinkChanged m (OwnBecomes IsSettled) v.ends w.ends) (c.requires.numbered i v at ∙ sym (c.requires.wired.node i v.ends here)) c.settle_own.ensures.settled) c.settle_own.ensures.wired),
+    )

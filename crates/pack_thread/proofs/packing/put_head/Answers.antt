@@ -1,7 +1,7 @@
 use Rattle.std.proofs.Common.{◌≡◌, ◌+◌, length, arith}
 use Rattle.iso_blocks.specs.Heap.{StandFrom}
-use Rattle.pack_thread.specs.Fields.{Blocks}
-use Rattle.pack_thread.specs.Grammar.{thread_fields}
+use Rattle.thread_text.specs.Fields.{Blocks}
+use Rattle.thread_text.specs.Grammar.{thread_fields}
 use Rattle.pack_thread.specs.Threads.{thread_of, numbers_of}
 use Rattle.pack_thread.specs.Writing.{Writes}
 use Rattle.pack_thread.proofs.Limits.{slots_few, blocks_few}

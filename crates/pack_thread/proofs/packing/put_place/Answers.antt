@@ -1,5 +1,5 @@
 use Rattle.std.proofs.Common.{refl, arith, []}
-use Rattle.pack_thread.specs.Grammar.{place_fields, slot_fields}
+use Rattle.thread_text.specs.Grammar.{place_fields, slot_fields}
 use Rattle.pack_thread.proofs.WriteSteps.{writes_none, writes_number}
 use Rattle.pack_thread.proofs.packing.put_place.Goals as goal
 

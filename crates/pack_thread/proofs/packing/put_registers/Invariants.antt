@@ -1,5 +1,5 @@
 use Rattle.std.proofs.Common.{◌-◌, take, drop}
-use Rattle.pack_thread.specs.Grammar.{register_fields}
+use Rattle.thread_text.specs.Grammar.{register_fields}
 use Rattle.pack_thread.specs.Writing.{Writes}
 use Rattle.pack_thread.proofs.packing.put_registers.Given as goal
 

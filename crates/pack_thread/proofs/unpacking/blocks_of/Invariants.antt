@@ -1,5 +1,5 @@
 use Rattle.std.proofs.Common.{◌≡◌}
-use Rattle.pack_thread.specs.Reading.{blocks_at}
+use Rattle.thread_text.specs.Reading.{blocks_at}
 use Rattle.pack_thread.proofs.unpacking.blocks_of.Given as goal
 
 abbrev pub invariant-loop-k : goal.invariant-loop-k

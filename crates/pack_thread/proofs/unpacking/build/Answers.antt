@@ -1,8 +1,8 @@
 use Rattle.std.proofs.Common.{◌≡◌, ap, ◌∙◌, refl, List, ℕ}
 use Rattle.iso_blocks.specs.Heap.{Heap, IsSound}
 use Rattle.rv_step.specs.Step.{state_of}
-use Rattle.pack_thread.specs.Opened.{live_of}
-use Rattle.pack_thread.specs.Reading.{blocks_at}
+use Rattle.thread_text.specs.Opened.{live_of}
+use Rattle.thread_text.specs.Reading.{blocks_at}
 use Rattle.pack_thread.proofs.Building.{made, built}
 use Rattle.pack_thread.proofs.unpacking.build.Goals as goal
 

@@ -1,6 +1,6 @@
 use Rattle.std.proofs.Common.{◌≡◌, length, Ok, Err, ap, sym, ◌∙◌, ◌+◌, arith}
-use Rattle.pack_thread.specs.Grammar.{read_text}
-use Rattle.pack_thread.specs.Opened.{slots_at, opened_numbers}
+use Rattle.thread_text.specs.Grammar.{read_text}
+use Rattle.thread_text.specs.Opened.{slots_at, opened_numbers}
 use Rattle.pack_thread.specs.Threads.{thread_of, IsTextOf}
 use Rattle.pack_thread.proofs.Texts.{reading, text_read, one_thread, found}
 use Rattle.pack_thread.proofs.unpacking.unpack.Goals as goal

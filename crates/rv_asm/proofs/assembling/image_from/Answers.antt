@@ -1,7 +1,7 @@
 use Rattle.std.proofs.Common.{◌≡◌, map, arith, rules}
 use Rattle.asm_text.specs.Slots.{seen}
 use Rattle.asm_text.specs.Lines.{line_seen}
-use Rattle.rv_asm.specs.Labels.{mark_in, service_in}
+use Rattle.asm_targets.specs.Labels.{mark_in, service_in}
 use Rattle.rv_asm.specs.Images.{services_below}
 use Rattle.rv_asm.proofs.Imaged.{too_long, is_image, bytes_fit, services_placed, services_ascend, services_short}
 use Rattle.rv_asm.proofs.assembling.image_from.Goals as goal

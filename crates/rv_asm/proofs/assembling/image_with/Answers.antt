@@ -1,7 +1,7 @@
 use Rattle.std.proofs.Common.{map, codes, sym, ◌∙◌, rules}
 use Rattle.asm_text.specs.Slots.{seen}
 use Rattle.asm_text.specs.Lines.{line_seen}
-use Rattle.rv_asm.specs.Labels.{mark_in}
+use Rattle.asm_targets.specs.Labels.{mark_in}
 use Rattle.rv_asm.specs.Layout.{base, end_of}
 use Rattle.rv_asm.proofs.Reached.{label_reached, main_reached}
 use Rattle.rv_asm.proofs.assembling.image_with.Goals as goal

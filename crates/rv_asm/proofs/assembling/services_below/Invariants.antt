@@ -1,5 +1,5 @@
 use Rattle.std.proofs.Common.{◌≡◌}
-use Rattle.rv_asm.specs.Labels.{mark_in, service_in}
+use Rattle.asm_targets.specs.Labels.{mark_in, service_in}
 use Rattle.rv_asm.specs.Images.{services_below}
 use Rattle.rv_asm.proofs.assembling.services_below.Given as goal
 

@@ -1,7 +1,7 @@
 use Rattle.std.proofs.Common.{◌≡◌, ◌++◌, drop, map}
 use Rattle.asm_text.specs.Slots.{seen}
 use Rattle.asm_text.specs.Lines.{line_seen}
-use Rattle.rv_asm.specs.Labels.{mark_in}
+use Rattle.asm_targets.specs.Labels.{mark_in}
 use Rattle.rv_asm.specs.Layout.{base}
 use Rattle.rv_asm.specs.Bytes.{all_bytes}
 use Rattle.rv_asm.proofs.Rest.{IsAt}

@@ -1,7 +1,7 @@
 use Rattle.std.proofs.Common.{◌≡◌, ◌++◌, drop, map}
 use Rattle.std.specs.List.{flat_map}
 use Rattle.asm_text.specs.Statements.{value_seen}
-use Rattle.rv_asm.specs.Labels.{mark_in}
+use Rattle.asm_targets.specs.Labels.{mark_in}
 use Rattle.rv_asm.specs.Bytes.{bytes_of_width, number_of_value}
 use Rattle.rv_asm.proofs.emitting.push_values.Given as goal
 

@@ -1,7 +1,7 @@
 use Rattle.std.proofs.Common.{◌≡◌, drop, map}
 use Rattle.asm_text.specs.Slots.{seen}
 use Rattle.asm_text.specs.Lines.{line_seen}
-use Rattle.rv_asm.specs.Labels.{mark_in, service_in}
+use Rattle.asm_targets.specs.Labels.{mark_in, service_in}
 use Rattle.rv_asm.specs.Layout.{base}
 use Rattle.rv_asm.specs.Faults.{first_fault}
 use Rattle.rv_asm.proofs.Rest.{IsAt}

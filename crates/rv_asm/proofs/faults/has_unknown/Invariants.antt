@@ -1,7 +1,7 @@
 use Rattle.std.proofs.Common.{◌≡◌, drop, map}
 use Rattle.std.specs.List.{list_any}
 use Rattle.asm_text.specs.Statements.{value_seen}
-use Rattle.rv_asm.specs.Labels.{mark_in}
+use Rattle.asm_targets.specs.Labels.{mark_in}
 use Rattle.rv_asm.specs.Faults.{is_unknown_value}
 use Rattle.rv_asm.proofs.faults.has_unknown.Given as goal
 

@@ -1,6 +1,6 @@
 use Rattle.std.proofs.Common.{◌≡◌, ℕ, List, drop, map}
 use Rattle.std.specs.Option.{option_or}
-use Rattle.rv_asm.specs.Labels.{mark_in}
+use Rattle.asm_targets.specs.Labels.{mark_in}
 use Rattle.asm_text.specs.Slots.{seen}
 use Rattle.asm_text.specs.Lines.{line_seen}
 use Rattle.rv_asm.specs.Layout.{base, label_among}

@@ -2,7 +2,7 @@ use Rattle.std.proofs.Common.{◌≡◌, ℕ, ◌+◌, drop, map}
 use Rattle.std.specs.Option.{option_or}
 use Rattle.asm_text.specs.Slots.{seen}
 use Rattle.asm_text.specs.Lines.{line_seen}
-use Rattle.rv_asm.specs.Labels.{service_in}
+use Rattle.asm_targets.specs.Labels.{service_in}
 use Rattle.rv_asm.specs.Layout.{service_among}
 use Rattle.rv_asm.proofs.layout.services_of.Given as goal
 

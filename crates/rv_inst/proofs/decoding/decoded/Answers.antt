@@ -1,4 +1,10 @@
+use Rattle.std.proofs.Common.{◌≡◌, ℕ, ◌%◌, ◌^◌, bit_and, sym, ◌∙◌}
+use Rattle.std.proofs.lemmas.Nat.{and_mask}
 use Rattle.rv_inst.proofs.decoding.decoded.Goals as goal
+
+-- the opcode, as a mask takes it
+low : (word opcode : ℕ) → bit_and word 0x7f ≡ opcode → word % 2 ^ 7 ≡ opcode
+low word opcode e = sym (and_mask word 7) ∙ e
 
 pub returns-in-103-clause-found : goal.returns-in-103-clause-found
 returns-in-103-clause-found c = c.jump_by.ensures.found
@@ -43,10 +49,10 @@ pub returns-in-51-clause-exact : goal.returns-in-51-clause-exact
 returns-in-51-clause-exact c = c.registers.ensures.exact
 
 pub returns-in-59-clause-found : goal.returns-in-59-clause-found
-returns-in-59-clause-found c = c.registers_w.ensures.found
+returns-in-59-clause-found c = c.registers-in-59.ensures.found
 
 pub returns-in-59-clause-exact : goal.returns-in-59-clause-exact
-returns-in-59-clause-exact c = c.registers_w.ensures.exact
+returns-in-59-clause-exact c = c.registers-in-59.ensures.exact
 
 pub returns-in-15-clause-found : goal.returns-in-15-clause-found
 returns-in-15-clause-found c = c.fence.ensures.found
@@ -59,3 +65,33 @@ returns-in-115-clause-found c = c.system.ensures.found
 
 pub returns-in-115-clause-exact : goal.returns-in-115-clause-exact
 returns-in-115-clause-exact c = c.system.ensures.exact
+
+pub jump_by-requires : goal.jump_by-requires
+jump_by-requires c = low c.args.word 103 c.in-103.is
+
+pub branch-word-requires : goal.branch-word-requires
+branch-word-requires c = low c.args.word 99 c.in-99.is
+
+pub load-requires : goal.load-requires
+load-requires c = low c.args.word 3 c.in-3.is
+
+pub store-requires : goal.store-requires
+store-requires c = low c.args.word 35 c.in-35.is
+
+pub immediate-requires : goal.immediate-requires
+immediate-requires c = low c.args.word 19 c.in-19.is
+
+pub immediate_w-requires : goal.immediate_w-requires
+immediate_w-requires c = low c.args.word 27 c.in-27.is
+
+pub registers-requires-clause-word : goal.registers-requires-clause-word
+registers-requires-clause-word c = low c.args.word 51 c.in-51.is
+
+pub registers-requires-in-59-clause-word : goal.registers-requires-in-59-clause-word
+registers-requires-in-59-clause-word c = low c.args.word 59 c.in-59.is
+
+pub fence-requires : goal.fence-requires
+fence-requires c = low c.args.word 15 c.in-15.is
+
+pub system-requires : goal.system-requires
+system-requires c = low c.args.word 115 c.in-115.is

@@ -10,7 +10,7 @@ use Rattle.cluster.proofs.Lemmas.{has_room}
 use Rattle.simulation.proofs.Running.{at_whole}
 use Rattle.cluster.specs.View.{console_in}
 use Rattle.simulation.specs.Replayed.{HasReplayed}
-use Rattle.simulation.specs.declared.simulation.End.TheVariants.{NotPossible}
+use Rattle.simulation.specs.declared.simulation.RunEnd.TheVariants.{NotPossible}
 use Rattle.simulation.proofs.Replaying.{in_range, item_at, trace_by, begins_by, low_clock, impossible, is_done_by, is_stalled_by, goes_on_after, lost_by, goes_on_by, refused_by}
 use Rattle.simulation.proofs.schedule.do_acts.Goals as goal
 

@@ -16,9 +16,9 @@ step-requires-clause-range c = (chosen_possible c.args.moves c.args.cluster.now 
     (chosen_whole c.args.moves c.args.cluster.now.program c.requires.some.0 c.args.word _ (c.choose.ensures [] c.requires.some.0 c.requires.some.1)) c.in-Some.is).range
 
 pub returns-clause-ok : goal.returns-clause-ok
-returns-clause-ok c lines s = draws c.args.moves c.args.cluster.now c.step.new.self lines c.choose.result c.args.word _ _ _ s
-    (chosen_whole c.args.moves c.args.cluster.now.program lines c.args.word _ (c.choose.ensures [] lines s)) c.in-Some.is
-    (c.in_ok-step-in-Some.ensures.steps [] lines s) (c.in_ok-step-in-Some.ensures.idle [] lines s)
+returns-clause-ok c trace s = draws c.args.moves c.args.cluster.now c.step.new.self trace c.choose.result c.args.word _ _ _ s
+    (chosen_whole c.args.moves c.args.cluster.now.program trace c.args.word _ (c.choose.ensures [] trace s)) c.in-Some.is
+    (c.in_ok-step-in-Some.ensures.steps [] trace s) (c.in_ok-step-in-Some.ensures.idle [] trace s)
 
 pub step-requires-clause-room : goal.step-requires-clause-room
 step-requires-clause-room c = has_room c.args.cluster.now [] c.requires.some.0 c.requires.some.1.agrees c.requires.few _

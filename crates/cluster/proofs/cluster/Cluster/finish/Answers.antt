@@ -11,6 +11,6 @@ merge-requires c =
     subst (λ ps. AreParts 0 ps) (sym parts) (are_parts c.args.self c.requires.0 c.requires.1)
 
 pub returns-clause-trace : goal.returns-clause-trace
-returns-clause-trace c = λ lines t.
+returns-clause-trace c = λ trace t.
     let parts = c.in_ok-parts.ensures.0 ∙ ap (map entries_of) (ap (λ (z : ClusterView). z.nodes) c.self.view_is) in
-    c.new.ensures ∙ merged_trace c.args.self lines c.in_ok-entries.entries.items c.in_ok-parts.parts.items t parts c.in_ok-entries.ensures.order c.in_ok-entries.ensures.own
+    c.new.ensures ∙ merged_trace c.args.self trace c.in_ok-entries.entries.items c.in_ok-parts.parts.items t parts c.in_ok-entries.ensures.order c.in_ok-entries.ensures.own

@@ -1,7 +1,6 @@
-use Rattle.std.proofs.Common.{rules, ap, subst}
+use Rattle.std.proofs.Common.{rules, subst}
 use Rattle.run_trace.specs.declared.entry.Act.TheVariants.{Run}
 use Rattle.node_loop.specs.Turns.{Turns}
-use Rattle.node_loop.specs.View.{NodeView}
 use Rattle.node_loop.proofs.Rounding.{fails_now, pass_idle, pass_ran}
 use Rattle.node_loop.proofs.Stepping.{if_err}
 use Rattle.node_loop.proofs.node.Node.pass.Goals as goal

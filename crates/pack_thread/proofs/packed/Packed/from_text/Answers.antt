@@ -3,7 +3,7 @@ use Rattle.std.proofs.lemmas.Bool.{cases_lt}
 use Rattle.std.proofs.lemmas.List.{get_or_past}
 use Rattle.pack_thread.specs.Packed.{thread_in}
 use Rattle.pack_thread.specs.Threads.{IsTextOf}
-use Rattle.pack_thread.proofs.FieldLaws.{IsBytes}
+use Rattle.thread_text.proofs.Lemmas.{IsBytes}
 use Rattle.pack_thread.proofs.TextThreads.{opened_again}
 use Rattle.pack_thread.proofs.packed.Packed.from_text.Goals as goal
 

@@ -5,7 +5,7 @@ use Rattle.run_trace.specs.Links.{first_of}
 use Rattle.run_judge.specs.declared.flights.Flight.{Flight}
 use Rattle.run_judge.specs.Links.{is_on, link_of}
 use Rattle.run_judge.proofs.LinkLemmas.{Takes, takes, none_on, left_taken, left_none}
-use Rattle.run_judge.proofs.Places.{position-None}
+use Rattle.run_judge.proofs.Positions.{position-None}
 use Rattle.run_judge.proofs.flights.Flights.take_from.Goals as goal
 
 taken : (c : goal.After-remove-packet) → Takes c.args.from c.args.to c.args.self.now.all.items c.remove-packet.new.self.items c.remove-packet.result.packet

@@ -4,4 +4,4 @@ use Rattle.slot_space.proofs.Words.{members-union}
 use Rattle.slot_space.proofs.slot_set.SlotSet.insert_run.Goals as goal
 
 pub returns : goal.returns
-returns c = rw (← c.self.view_is, ← c.first.view_is) (members-union c.self.inside.words c.set_run.new.words (run c.first.inside.0 c.args.count) (ascending-run c.first.inside.0 c.args.count) c.set_run.ensures.bits)
+returns c = rw (← c.self.view_is, ← c.first.view_is) (members-union c.self.inside.words c.write_run.new.words (run c.first.inside.0 c.args.count) (ascending-run c.first.inside.0 c.args.count) c.write_run.ensures.bits)

@@ -1,6 +1,0 @@
-use Rattle.std.proofs.Common.{◌≡◌, take}
-use Rattle.asm_text.specs.Words.{capped_value}
-use Rattle.asm_text.proofs.words.capped_value.Given as goal
-
-abbrev pub invariant-loop-b : goal.invariant-loop-b
-invariant-loop-b l = l.value ≡ capped_value l.radix (take l.b-index l.digits)

@@ -1,5 +1,0 @@
-use Rattle.std.proofs.Common.{rules}
-use Rattle.asm_text.proofs.words.in_range.Goals as goal
-
-pub returns-after-number : goal.returns-after-number
-returns-after-number c = search rules

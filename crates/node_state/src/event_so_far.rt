@@ -1,0 +1,189 @@
+//! An event in its midst, and the parts of the node that its steps change, each with the word that the definition has for it.
+
+ghost use Rattle.std.specs.Prelude.{◌≡◌, ◌∷◌, [], IfOk};
+ghost use Rattle.run_trace.specs.Local.{nothing, with_booted};
+ghost use Rattle.run_trace.specs.Steps.{say, put, print, arrive, take_off, thread_in, thread_out, slots_out, slots_in, birth_in};
+ghost use Rattle.node_state.specs.Events.{fresh_in};
+
+use crate::output::EventOutput;
+use crate::state::LocalState;
+use basics::{Items, NoMemory};
+use marcel_core::{BIRTH_LIMIT, Homes};
+use node_thread::Thread;
+use raw_slots::Pool;
+use run_list::RunList;
+use run_trace::{Body, Label, Send, Setup};
+use slot_space::{NodeNo, SlotNo, SlotSet, Tid};
+use std::alloc::Global;
+use std::collections::BTreeMap;
+use std::marker::Model;
+use std::mem;
+
+/// The state of a node, and what the event has come to so far.
+#[derive(Drop)]
+pub(crate) struct EventSoFar {
+    pub(crate) alloc: Global,
+    pub(crate) node: LocalState,
+    /// Blocks for the slots of threads to come.
+    pub(crate) pool: Pool,
+    labels: Vec<Label>,
+    sends: Vec<Send>,
+    prints: Vec<u8>,
+}
+
+impl Model for EventSoFar {
+    ghost use Rattle.run_trace.specs.Local.{EventSoFar as TheDoing};
+    ghost use Rattle.node_state.specs.Views.{doing_of};
+
+    ghost Value = { TheDoing };
+
+    ghost view = { λ d. doing_of d.node d.labels.items d.sends.items d.prints.items };
+}
+
+impl EventSoFar {
+    /// A node before its first event, and nothing has happened.
+    pub(crate) fn fresh(alloc: Global, setup: &Setup, me: NodeNo) -> EventSoFar
+        ensures { result ≡ nothing (fresh_in setup.now me) }
+    {
+        EventSoFar {
+            alloc,
+            node: LocalState {
+                booted: false,
+                free: SlotSet::starting(&setup.geometry, me),
+                threads: BTreeMap::new(alloc),
+                run_list: RunList::new(alloc),
+                homes: Homes::new(alloc, me),
+                halted: false,
+            },
+            pool: Pool::new(alloc),
+            labels: Vec::new(alloc),
+            sends: Vec::new(alloc),
+            prints: Vec::new(alloc),
+        }
+    }
+
+    /// How many blocks are spare.
+    pub(crate) fn spare(&self) -> u32 {
+        self.pool.spare()
+    }
+
+    /// What the event has come to, taken out.
+    pub(crate) fn take_done(&mut self) -> EventOutput
+        ensures labels { result.labels ≡ self.old.labels }
+        ensures sends { result.sends ≡ self.old.sends }
+        ensures prints { result.prints ≡ self.old.prints }
+        ensures rest { self.new ≡ nothing self.old.node }
+    {
+        let alloc = self.alloc;
+        EventOutput {
+            labels: Items::new(mem::replace(&mut self.labels, Vec::new(alloc))),
+            sends: Items::new(mem::replace(&mut self.sends, Vec::new(alloc))),
+            prints: Items::new(mem::replace(&mut self.prints, Vec::new(alloc))),
+        }
+    }
+
+    /// Adds a label.
+    #[tactic(auto, unfolding(run_trace::specs::Steps::say))]
+    pub(crate) fn say(&mut self, label: Label) -> Result<(), NoMemory>
+        ensures { IfOk result (λ _. self.new ≡ say label self.old) }
+    {
+        self.labels.push(label)?;
+        Ok(())
+    }
+
+    /// Adds a packet to send.
+    #[tactic(auto, unfolding(run_trace::specs::Steps::put))]
+    pub(crate) fn put(&mut self, to: NodeNo, body: Body) -> Result<(), NoMemory>
+        ensures { IfOk result (λ _. self.new ≡ put to body self.old) }
+    {
+        self.sends.push(Send { to, body })?;
+        Ok(())
+    }
+
+    /// These bytes go to the console.
+    #[tactic(auto, unfolding(run_trace::specs::Steps::print))]
+    pub(crate) fn print(&mut self, bytes: &[u8]) -> Result<(), NoMemory>
+        ensures { IfOk result (λ _. self.new ≡ print bytes.now self.old) }
+    {
+        self.prints.extend_from_slice(bytes)?;
+        Ok(())
+    }
+
+    /// The thread is on the run list.
+    #[tactic(auto, unfolding(run_trace::specs::Steps::arrive))]
+    pub(crate) fn arrive(&mut self, t: &Tid, priority: u8) -> Result<(), NoMemory>
+        ensures { IfOk result (λ _. self.new ≡ arrive t.now priority self.old) }
+    {
+        let node = &mut self.node;
+        node.run_list.arrive(*t, priority)
+    }
+
+    /// The thread leaves the run list.
+    #[tactic(auto, unfolding(run_trace::specs::Steps::take_off))]
+    pub(crate) fn take_off(&mut self, t: &Tid)
+        ensures { self.new ≡ take_off t.now self.old }
+    {
+        let node = &mut self.node;
+        node.run_list.take_off(*t);
+    }
+
+    /// Adds a thread.
+    #[tactic(auto, unfolding(run_trace::specs::Steps::thread_in))]
+    pub(crate) fn thread_in(&mut self, t: &Tid, thread: Thread) -> Result<(), NoMemory>
+        ensures { IfOk result (λ _. self.new ≡ thread_in t.now thread self.old) }
+    {
+        let node = &mut self.node;
+        node.threads.insert(*t, thread)?;
+        Ok(())
+    }
+
+    /// The thread is here no more, and its blocks are spare.
+    #[tactic(auto, unfolding(run_trace::specs::Steps::thread_out))]
+    pub(crate) fn thread_out(&mut self, t: &Tid)
+        ensures { self.new ≡ thread_out t.now self.old }
+    {
+        let node = &mut self.node;
+        if let Some(thread) = node.threads.remove(t) {
+            thread.end(&mut self.pool);
+        }
+    }
+
+    /// A thread gets this slot.
+    #[tactic(auto, unfolding(run_trace::specs::Steps::slots_out))]
+    pub(crate) fn slot_out(&mut self, slot: SlotNo)
+        ensures { self.new ≡ slots_out (slot ∷ []) self.old }
+    {
+        let node = &mut self.node;
+        node.free.remove(slot);
+    }
+
+    /// The node gets these slots.
+    #[tactic(auto, unfolding(run_trace::specs::Steps::slots_in))]
+    pub(crate) fn slots_in(&mut self, slots: &SlotSet)
+        ensures { self.new ≡ slots_in slots.now self.old }
+    {
+        let node = &mut self.node;
+        node.free.union_with(slots);
+    }
+
+    /// Adds a birth of this home. Want of memory is also where no more can be counted.
+    #[tactic(auto, unfolding(run_trace::specs::Steps::birth_in))]
+    pub(crate) fn birth_in(&mut self) -> Result<(), NoMemory>
+        ensures { IfOk result (λ _. self.new ≡ birth_in self.old) }
+    {
+        let node = &mut self.node;
+        if node.homes.births().len() >= BIRTH_LIMIT {
+            return Err(NoMemory);
+        }
+        node.homes.born()?;
+        Ok(())
+    }
+
+    /// The node has begun.
+    pub(crate) fn begin(&mut self)
+        ensures { self.new ≡ with_booted self.old }
+    {
+        let node = &mut self.node;
+        node.booted = true;
+    }
+}

@@ -1,4 +1,0 @@
-use Rattle.rv_asm.proofs.expanding.+count_within.Given as goal
-
-abbrev pub decreases-count_within : goal.decreases-count_within
-decreases-count_within l = l.shifts

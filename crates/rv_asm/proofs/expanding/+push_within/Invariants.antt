@@ -1,4 +1,0 @@
-use Rattle.rv_asm.proofs.expanding.+push_within.Given as goal
-
-abbrev pub decreases-push_within : goal.decreases-push_within
-decreases-push_within l = l.shifts

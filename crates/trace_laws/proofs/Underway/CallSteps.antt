@@ -1,0 +1,262 @@
+-- Calls, on an event in its midst: one that goes on, one that waits for what its packet brings, a halt, and a thread that leaves.
+use Rattle.std.proofs.Common.{◌≡◌, ℕ, ◌<◌, List, [], ◌∷◌, Some, true, false, eqb, cond, refl, sym, ap, ◌∙◌, subst, map}
+use Rattle.std.specs.Prelude.{nat_lt}
+use Rattle.std.proofs.lemmas.Bool.{eq-eqb}
+use Rattle.std.proofs.lemmas.List.{append-nil}
+use Rattle.slot_space.specs.declared.names.Tid.{Tid}
+use Rattle.run_trace.specs.declared.label.Label.TheVariants.{Asked, Left, Halted}
+use Rattle.run_trace.specs.declared.packet.Body.{Body}
+use Rattle.run_trace.specs.declared.packet.Body.TheVariants.{Mover, Show, JoinAsk}
+use Rattle.run_trace.specs.declared.node.Wait.{Wait}
+use Rattle.run_trace.specs.declared.node.Wait.TheVariants as wait
+use Rattle.run_trace.specs.Names.{is_tid}
+use Rattle.run_trace.specs.Program.{Program, nodes_of}
+use Rattle.run_trace.specs.Guests.{waits, packed, Solo}
+use Rattle.run_trace.specs.declared.call.Call.{Call}
+use Rattle.run_trace.specs.Calls.{call_of, number_of, args_of, refusal, said_bytes}
+use Rattle.run_trace.specs.Local.{EventSoFar}
+use Rattle.run_trace.specs.Steps.{say, put, take_off, keep, halt, asks, asks_show, asks_join, halts, leaves, thread_out}
+use Rattle.run_trace.specs.Machine.{goes}
+use Rattle.run_trace.specs.Keyed.{StandsFor}
+use Rattle.run_trace.specs.Spots.{Stage, Ready, Running, Departs, Halts, Stays, Shows, Asks, Unborn, On, Moving, Spot, Spots, update, remote_after, after_label, stage_of_call, at_node}
+use Rattle.run_trace.specs.Rules.{MayLeave}
+use Rattle.run_trace.specs.Stands.{Busy, busy, busy_name, busy_part, thread_part, row_part, listed, listed_name, word_subject, word_of, way, ways_of, phase_of, held, held_in_stage, holding_of}
+use Rattle.run_trace.proofs.Lemmas.{is-true, is-refl}
+use Rattle.trace_laws.proofs.Lists.KeyedLemmas.{kept, unfronted, refronted, map_kept, map_removed, map_set}
+use Rattle.trace_laws.proofs.Underway.Steps.{in_hand, own_stays, own_goes, own_alone, home_step, send_step, life_then}
+use Rattle.run_trace.specs.Causes.{send_to, asked_causes}
+use Rattle.trace_laws.proofs.Underway.Midst.{Outset, Own, beside, Links, Midst, under, spots_with, labelled, here_kept, agrees_kept, plain, links_kept, Keeps, keeps}
+use Rattle.trace_laws.proofs.Lists.Parts.{thread_was, row_was, busy_was, rows_without, away_thread, away_row, busy_none}
+use Rattle.trace_laws.proofs.Lists.Stages.{is_in_hand, hand_home, hand_busy, hand_thread, hand_row, leaves_home, leaves_holding, StandsWaiting, is_home, home_way, home_quiet, home_busy}
+use Rattle.run_trace.specs.Items.{Thread as Its, Item, Says}
+
+abbrev pub solo_at : Spots → Tid → Solo
+solo_at v t = (v.threads t).guest.solo
+
+abbrev pub call_at : Spots → Tid → Call
+call_at v t = call_of (solo_at v t).state
+
+abbrev pub bytes_at : Program → Spots → Tid → List ℕ
+bytes_at p v t = said_bytes p (solo_at v t).state (call_at v t) (refusal p t (solo_at v t) (call_at v t))
+
+asked_same : (p : Program) (n : ℕ) (v : Spots) (t : Tid) (bytes : List ℕ) (b : Stage) → stage_of_call p n t (solo_at v t) ≡ b
+    → after_label p n (Asked t (number_of (call_at v t)) (args_of (call_at v t)) bytes) v
+    ≡ spots_with (update v.threads t (record (v.threads t) { life = On n b })) v.slots v.births v.halts (remote_after (Asked t (number_of (call_at v t)) (args_of (call_at v t)) bytes) v.remote)
+asked_same p n v t bytes b st =
+    ap (λ z. spots_with (update v.threads t (record (v.threads t) { life = On n z })) v.slots v.births v.halts (remote_after (Asked t (number_of (call_at v t)) (args_of (call_at v t)) bytes) v.remote)) st
+
+-- its home is a node, as each thread's is
+home_of : {outset : Outset} {due : List Item} {L : Links} {d : EventSoFar} {hand : List Busy} (t : Tid) (a : Stage) → (m : Midst outset due L d hand) → (m.now.spots.threads t).life ≡ On outset.node a → nat_lt t.home (nodes_of outset.program) ≡ true
+home_of {outset} t a m x = elim (nat_lt t.home (nodes_of outset.program)) as (λ v. nat_lt t.home (nodes_of outset.program) ≡ v → v ≡ true) [
+  | true ↦ λ e. refl
+  | false ↦ λ e. (let none : (m.now.spots.threads t).life ≡ Unborn = m.agrees.homes t e in absurd (cc (none, x)))
+] refl
+
+-- the packet by which a call waits, which is all that is under way of its thread
+record IsPosted (n : ℕ) (t : Tid) (b : Stage) (to : ℕ) (body : Body) (s : Spot) : Type 0 where
+  sent : asked_causes t b ≡ send_to to body
+  ways : ways_of t (On n b) s.verdict s.guest ≡ way n to (word_of to body)
+  name : word_subject (word_of to body) ≡ Its t
+
+module _ {outset : Outset} {ahead : List Item} {L : Links} where
+  open outset use {program as p, net, occasion as q, node as n, opening, world as w}
+
+  -- a call that goes on here
+  pub asks_ok : (d : EventSoFar) (t : Tid) (b : Stage) (hs : List Busy) → (m : Midst outset ahead L d (busy t (On n Running) ∷ hs))
+      → stage_of_call p n t (solo_at m.now.spots t) ≡ b → [] ≡ bytes_at p m.now.spots t → asked_causes t b ≡ []
+      → is_in_hand b ≡ true
+      → Keeps (Some (holding_of (m.now.spots.threads t).guest)) (held_in_stage b (m.now.spots.threads t).guest)
+      → Midst outset ahead L (asks t (call_at m.now.spots t) d) (busy t (On n b) ∷ hs)
+  unfolding asks say
+  asks_ok d t b hs m st bytes sent here slots =
+      let v : Spots = m.now.spots in
+      let s : Spot = m.now.spots.threads t in
+      let x : s.life ≡ On n Running = in_hand m in
+      let r : Spot = record s { life = On n b } in
+      (home_step (busy t (On n b) ∷ hs) (Asked t (number_of (call_at m.now.spots t)) (args_of (call_at m.now.spots t)) []) t r d.node Running b m
+      (record {
+        same = asked_same p n m.now.spots t [] b st;
+        may = record { solo = (refl, refl, bytes); holders = tt; life = x; replies = tt; grants = tt };
+        ties = record {
+          threads = map_kept is_tid is-true is-refl (thread_part n) v.threads t r d.node.threads m.here.threads (thread_was n t r b refl ∙ hand_thread b s.guest here ∙ sym (thread_was n t s Running x));
+          rows = kept is_tid is-true is-refl listed_name (row_part n) v.threads t r (map listed d.node.run_lists.rows) m.here.rows (row_was n t r b refl ∙ hand_row t b s.guest.priority here ∙ sym (row_was n t s Running x));
+          busy = refronted is_tid is-true is-refl busy_name (busy_part n) v.threads t r hs (busy t (On n Running)) (busy t (On n b)) m.here.busy refl refl (busy_was n t r (On n b) refl (hand_busy n b here));
+        };
+        births = refl;
+        free = refl;
+        halted = refl;
+        next = own_stays m refl refl (hand_busy n b here);
+        run_lists = refl;
+        booted = refl;
+      })
+      (record {
+        sent = ap (asked_causes t) st ∙ sent;
+        shown = refl;
+        was = x;
+        is = refl;
+        home_was = refl;
+        home_is = hand_home b here;
+      })
+      slots).midst
+
+  -- a call that sends a packet
+  asks_out_ok : (d : EventSoFar) (t : Tid) (bytes : List ℕ) (b : Stage) (waiting : Wait) (to : ℕ) (body : Body) (hs : List Busy) → (m : Midst outset ahead L d (busy t (On n Running) ∷ hs))
+      → stage_of_call p n t (solo_at m.now.spots t) ≡ b → bytes ≡ bytes_at p m.now.spots t → IsPosted n t b to body (m.now.spots.threads t) → StandsWaiting n t b waiting (m.now.spots.threads t).guest
+      → Midst outset ahead L (put to body (say (Asked t (number_of (call_at m.now.spots t)) (args_of (call_at m.now.spots t)) bytes) (keep t (waits waiting (m.now.spots.threads t).guest) d))) hs
+  unfolding put keep say
+  asks_out_ok d t bytes b waiting to body hs m st said packet still =
+      let v : Spots = m.now.spots in
+      let s : Spot = m.now.spots.threads t in
+      let x : s.life ≡ On n Running = in_hand m in
+      let r : Spot = record s { life = On n b } in
+      (send_step hs (Asked t (number_of (call_at m.now.spots t)) (args_of (call_at m.now.spots t)) bytes) t r _ to body m
+      (record {
+        same = asked_same p n m.now.spots t bytes b st;
+        may = record { solo = (refl, refl, said); holders = tt; life = x; replies = tt; grants = tt };
+        ties = record {
+          threads = map_set is_tid is-true is-refl (thread_part n) v.threads t r d.node.threads (waits wait.No s.guest) (waits waiting s.guest) m.here.threads (thread_was n t s Running x) (thread_was n t r b refl ∙ still.thread);
+          rows = kept is_tid is-true is-refl listed_name (row_part n) v.threads t r (map listed d.node.run_lists.rows) m.here.rows (row_was n t r b refl ∙ still.row ∙ sym (row_was n t s Running x));
+          busy = unfronted is_tid is-true is-refl busy_name (busy_part n) v.threads t r hs (busy t (On n Running)) m.here.busy refl (busy_none n t r (On n b) refl (still.idle n));
+        };
+        births = refl;
+        free = refl;
+        halted = refl;
+        next = own_goes m refl refl (still.idle n);
+        run_lists = refl;
+        booted = refl;
+      })
+      (record {
+        sent = ap (asked_causes t) st ∙ packet.sent;
+        shown = refl;
+        before = ap (λ z. ways_of t z s.verdict s.guest) x;
+        after = packet.ways;
+        name = packet.name;
+      })
+      (record {
+        frame = λ k e. record {
+          thread = away_thread n k t r b refl e ∙ sym (away_thread n k t s Running x e);
+          row = away_row n k t r b refl e ∙ sym (away_row n k t s Running x e);
+          busy = busy_none k t r (On n b) refl (still.idle k) ∙ sym (busy_none k t s (On n Running) x e);
+        };
+        phase = sym (ap phase_of x);
+        quiet = λ u k e. home_quiet n Running refl u k (sym x ∙ e);
+        holds = keeps _ _ (still.held ∙ sym (ap (λ z. held z s.guest) x));
+        unborn = λ e. absurd (cc (e, x));
+        whole = plain (On n b) still.plain;
+      })).midst
+
+  pub asks_show_ok : (d : EventSoFar) (t : Tid) (bytes : List ℕ) (hs : List Busy) → (m : Midst outset ahead L d (busy t (On n Running) ∷ hs))
+      → stage_of_call p n t (solo_at m.now.spots t) ≡ Shows bytes → bytes ≡ bytes_at p m.now.spots t
+      → Midst outset ahead L (asks_show t (call_at m.now.spots t) bytes (waits wait.No (m.now.spots.threads t).guest) d) hs
+  unfolding asks_show
+  asks_show_ok d t bytes hs m st said = asks_out_ok d t bytes (Shows bytes) wait.ForShow 0 (Show t bytes) hs m st said
+      (record { sent = refl; ways = refl; name = refl }) (record { thread = refl; row = refl; idle = λ k. refl; held = refl; plain = refl })
+
+  pub asks_join_ok : (d : EventSoFar) (t u : Tid) (hs : List Busy) → (m : Midst outset ahead L d (busy t (On n Running) ∷ hs))
+      → stage_of_call p n t (solo_at m.now.spots t) ≡ Asks u → [] ≡ bytes_at p m.now.spots t
+      → Midst outset ahead L (asks_join t (call_at m.now.spots t) u (waits wait.No (m.now.spots.threads t).guest) d) hs
+  unfolding asks_join asks
+  asks_join_ok d t u hs m st said = asks_out_ok d t [] (Asks u) wait.ForAnswer u.home (JoinAsk t u.seq) hs m st said
+      (record { sent = refl; ways = refl; name = refl }) (record { thread = refl; row = refl; idle = λ k. refl; held = refl; plain = refl })
+
+  pub halts_ok : (d : EventSoFar) (t : Tid) (hs : List Busy) → (m : Midst outset ahead L d (busy t (On n Halts) ∷ hs)) → Midst outset ahead L (halts t (waits wait.No (m.now.spots.threads t).guest) d) hs
+  unfolding halts halt say keep
+  halts_ok d t hs m =
+      let v : Spots = m.now.spots in
+      let s : Spot = m.now.spots.threads t in
+      let x : s.life ≡ On n Halts = in_hand m in
+      let r : Spot = record s { life = On n Stays } in
+      (labelled L hs (Halted t) (spots_with (update v.threads t r) v.slots v.births (at_node v.halts n true) v.remote) _ m refl
+      (record { solo = tt; holders = tt; life = x; replies = tt; grants = tt }) (sym (append-nil d.sends)) (sym (append-nil d.prints))
+      (record {
+        here = record {
+          threads = map_set is_tid is-true is-refl (thread_part n) v.threads t r d.node.threads (waits wait.No s.guest) (waits wait.Halted s.guest) m.here.threads (thread_was n t s Halts x) (thread_was n t r Stays refl);
+          rows = kept is_tid is-true is-refl listed_name (row_part n) v.threads t r (map listed d.node.run_lists.rows) m.here.rows (row_was n t r Stays refl ∙ sym (row_was n t s Halts x));
+          busy = unfronted is_tid is-true is-refl busy_name (busy_part n) v.threads t r hs (busy t (On n Halts)) m.here.busy refl (busy_none n t r (On n Stays) refl refl);
+          births = m.here.births;
+          free = m.here.free;
+          halted = rw (eq-eqb n n refl) refl;
+        };
+        there = λ k e. here_kept k v t r (net.nodes k) [] (m.there k e)
+            (record {
+              thread = away_thread n k t r Stays refl e ∙ sym (away_thread n k t s Halts x e);
+              row = away_row n k t r Stays refl e ∙ sym (away_row n k t s Halts x e);
+              busy = busy_none k t r (On n Stays) refl refl ∙ sym (busy_none k t s (On n Halts) x e);
+            })
+            refl (λ y. refl) (rw e refl);
+        links = λ i j. links_kept t r v.threads (under n L d.sends) m.links (sym (ap (λ z. ways_of t z s.verdict s.guest) x)) i j;
+        agrees = agrees_kept p v t r (at_node v.halts n true) m.agrees (sym (ap phase_of x)) (λ u k e. home_quiet n Halts refl u k (sym x ∙ e)) (keeps _ _ (ap (λ z. held z s.guest) (sym x))) (λ e. absurd (cc (e, x))) (λ u k e. absurd (cc e))
+            (λ k e. (let same : n ≡ k = cc e in rw (eq-eqb n k same) refl)) (λ k e. elim (eqb n k) as (λ v. cond v true (m.now.spots.halts k) ≡ true) [ true ↦ refl | false ↦ e ]);
+      })
+      (beside (own_goes m refl refl refl) (life_then p n m.now.spots (Halted t) t r _ refl refl) refl refl)).midst
+
+  -- ## Moves
+
+  -- a thread on the run list goes to another node of the cluster
+  pub leaves_ok : {due : List Item} {hand : List Busy} (d : EventSoFar) (t : Tid) (to : ℕ) (a : Stage) (hs : List Busy) → (m : Midst outset due L d hand) → (m.now.spots.threads t).life ≡ On n a
+      → MayLeave n to (On n a) → to < nodes_of p → (to ≡ n → ⊥)
+      → StandsFor is_tid busy_name (busy_part n) hs (update m.now.spots.threads t (record (m.now.spots.threads t) { life = Moving n to }))
+      → Own n (Left t to) t m.now.spots due ahead hand hs (Moving n to)
+      → Midst outset ahead L (leaves t to (waits wait.No (m.now.spots.threads t).guest) d) hs
+  unfolding leaves put say thread_out take_off
+  leaves_ok d t to a hs m x may below other hands own =
+      let v : Spots = m.now.spots in
+      let s : Spot = m.now.spots.threads t in
+      let r : Spot = record s { life = Moving n to } in
+      let home : is_home a ≡ true = leaves_home n to a may in
+      (send_step hs (Left t to) t r _ to (Mover (packed t s.guest)) m
+      (record {
+        same = refl;
+        may = record { solo = tt; holders = tt; life = (subst (λ z. MayLeave n to z) (sym x) may, below, other); replies = tt; grants = tt };
+        ties = record {
+          threads = map_removed is_tid is-true is-refl (thread_part n) v.threads t r d.node.threads m.here.threads refl;
+          rows = rows_without n v.threads t r d.node.run_lists.rows m.here.rows refl;
+          busy = hands;
+        };
+        births = refl;
+        free = refl;
+        halted = refl;
+        next = own;
+        run_lists = refl;
+        booted = refl;
+      })
+      (record {
+        sent = refl;
+        shown = refl;
+        before = ap (λ z. ways_of t z s.verdict s.guest) x ∙ home_way t n a s.verdict s.guest home;
+        after = refl;
+        name = refl;
+      })
+      (record {
+        frame = λ k e. record {
+          thread = sym (away_thread n k t s a x e);
+          row = sym (away_row n k t s a x e);
+          busy = sym (busy_none k t s (On n a) x (home_busy n k a home e));
+        };
+        phase = sym (ap phase_of x);
+        quiet = λ u k e. home_quiet n a home u k (sym x ∙ e);
+        holds = keeps _ _ (sym (ap (λ z. held z s.guest) x ∙ leaves_holding n to a s.guest may));
+        unborn = λ e. absurd (cc (e, x));
+        whole = plain _ refl;
+      })).midst
+
+  -- by its own call
+  pub departs_ok : (d : EventSoFar) (t : Tid) (to : ℕ) (hs : List Busy) → (m : Midst outset ahead L d (busy t (On n (Departs to)) ∷ hs)) → to < nodes_of p → (to ≡ n → ⊥) → Midst outset ahead L (goes p t to (waits wait.No (m.now.spots.threads t).guest) d) hs
+  departs_ok d t to hs m below other =
+      let v : Spots = m.now.spots in
+      let x : (m.now.spots.threads t).life ≡ On n (Departs to) = in_hand m in
+      let r : Spot = record (m.now.spots.threads t) { life = Moving n to } in
+      subst (λ b. Midst outset ahead L (cond b (leaves t to (waits wait.No (m.now.spots.threads t).guest) d) d) hs) (sym (home_of t (Departs to) m x))
+      (leaves_ok d t to (Departs to) hs m x (refl, refl) below other
+      (unfronted is_tid is-true is-refl busy_name (busy_part n) v.threads t r hs (busy t (On n (Departs to))) m.here.busy refl refl)
+      (own_goes m refl refl refl))
+
+  -- or because it is sent away
+  pub sent_ok : (d : EventSoFar) (t : Tid) (to : ℕ) → (m : Midst outset (Says (Left t to) ∷ ahead) L d []) → (m.now.spots.threads t).life ≡ On n Ready → to < nodes_of p → (to ≡ n → ⊥) → Midst outset ahead L (goes p t to (waits wait.No (m.now.spots.threads t).guest) d) []
+  sent_ok d t to m x below other =
+      let v : Spots = m.now.spots in
+      let r : Spot = record (m.now.spots.threads t) { life = Moving n to } in
+      subst (λ b. Midst outset ahead L (cond b (leaves t to (waits wait.No (m.now.spots.threads t).guest) d) d) []) (sym (home_of t Ready m x))
+      (leaves_ok d t to Ready [] m x refl below other
+      (kept is_tid is-true is-refl busy_name (busy_part n) v.threads t r [] m.here.busy (sym (busy_none n t (m.now.spots.threads t) (On n Ready) x refl)))
+      (own_alone refl refl refl))

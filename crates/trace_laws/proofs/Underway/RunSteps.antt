@@ -1,0 +1,149 @@
+-- A run of a thread, on an event in its midst, to a call, to a fault or over the whole quantum.
+use Rattle.std.proofs.Common.{◌≡◌, ℕ, List, [], ◌∷◌, ◌++◌, Some, true, refl, sym, ap, ◌∙◌, subst, map}
+use Rattle.slot_space.specs.declared.names.Tid.{Tid}
+use Rattle.rv_step.specs.Step.{HartState}
+use Rattle.rv_step.specs.Run.{after, StopsBy}
+use Rattle.run_trace.specs.declared.label.Label.{Label}
+use Rattle.run_trace.specs.declared.label.Label.TheVariants.{Ran}
+use Rattle.run_trace.specs.declared.node.Wait.TheVariants as wait
+use Rattle.run_trace.specs.Names.{is_tid}
+use Rattle.run_trace.specs.Program.{Program, code_of}
+use Rattle.run_trace.specs.Guests.{Guest, Thread, Run, run_of, waits, with_state}
+use Rattle.run_trace.specs.RunLists.{RunLists, taken_off, arrived}
+use Rattle.run_trace.specs.Local.{EventSoFar}
+use Rattle.run_trace.specs.Steps.{say, arrive, take_off, thread_at, keep, ran}
+use Rattle.run_trace.specs.Keyed.{StandsFor}
+use Rattle.run_trace.specs.Spots.{Stage, Ready, On, Spot, Spots, update, after_label, ran_stage}
+use Rattle.run_trace.specs.Rules.{Occasion, quantum_in}
+use Rattle.run_trace.specs.Stands.{busy, busy_name, busy_part, thread_part, row_part, listed, listed_name, held_in_stage, holding_of}
+use Rattle.run_trace.proofs.Lemmas.{is-true, is-refl}
+use Rattle.trace_laws.proofs.Lists.KeyedLemmas.{lookup-set_same, kept, replaced, fronted, map_set}
+use Rattle.trace_laws.proofs.Lives.RunLemmas.{run_does, run_stepped, run_slots}
+use Rattle.trace_laws.proofs.Lists.Arriving.{ran_lists}
+use Rattle.trace_laws.proofs.Underway.Steps.{own_starts, own_alone, home_step}
+use Rattle.run_trace.specs.World.{World, world_after}
+use Rattle.run_trace.specs.Obeying.{Allows}
+use Rattle.trace_laws.proofs.Underway.Midst.{Outset, having_said, Links, Midst, spots_with, keeps, Then, updated}
+use Rattle.trace_laws.proofs.Lists.Parts.{thread_was, row_was, busy_was, rows_without, listed_without, listed_arrived, busy_none}
+use Rattle.trace_laws.proofs.Lists.Stages.{is_in_hand, hand_home, hand_busy, hand_thread, hand_row}
+use Rattle.run_trace.specs.Items.{is_busy, Item, Runs}
+
+-- a thread that has run is still here
+pub ran_there : (t : Tid) (vp : ℕ) (r : Run) (x : Thread) (d : EventSoFar) → thread_at t d ≡ Some x → thread_at t (ran t vp r x d) ≡ Some (record x { guest = with_state r.state x.guest })
+unfolding ran say keep take_off
+ran_there t vp r x d h = lookup-set_same is_tid is-true is-refl d.node.threads t _ x h
+
+-- the run that the thread makes, its label, and what becomes of the thread
+abbrev pub run_now : Program → Occasion → Spots → Tid → Run
+run_now p q v t = run_of (code_of p) (quantum_in q.act) (v.threads t).guest.solo.state
+
+abbrev pub ran_label : Program → Occasion → Spots → Tid → ℕ → Label
+ran_label p q v t vp = Ran t vp (run_now p q v t).count (run_now p q v t).stop
+
+abbrev ran_with : Program → Occasion → ℕ → Spots → Tid → HartState → Spot
+ran_with p q n v t z = record (v.threads t) { life = On n (ran_stage (run_now p q v t).stop z); guest = with_state z (v.threads t).guest }
+
+ran_same : (p : Program) (q : Occasion) (n : ℕ) (v : Spots) (t : Tid) (vp : ℕ) → after_label p n (ran_label p q v t vp) v
+    ≡ spots_with (update v.threads t (ran_with p q n v t (run_now p q v t).state)) v.slots v.births v.halts v.remote
+ran_same p q n v t vp =
+    ap (λ (z : HartState). spots_with (update v.threads t (ran_with p q n v t z)) v.slots v.births v.halts v.remote) (run_stepped (code_of p) (quantum_in q.act) (v.threads t).guest.solo.state)
+
+ran_allowed : (p : Program) (q : Occasion) (n : ℕ) (said : List Label) (v : World) (t : Tid) (vp : ℕ) → (v.spots.threads t).life ≡ On n Ready → Allows p (having_said said q) n (ran_label p q v.spots t vp) v
+ran_allowed p q n said v t vp x =
+    let s : HartState = (v.spots.threads t).guest.solo.state in
+    let r : Run = run_now p q v.spots t in
+    record {
+      life = x;
+      holders = tt;
+      replies = tt;
+      grants = tt;
+      solo = subst (λ (z : HartState). (after (code_of p) s r.count ≡ Some z) × StopsBy (code_of p) z (quantum_in q.act) r.count r.stop) (sym (run_stepped (code_of p) (quantum_in q.act) s)) ((run_does (code_of p) (quantum_in q.act) s).steps, (run_does (code_of p) (quantum_in q.act) s).stop);
+    }
+
+-- a run changes nothing of what its thread holds
+ran_holding : (p : Program) (q : Occasion) (v : Spots) (t : Tid) → Some (holding_of (with_state (run_now p q v t).state (v.threads t).guest)) ≡ Some (holding_of (v.threads t).guest)
+ran_holding p q v t =
+    let g : Guest = (v.threads t).guest in
+    ap (λ (xs : List ℕ). Some (record { slots = xs; stack = g.solo.stack; live = g.solo.live })) (run_slots (code_of p) (quantum_in q.act) g.solo.state)
+
+-- what the thread has become
+pub ran_guest : (p : Program) (q : Occasion) (n : ℕ) (v u : World) (t : Tid) (vp : ℕ) → u ≡ world_after p n (ran_label p q v.spots t vp) v → (u.spots.threads t).guest ≡ with_state (run_now p q v.spots t).state (v.spots.threads t).guest
+ran_guest p q n v u t vp e = ap (λ (z : World). (z.spots.threads t).guest) e ∙ ap (λ (z : Spots). (z.threads t).guest) (ran_same p q n v.spots t vp) ∙ ap (λ (z : Spot). z.guest) (updated v.spots.threads t (ran_with p q n v.spots t (run_now p q v.spots t).state))
+
+module _ {outset : Outset} {ahead : List Item} {L : Links} where
+  open outset use {program as p, net, occasion as q, node as n, opening, world as w}
+
+  -- a run to a call or a fault
+  pub ran_ok : (d : EventSoFar) (t : Tid) (vp : ℕ) (b : Stage) → (m : Midst outset (Runs t vp ∷ ahead) L d []) → ((k : ℕ) (s : RunLists) → ran_lists (run_now p q m.now.spots t).stop t k s ≡ taken_off t s) → (m.now.spots.threads t).life ≡ On n Ready
+      → ran_stage (run_now p q m.now.spots t).stop (run_now p q m.now.spots t).state ≡ b → is_in_hand b ≡ true
+      → held_in_stage b (with_state (run_now p q m.now.spots t).state (m.now.spots.threads t).guest) ≡ Some (holding_of (with_state (run_now p q m.now.spots t).state (m.now.spots.threads t).guest))
+      → Then outset ahead L m.now (ran_label p q m.now.spots t vp) (ran t vp (run_now p q m.now.spots t) (waits wait.No (m.now.spots.threads t).guest) d) (busy t (On n b) ∷ [])
+  unfolding ran take_off say keep
+  ran_ok d t vp b m off x st here slots =
+      let v : Spots = m.now.spots in
+      let s : Spot = m.now.spots.threads t in
+      let r : Spot = ran_with p q n m.now.spots t (run_now p q m.now.spots t).state in
+      let y : r.life ≡ On n b = ap (λ z. On n z) st in
+      home_step (busy t (On n b) ∷ []) (ran_label p q m.now.spots t vp) t r _ Ready b m
+      (record {
+        same = ran_same p q n m.now.spots t vp;
+        may = ran_allowed p q n d.labels m.now t vp x;
+        ties = record {
+          threads = map_set is_tid is-true is-refl (thread_part n) v.threads t r d.node.threads (waits wait.No s.guest) _ m.here.threads (thread_was n t s Ready x) (thread_was n t r b y ∙ hand_thread b r.guest here);
+          rows = rows_without n v.threads t r d.node.run_lists.rows m.here.rows (row_was n t r b y ∙ hand_row t b s.guest.priority here);
+          busy = fronted is_tid is-true is-refl busy_name (busy_part n) v.threads t r [] (busy t (On n b)) m.here.busy refl (busy_none n t s (On n Ready) x refl) (busy_was n t r (On n b) y (hand_busy n b here));
+        };
+        births = refl;
+        free = refl;
+        halted = refl;
+        next = own_starts (_, _, refl) refl (ap (is_busy n) y ∙ hand_busy n b here);
+        run_lists = sym (off s.guest.priority d.node.run_lists);
+        booted = refl;
+      })
+      (record {
+        sent = refl;
+        shown = refl;
+        was = x;
+        is = y;
+        home_was = refl;
+        home_is = hand_home b here;
+      })
+      (keeps _ _ (slots ∙ ran_holding p q m.now.spots t))
+
+  -- a run of the whole quantum
+  pub runs_out_ok : (d : EventSoFar) (t : Tid) (vp : ℕ) → (m : Midst outset (Runs t vp ∷ ahead) L d []) → ((k : ℕ) (s : RunLists) → ran_lists (run_now p q m.now.spots t).stop t k s ≡ arrived t k (taken_off t s)) → (m.now.spots.threads t).life ≡ On n Ready
+      → ran_stage (run_now p q m.now.spots t).stop (run_now p q m.now.spots t).state ≡ Ready
+      → Midst outset ahead L (arrive t (m.now.spots.threads t).guest.priority (ran t vp (run_now p q m.now.spots t) (waits wait.No (m.now.spots.threads t).guest) d)) []
+  unfolding arrive ran take_off say keep
+  runs_out_ok d t vp m off x st =
+      let v : Spots = m.now.spots in
+      let s : Spot = m.now.spots.threads t in
+      let r : Spot = ran_with p q n m.now.spots t (run_now p q m.now.spots t).state in
+      let y : r.life ≡ On n Ready = ap (λ z. On n z) st in
+      let rest : RunLists = taken_off t d.node.run_lists in
+      (home_step [] (ran_label p q m.now.spots t vp) t r _ Ready Ready m
+      (record {
+        same = ran_same p q n m.now.spots t vp;
+        may = ran_allowed p q n d.labels m.now t vp x;
+        ties = record {
+          threads = map_set is_tid is-true is-refl (thread_part n) v.threads t r d.node.threads (waits wait.No s.guest) _ m.here.threads (thread_was n t s Ready x) (thread_was n t r Ready y);
+          rows = subst (λ rows. StandsFor is_tid listed_name (row_part n) rows (update v.threads t r)) (sym (listed_arrived t s.guest.priority rest ∙ ap (λ rows. rows ++ (record { tid = t; list = 0; priority = s.guest.priority }) ∷ []) (listed_without t d.node.run_lists.rows)))
+              (replaced is_tid is-true is-refl listed_name (row_part n) v.threads t r (map listed d.node.run_lists.rows) _ m.here.rows refl (row_was n t r Ready y));
+          busy = kept is_tid is-true is-refl busy_name (busy_part n) v.threads t r [] m.here.busy (busy_none n t r (On n Ready) y refl ∙ sym (busy_none n t s (On n Ready) x refl));
+        };
+        births = refl;
+        free = refl;
+        halted = refl;
+        next = own_alone (_, _, refl) refl (ap (is_busy n) y);
+        run_lists = sym (off s.guest.priority d.node.run_lists);
+        booted = refl;
+      })
+      (record {
+        sent = refl;
+        shown = refl;
+        was = x;
+        is = y;
+        home_was = refl;
+        home_is = refl;
+      })
+      (keeps _ _ (ran_holding p q m.now.spots t))).midst
