@@ -1,0 +1,13 @@
+pub mod Filling
+pub mod Escaping
+pub mod Parts
+pub mod Layouts
+pub mod Frames
+pub mod Numbers
+pub mod Sayings
+pub mod SvgFrame
+pub mod SvgShapes
+pub mod Svg
+pub mod PajeHead
+pub mod PajeLines
+pub mod Paje
