@@ -4,7 +4,7 @@ use Rattle.std.specs.Prelude.{nat_lt, slice_get}
 use Rattle.std.proofs.Math.Nat.{le-max_left, le-max_right, max-le, max-zero, zero-max}
 use Rattle.std.proofs.Math.Seq.{drop-cons}
 use Rattle.std.proofs.lemmas.Bool.{lt-ltb}
-use Rattle.std.proofs.lemmas.List.{length-reverse}
+use Rattle.std.proofs.lemmas.List.{drop_all, length-reverse}
 use Rattle.std.proofs.lemmas.Option.{slice_get_past}
 use Rattle.run_trace.specs.declared.entry.Entry.{Entry}
 use Rattle.run_trace.specs.Histories.{own_entries}
@@ -56,13 +56,7 @@ greatest_more vs i v so_far clock now l at c n h =
     ∙ max_of so_far v.clock (greatest_clock (drop (suc i) vs)) (greatest_clock vs) (ap (λ us. max so_far (greatest_clock us)) (sym front) ∙ h)
 
 pub greatest_end : (vs : List NodeView) (i so_far : ℕ) → length vs ≤ i → max so_far (greatest_clock (drop i vs)) ≡ greatest_clock vs → so_far ≡ greatest_clock vs
-greatest_end vs i so_far l h = sym (max-zero so_far) ∙ ap (λ us. max so_far (greatest_clock us)) (sym (drop_past vs i l)) ∙ h
-  where
-    drop_past : (us : List NodeView) (k : ℕ) → length us ≤ k → drop k us ≡ []
-    drop_past [] zero m = refl
-    drop_past [] (suc k) m = refl
-    drop_past (u ∷ us) zero m = absurd (omega (arith, m))
-    drop_past (u ∷ us) (suc k) m = drop_past us k (omega (arith, m))
+greatest_end vs i so_far l h = sym (max-zero so_far) ∙ ap (λ us. max so_far (greatest_clock us)) (sym (drop_all i vs l)) ∙ h
 
 -- ## Rounds
 

@@ -8,8 +8,8 @@ use Rattle.run_trace.specs.declared.entry.Act.TheVariants.{Boot, Run, Take, Move
 use Rattle.run_trace.specs.declared.entry.Entry.{Entry}
 use Rattle.run_trace.specs.declared.packet.Packet.{Packet}
 use Rattle.run_trace.specs.Program.{Program, nodes_of}
-use Rattle.run_trace.specs.Local.{Local, EventSoFar}
-use Rattle.run_trace.specs.Machine.{local_event, turn_event, is_beyond, stamp_limit, is_range}
+use Rattle.run_trace.specs.Local.{Local}
+use Rattle.run_trace.specs.Machine.{local_event, turn_event, is_beyond, stamp_limit}
 use Rattle.run_trace.specs.Cluster.{Net, fresh_net, after_or, next_packet, IsTaken}
 use Rattle.run_trace.specs.Console.{console_of, printed}
 use Rattle.run_trace.specs.Histories.{seen, IsShape, IsInOrder}
@@ -19,6 +19,7 @@ use Rattle.run_trace.specs.Trace.{IsRun, done_for, events_of, prints_or}
 use Rattle.trace_laws.specs.Gathers.{AllWithin}
 use Rattle.trace_laws.proofs.Lemmas.{fits_exactly, whole, console_after}
 use Rattle.wires.specs.Ends.{known_from}
+use Rattle.node_loop.proofs.Lemmas.{takes_nothing}
 use Rattle.node_loop.specs.View.{NodeView, next_round, raised}
 use Rattle.node_loop.specs.Turns.{IsActInRange, TakesKnown, Does, can}
 use Rattle.cluster.specs.Standing.{StandsFor, IsNodeOf, NoneLater, net_after}
@@ -49,14 +50,6 @@ not_beyond : (c : ℕ) (o : Option Packet) → IsTimely c o → c < 2 ^ 62 → i
 unfolding stamp_limit
 not_beyond c None h l = refl
 not_beyond c (Some packet) h l = rw (lt-ltb packet.stamp (2 ^ 62) (omega (arith, h, l))) refl
-
-takes_nothing : (p : Program) (me : ℕ) (s : Local) (from : ℕ) → local_event p me s (Take from) None ≡ None
-unfolding local_event
-takes_nothing p me s from = by (is_range p me s (Take from))
-  where
-    by : (b : Bool) → cond {A = Option EventSoFar} b None None ≡ None
-    by true = refl
-    by false = refl
 
 -- where a packet is known, its first is taken
 known_taken : (ps : List Packet) (o o' : Option Packet) → nat_lt 0 (length ps) ≡ true → ((q : Packet) (qs : List Packet) → ps ≡ q ∷ qs → o ≡ Some q) → first_of ps ≡ o' → o ≡ o'

@@ -13,7 +13,7 @@ use Rattle.cluster.specs.Between.{takes_from, moves_among}
 use Rattle.cluster.specs.Choosing.{IsCapped, acts_in, listed_moves, moves_in, other_at}
 use Rattle.std.proofs.Math.Nat.{add-div_right, div-eq_of_lt, mod-eq_of_lt, mod-eq-sub-mod, mod-lt, mul-zero, zero-mul, suc-mul}
 use Rattle.std.proofs.lemmas.Bool.{ne_eqb, eqb-true, eqb-false, ltb-true, ltb-false, lt-ltb}
-use Rattle.std.proofs.lemmas.List.{length-map}
+use Rattle.std.proofs.lemmas.List.{drop_all, length-map}
 use Rattle.std.proofs.lemmas.Option.{slice_get-map, slice_get_past}
 use Rattle.std.specs.Option.{option_map}
 use Rattle.run_list.specs.Names.{names_of}
@@ -286,16 +286,10 @@ none_counted moves nodes = record { number = 0; capped = capped_small 0 (omega a
 
 pub counted_all : (moves : Bool) (nodes : List NodeView) (i total : ℕ) → HasCounted moves nodes i total → length nodes ≤ i → IsCapped total (length (flat_map (acts_in moves) nodes))
 counted_all moves nodes i total h l =
-    let e = ap (λ (vs : List NodeView). length (flat_map (acts_in moves) vs)) (drop_all nodes i l) in
+    let e = ap (λ (vs : List NodeView). length (flat_map (acts_in moves) vs)) (drop_all i nodes l) in
     let a = h.all in
     let c = h.capped in
     omega (arith, e, a, c)
-  where
-    drop_all : (vs : List NodeView) (k : ℕ) → length vs ≤ k → drop k vs ≡ []
-    drop_all [] zero l = refl
-    drop_all [] (suc k) l = refl
-    drop_all (v ∷ vs) zero l = absurd (omega (arith, l))
-    drop_all (v ∷ vs) (suc k) l = drop_all vs k (omega (arith, l))
 
 pub found_here : (moves : Bool) (nodes : List NodeView) (i left count : ℕ) (v : NodeView) (it found : Option (ℕ × Act)) → slice_get nodes i ≡ Some v → IsCapped count (length (acts_in moves v)) → left < count
     → found ≡ slice_get (acts_in moves v) left → slice_get (flat_map (acts_in moves) (drop i nodes)) left ≡ it → found ≡ it

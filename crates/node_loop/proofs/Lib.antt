@@ -1,3 +1,4 @@
+pub mod Lemmas
 mod Booted
 mod Wiring
 mod Stepping

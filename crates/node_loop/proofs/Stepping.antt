@@ -46,7 +46,7 @@ stamp_within clock k o h =
     let most : max clock (seen o) ≤ clock_limit + k = max-le {a = clock} {b = seen o} {k = clock_limit + k} h (omega (arith, seen_small o)) in omega (arith, most)
 
 -- a Take without a packet has no event
-takes_nothing : (p : Program) (me : ℕ) (s : Local) (from : ℕ) → local_event p me s (Take from) None ≡ None
+pub takes_nothing : (p : Program) (me : ℕ) (s : Local) (from : ℕ) → local_event p me s (Take from) None ≡ None
 unfolding local_event
 takes_nothing p me s from = by (is_range p me s (Take from))
   where

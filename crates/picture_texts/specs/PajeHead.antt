@@ -1,5 +1,5 @@
 -- What stands before the events of a Pajé trace.
-use Rattle.std.specs.Prelude.{ℕ, List, [], ◌∷◌, ◌++◌, codes}
+use Rattle.std.specs.Prelude.{ℕ, [], ◌∷◌, ◌++◌, codes}
 use Rattle.std.specs.List.{flat_map, range_with_len}
 use Rattle.slot_space.specs.declared.names.Tid.{Tid}
 use Rattle.picture_texts.specs.Filling.{Text, filled}

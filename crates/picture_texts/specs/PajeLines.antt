@@ -1,5 +1,5 @@
 -- The lines of a shape in a Pajé trace. In the forms letters stand for numbers.
-use Rattle.std.specs.Prelude.{ℕ, List, [], ◌++◌, codes, ◌==◌, if◌then◌else◌}
+use Rattle.std.specs.Prelude.{ℕ, [], ◌++◌, codes, ◌==◌, if◌then◌else◌}
 use Rattle.pictures.specs.declared.shape.Message.{Message}
 use Rattle.pictures.specs.declared.shape.Message.TheVariants as carry
 use Rattle.pictures.specs.declared.shape.Reason.{Reason}

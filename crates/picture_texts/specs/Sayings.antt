@@ -1,5 +1,5 @@
 -- What the shapes say. In these forms letters stand for numbers.
-use Rattle.std.specs.Prelude.{ℕ, List, codes, ◌==◌, if◌then◌else◌}
+use Rattle.std.specs.Prelude.{ℕ, codes, ◌==◌, if◌then◌else◌}
 use Rattle.rv_step.specs.declared.hart.FaultKind.TheVariants as kinds
 use Rattle.rv_step.specs.declared.hart.Stop.{Stop}
 use Rattle.rv_step.specs.declared.hart.Stop.TheVariants as stops

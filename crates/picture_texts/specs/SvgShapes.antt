@@ -1,5 +1,5 @@
 -- The shapes of a picture as elements of SVG. In the forms letters stand for numbers.
-use Rattle.std.specs.Prelude.{ℕ, List, ◌++◌, codes, ◌==◌, if◌then◌else◌}
+use Rattle.std.specs.Prelude.{ℕ, ◌++◌, codes, ◌==◌, if◌then◌else◌}
 use Rattle.marcel_core.specs.declared.end.End.TheVariants as ends
 use Rattle.pictures.specs.declared.shape.Message.{Message}
 use Rattle.pictures.specs.declared.shape.Message.TheVariants as carry

@@ -15,9 +15,8 @@ use Rattle.pictures.specs.declared.shape.Reason.{Reason}
 use Rattle.pictures.specs.declared.shape.Shape.{Shape}
 use Rattle.pictures.specs.declared.shape.Shape.TheVariants.{Wait, Arrow}
 use Rattle.pictures.specs.declared.thread.Thread.{Thread}
-use Rattle.pictures.specs.Moments.{is_same}
 use Rattle.pictures.specs.Threads.{known, about, turn}
-use Rattle.pictures.specs.Drawing.{waited, bars, arrow, move, arrows, call, marks, own, own_by, shapes_at, threads_at, drawn, Said, is_gone, left_over, end_of, threads_after, said, shapes}
+use Rattle.pictures.specs.Drawing.{waited, bars, arrow, earlier, arrows, call, marks, own, own_by, shapes_at, threads_at, drawn, Said, is_gone, left_over, end_of, threads_after, said, shapes}
 use Rattle.pictures.specs.Telling.{run_in, run_told, mark_in, marks_told}
 
 -- nothing before and behind
@@ -25,30 +24,28 @@ middle : {X : Type 0} (f : Shape → List X) (a b c : List Shape) → flat_map f
 middle {X} f a b c none_a none_c =
     flat_map-append f (a ++ b) c ∙ ap (λ (xs : List X). flat_map f (a ++ b) ++ xs) none_c ∙ append-nil (flat_map f (a ++ b)) ∙ flat_map-append f a b ∙ ap (λ (xs : List X). xs ++ flat_map f b) none_a
 
+-- the bar that a label draws
+pub own_bars : Option Tid → Moment → Label → List (Tid × Thread) → List Shape
+own_bars None here l threads = []
+own_bars (Some t) here l threads = bars t here l (turn here (known threads t here))
+
 -- ## A reading that sees no arrows
 
 module _ {X : Type 0} (f : Shape → List X) (no_flight : (t : Tid) (c : Message) (at to : Moment) → f (Arrow t c at to) ≡ []) where
-  pub one_flight : (t : Tid) (c : Message) (at to : Moment) → flat_map f (Arrow t c at to ∷ []) ≡ []
-  one_flight t c at to = ap (λ (xs : List X). xs ++ []) (no_flight t c at to)
-
   pub in_arrow : (t : Tid) (c : Message) (from : Option Moment) (here : Moment) → flat_map f (arrow t c from here) ≡ []
   in_arrow t c None here = refl
-  in_arrow t c (Some from) here = elim (is_same from here) as (λ v. flat_map f (cond v [] (Arrow t c from here ∷ [])) ≡ []) [ true ↦ refl | false ↦ one_flight t c from here ]
-
-  pub in_move : (t : Tid) (from : Option Moment) (here : Moment) → flat_map f (move t from here) ≡ []
-  in_move t None here = refl
-  in_move t (Some from) here = one_flight t carry.Thread from here
+  in_arrow t c (Some from) here = ap (λ (xs : List X). xs ++ []) (no_flight t c from here)
 
   pub in_arrows : (t : Tid) (here : Moment) (l : Label) (x : Thread) → flat_map f (arrows t here l x) ≡ []
-  in_arrows t here (Came u) x = in_move t x.left here
-  in_arrows t here (Heard u) x = in_arrow t carry.Join x.asked here
-  in_arrows t here (Shown u) x = in_arrow t carry.Line x.asked here
-  in_arrows t here (Told u) x = in_arrow t carry.Answer x.judged here
-  in_arrows t here (Known u) x = in_arrow t carry.EndNote x.ended here
+  in_arrows t here (Came u) x = in_arrow t carry.Thread x.left here
+  in_arrows t here (Heard u) x = in_arrow t carry.Join (earlier x.asked here) here
+  in_arrows t here (Shown u) x = in_arrow t carry.Line (earlier x.asked here) here
+  in_arrows t here (Told u) x = in_arrow t carry.Answer (earlier x.judged here) here
+  in_arrows t here (Known u) x = in_arrow t carry.EndNote (earlier x.ended here) here
   in_arrows t here _ x = refl
 
   pub in_call : (here : Moment) (l : Label) (threads : List (Tid × Thread)) → flat_map f (call here l threads) ≡ []
-  in_call here (Born t (whys.Service by count) entry a0 a1 sp slot) threads = in_arrow by (carry.Call count) (known threads by here).asked here
+  in_call here (Born t (whys.Service by count) entry a0 a1 sp slot) threads = in_arrow by (carry.Call count) (earlier (known threads by here).asked here) here
   in_call here (Born t whys.Main entry a0 a1 sp slot) threads = refl
   in_call here (Born t (whys.Create by) entry a0 a1 sp slot) threads = refl
   in_call here (Born t (whys.Inside by bubble) entry a0 a1 sp slot) threads = refl
@@ -75,10 +72,6 @@ module _ {X : Type 0} (f : Shape → List X) (no_flight : (t : Tid) (c : Message
     in_own t here (Known u) x = in_arrows t here (Known u) x
     in_own t here (Shown u) x = in_arrows t here (Shown u) x
     in_own t here _ x = refl
-
-    pub own_bars : Option Tid → Moment → Label → List (Tid × Thread) → List Shape
-    own_bars None here l threads = []
-    own_bars (Some t) here l threads = bars t here l (turn here (known threads t here))
 
     pub in_own_by : (o : Option Tid) (here : Moment) (l : Label) (threads : List (Tid × Thread)) → flat_map f (own_by o here l threads) ≡ flat_map f (own_bars o here l threads)
     unfolding own_bars
@@ -107,24 +100,18 @@ module _ {X : Type 0} (f : Shape → List X) (no_flight : (t : Tid) (c : Message
         ∙ ap (λ xs. xs ++ flat_map f (drawn (threads_at s.0 s.1 threads) ss)) (each s.0 s.1 threads)
         ∙ ap (λ xs. told s ++ xs) (in_drawn told each (threads_at s.0 s.1 threads) ss)
 
-    pub in_picture : (told : Said → List X) → ((here : Moment) (l : Label) (threads : List (Tid × Thread)) → flat_map f (shapes_at here l threads) ≡ told (here, l))
+    pub in_picture : (told : Said → List X) → ((here : Moment) (l : Label) (threads : List (Tid × Thread)) → flat_map f (own_bars (about l) here l threads) ++ flat_map f (marks here l) ≡ told (here, l))
         → (trace : List Entry) → flat_map f (shapes trace) ≡ flat_map told (said trace)
     in_picture told each trace =
         let rest = flat_map (left_over (end_of trace)) (threads_after [] (said trace)) in
         flat_map-append f (drawn [] (said trace)) rest
-        ∙ ap (λ (xs : List X). xs ++ flat_map f rest) (in_drawn told each [] (said trace))
+        ∙ ap (λ (xs : List X). xs ++ flat_map f rest) (in_drawn told (λ here l threads. in_shapes here l threads ∙ each here l threads) [] (said trace))
         ∙ ap (λ (xs : List X). flat_map told (said trace) ++ xs) (in_left_over (end_of trace) (threads_after [] (said trace)))
         ∙ append-nil (flat_map told (said trace))
 
 -- ## Runs, and marks
 
-no_run_wait : (t : Tid) (reason : Reason) (at : Moment) (to : ℕ) → run_in (Wait t reason at to) ≡ []
-no_run_wait t reason at to = refl
-
-no_run_flight : (t : Tid) (c : Message) (at to : Moment) → run_in (Arrow t c at to) ≡ []
-no_run_flight t c at to = refl
-
-run_at : (here : Moment) (l : Label) (threads : List (Tid × Thread)) → flat_map run_in (own_bars run_in no_run_flight no_run_wait (about l) here l threads) ++ flat_map run_in (marks here l) ≡ run_told (here, l)
+run_at : (here : Moment) (l : Label) (threads : List (Tid × Thread)) → flat_map run_in (own_bars (about l) here l threads) ++ flat_map run_in (marks here l) ≡ run_told (here, l)
 unfolding own_bars
 run_at here (Ran t vp count stop) threads = refl
 run_at here (Decided t count None) threads = refl
@@ -132,15 +119,9 @@ run_at here (Decided t count (Some first)) threads = refl
 run_at here _ threads = refl
 
 pub runs : (trace : List Entry) → flat_map run_in (shapes trace) ≡ flat_map run_told (said trace)
-runs trace = in_picture run_in no_run_flight no_run_wait run_told (λ here l threads. in_shapes run_in no_run_flight no_run_wait here l threads ∙ run_at here l threads) trace
+runs trace = in_picture run_in (λ t c at to. refl) (λ t reason at to. refl) run_told run_at trace
 
-no_mark_wait : (t : Tid) (reason : Reason) (at : Moment) (to : ℕ) → mark_in (Wait t reason at to) ≡ []
-no_mark_wait t reason at to = refl
-
-no_mark_flight : (t : Tid) (c : Message) (at to : Moment) → mark_in (Arrow t c at to) ≡ []
-no_mark_flight t c at to = refl
-
-mark_at : (here : Moment) (l : Label) (threads : List (Tid × Thread)) → flat_map mark_in (own_bars mark_in no_mark_flight no_mark_wait (about l) here l threads) ++ flat_map mark_in (marks here l) ≡ marks_told (here, l)
+mark_at : (here : Moment) (l : Label) (threads : List (Tid × Thread)) → flat_map mark_in (own_bars (about l) here l threads) ++ flat_map mark_in (marks here l) ≡ marks_told (here, l)
 unfolding own_bars
 mark_at here (Ran t vp count stop) threads = refl
 mark_at here (Decided t count None) threads = refl
@@ -148,4 +129,4 @@ mark_at here (Decided t count (Some first)) threads = refl
 mark_at here _ threads = refl
 
 pub signs : (trace : List Entry) → flat_map mark_in (shapes trace) ≡ flat_map marks_told (said trace)
-signs trace = in_picture mark_in no_mark_flight no_mark_wait marks_told (λ here l threads. in_shapes mark_in no_mark_flight no_mark_wait here l threads ∙ mark_at here l threads) trace
+signs trace = in_picture mark_in (λ t c at to. refl) (λ t reason at to. refl) marks_told mark_at trace

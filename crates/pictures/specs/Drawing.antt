@@ -45,27 +45,28 @@ pieces t here l x = pieces_by t here l x (next_reason l)
 
 -- ## Arrows
 
--- from one entry to another: none within an entry
+-- where an arrow begins: nowhere, where it would end in the same entry
+abbrev pub earlier : Option Moment → Moment → Option Moment
+earlier None here = None
+earlier (Some from) here = if is_same from here then None else Some from
+
+-- an arrow from there
 abbrev pub arrow : Tid → Message → Option Moment → Moment → List Shape
 arrow t carries None here = []
-arrow t carries (Some from) here = if is_same from here then [] else Arrow t carries from here ∷ []
+arrow t carries (Some from) here = Arrow t carries from here ∷ []
 
--- a thread that left and came
-abbrev pub move : Tid → Option Moment → Moment → List Shape
-move t None here = []
-move t (Some from) here = Arrow t carry.Thread from here ∷ []
-
+-- a thread that came begins where it left, be it in the same entry
 abbrev pub arrows : Tid → Moment → Label → Thread → List Shape
-arrows t here (Came u) x = move t x.left here
-arrows t here (Heard u) x = arrow t carry.Join x.asked here
-arrows t here (Shown u) x = arrow t carry.Line x.asked here
-arrows t here (Told u) x = arrow t carry.Answer x.judged here
-arrows t here (Known u) x = arrow t carry.EndNote x.ended here
+arrows t here (Came u) x = arrow t carry.Thread x.left here
+arrows t here (Heard u) x = arrow t carry.Join (earlier x.asked here) here
+arrows t here (Shown u) x = arrow t carry.Line (earlier x.asked here) here
+arrows t here (Told u) x = arrow t carry.Answer (earlier x.judged here) here
+arrows t here (Known u) x = arrow t carry.EndNote (earlier x.ended here) here
 arrows t here _ x = []
 
 -- a remote call, from where it was asked to the birth of the thread that serves it
 abbrev pub call : Moment → Label → List (Tid × Thread) → List Shape
-call here (Born t (whys.Service by count) entry a0 a1 sp slot) threads = arrow by (carry.Call count) (known threads by here).asked here
+call here (Born t (whys.Service by count) entry a0 a1 sp slot) threads = arrow by (carry.Call count) (earlier (known threads by here).asked here) here
 call here _ threads = []
 
 -- ## Marks

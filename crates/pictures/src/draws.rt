@@ -2,7 +2,7 @@
 
 ghost use Rattle.std.specs.Prelude.{◌≡◌, ◌++◌, length, OnOk};
 ghost use Rattle.pictures.specs.Windows.{if_within, kept};
-ghost use Rattle.pictures.specs.Drawing.{as_list, birth, of_thread, of_node, node_marks, waited, bars, pieces, arrow, move, arrows, call, marks, own, left_over};
+ghost use Rattle.pictures.specs.Drawing.{as_list, birth, of_thread, of_node, node_marks, waited, bars, pieces, arrow, earlier, arrows, call, marks, own, left_over};
 
 use crate::moment::{Moment, following, is_same};
 use crate::shape::{Message, Reason, Shape, Sign};
@@ -106,42 +106,27 @@ fn put_pieces(
     }
 }
 
-/// The arrow from an earlier entry to this one.
+/// Where an arrow begins: nowhere, where it would end in the same entry.
+fn earlier(from: &Option<Moment>, here: &Moment) -> Option<Moment>
+    ensures { result ≡ earlier from.now here.now }
+{
+    match from {
+        None => None,
+        Some(at) if is_same(at, here) => None,
+        Some(at) => Some(*at),
+    }
+}
+
+/// The arrow from there.
 fn put_arrow(
     window: &Window,
     shapes: &mut Vec<Shape>,
     t: &Tid,
     carries: Message,
-    from: &Option<Moment>,
+    from: Option<Moment>,
     here: &Moment,
 ) -> Result<(), AllocError>
-    ensures { OnOk result (shapes.new.items ≡ shapes.old.items ++ kept window.now (arrow t.now carries from.now here.now)) }
-{
-    let Some(at) = from else { return Ok(()) };
-    if is_same(at, here) {
-        return Ok(());
-    }
-    put(
-        window,
-        shapes,
-        &Shape::Arrow {
-            t: *t,
-            carries,
-            at: *at,
-            to: *here,
-        },
-    )
-}
-
-/// The arrow of a thread that left and came.
-fn put_move(
-    window: &Window,
-    shapes: &mut Vec<Shape>,
-    t: &Tid,
-    from: &Option<Moment>,
-    here: &Moment,
-) -> Result<(), AllocError>
-    ensures { OnOk result (shapes.new.items ≡ shapes.old.items ++ kept window.now (move t.now from.now here.now)) }
+    ensures { OnOk result (shapes.new.items ≡ shapes.old.items ++ kept window.now (arrow t.now carries from here.now)) }
 {
     match from {
         None => Ok(()),
@@ -150,15 +135,15 @@ fn put_move(
             shapes,
             &Shape::Arrow {
                 t: *t,
-                carries: Message::Thread,
-                at: *at,
+                carries,
+                at,
                 to: *here,
             },
         ),
     }
 }
 
-/// The arrow that ends with a label.
+/// The arrow that ends with a label. A thread that came begins where it left, be it in the same entry.
 fn put_arrows(
     window: &Window,
     shapes: &mut Vec<Shape>,
@@ -169,12 +154,15 @@ fn put_arrows(
 ) -> Result<(), AllocError>
     ensures { OnOk result (shapes.new.items ≡ shapes.old.items ++ kept window.now (arrows t.now here.now label.now thread.now)) }
 {
+    let asked = earlier(&thread.asked, here);
+    let judged = earlier(&thread.judged, here);
+    let ended = earlier(&thread.ended, here);
     match label {
-        Label::Came(_) => put_move(window, shapes, t, &thread.left, here),
-        Label::Heard(_) => put_arrow(window, shapes, t, Message::Join, &thread.asked, here),
-        Label::Shown(_) => put_arrow(window, shapes, t, Message::Line, &thread.asked, here),
-        Label::Told(_) => put_arrow(window, shapes, t, Message::Answer, &thread.judged, here),
-        Label::Known(_) => put_arrow(window, shapes, t, Message::EndNote, &thread.ended, here),
+        Label::Came(_) => put_arrow(window, shapes, t, Message::Thread, thread.left, here),
+        Label::Heard(_) => put_arrow(window, shapes, t, Message::Join, asked, here),
+        Label::Shown(_) => put_arrow(window, shapes, t, Message::Line, asked, here),
+        Label::Told(_) => put_arrow(window, shapes, t, Message::Answer, judged, here),
+        Label::Known(_) => put_arrow(window, shapes, t, Message::EndNote, ended, here),
         _ => Ok(()),
     }
 }
@@ -215,7 +203,7 @@ pub(crate) fn put_call(
                 shapes,
                 by,
                 Message::Call(*count),
-                &caller.asked,
+                earlier(&caller.asked, here),
                 here,
             )
         }

@@ -1,5 +1,5 @@
 -- How the stages of drawing a file end.
-use Rattle.std.proofs.Common.{◌≡◌, List, Option, Some, Ok, ap, ◌∙◌}
+use Rattle.std.proofs.Common.{◌≡◌, List, Some, Ok, ap, ◌∙◌}
 use Rattle.std.specs.Prelude.{option_map}
 use Rattle.outside.specs.Outside.{Content, file_at, MayHold}
 use Rattle.run_trace.specs.declared.entry.Entry.{Entry}

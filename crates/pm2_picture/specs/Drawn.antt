@@ -1,5 +1,5 @@
 -- What is drawn: a text that is the picture of the trace that a file may hold, and how the program ends.
-use Rattle.std.specs.Prelude.{◌≡◌, ◌≢◌, ℕ, ◌++◌, Bool, true, ◌&&◌, List, [], ◌∷◌, Option, Some, None, Result, Ok, Err, count_by, nat_le, nat_lt, option_map, ⊤}
+use Rattle.std.specs.Prelude.{◌≡◌, ◌≢◌, Bool, true, ◌&&◌, List, ◌∷◌, Option, Some, None, Ok, Err, count_by, nat_le, nat_lt, option_map, ⊤}
 use Rattle.outside.specs.Outside.{Content, file_at, MayHold}
 use Rattle.run_trace.specs.declared.entry.Entry.{Entry}
 use Rattle.trace_text.specs.Texts.{read_trace}

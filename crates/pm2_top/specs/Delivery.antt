@@ -8,6 +8,8 @@ use Rattle.run_texts.specs.Written.{schedule_text}
 use Rattle.run_texts.specs.Summaries.{summary_of}
 use Rattle.settings.specs.Settings.{Chosen}
 use Rattle.pm2_top.specs.Number.{refusal_status}
+use Rattle.pm2_top.specs.declared.delivery.Saved.{Saved}
+use Rattle.pm2_top.specs.declared.delivery.Saved.TheVariants as saved
 use Rattle.pm2_top.specs.declared.report.Report.{Report}
 use Rattle.pm2_top.specs.declared.status.Status.{Status}
 use Rattle.pm2_top.specs.declared.status.Status.TheVariants.{Done, Usage, BadSource, Stalled, OutOfTurns, ReadFault, WriteFault, NoMemory, NotPossible, BadScheduleText}
@@ -30,6 +32,11 @@ abbrev pub summary_for : Chosen → List Entry → List ℕ
 summary_for asked trace = if asked.summary then summary_of trace else []
 
 -- ---- files
+
+-- what is saved of a run with this trace
+abbrev pub text_of : Saved → List Entry → List ℕ
+text_of saved.Trace trace = trace_text trace
+text_of saved.Schedule trace = schedule_text trace
 
 -- the file has this text now, where the shelf tells its files
 abbrev pub HasText : (name text : List ℕ) → (old new : Content) → Type 0

@@ -1,5 +1,5 @@
 -- How a command comes to its end, and when each status comes.
-use Rattle.std.specs.Prelude.{◌≡◌, ◌⊎◌, ℕ, Bool, false, List, [], Option, Some, None, Result, Ok, Err, IsSomeAnd, length, reverse, ⊤}
+use Rattle.std.specs.Prelude.{◌≡◌, ◌⊎◌, ℕ, Bool, List, [], Option, Some, None, Result, Ok, Err, IsSomeAnd, length, reverse, ⊤}
 use Rattle.outside.specs.Outside.{Content, Appends, AppendsPrefix}
 use Rattle.rv_inst.specs.declared.image.Image.{Image}
 use Rattle.rv_asm.specs.declared.error.AsmError.{AsmError}

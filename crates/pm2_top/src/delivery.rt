@@ -1,12 +1,10 @@
 //! What is told at the end of a run: the summary, the trace and its acts.
 
-ghost use Rattle.std.specs.Prelude.{◌≡◌, ◌≢◌, ◌≤◌, ◌⊎◌, true, None, Some, List, ℕ, IfSome, OnOk, OnErr, IsErrOf};
+ghost use Rattle.std.specs.Prelude.{◌≡◌, ◌≢◌, ◌≤◌, ◌⊎◌, true, None, Some, List, ℕ, IfOk, IfSome, OnOk, OnErr, IsErrOf};
 ghost use Rattle.outside.specs.Outside.{Rose, Appends, AppendsPrefix, file_at};
-ghost use Rattle.trace_text.specs.Lines.{trace_text};
-ghost use Rattle.run_texts.specs.Written.{schedule_text};
 ghost use Rattle.settings.specs.Numbers.{are_apart};
 ghost use Rattle.settings.specs.Seen.{chosen};
-ghost use Rattle.pm2_top.specs.Delivery.{is_told, summary_for, HasText, IsLeft, HasFiles, LeavesFiles, Tells};
+ghost use Rattle.pm2_top.specs.Delivery.{is_told, summary_for, text_of, HasText, IsLeft, HasFiles, LeavesFiles, Tells};
 
 use crate::report::Report;
 use crate::status::Status;
@@ -39,39 +37,35 @@ fn tell_summary<K: Sink>(
     }
 }
 
-/// Writes the trace to the file of this name, where there is one.
-fn put_trace<S: Shelf>(
-    alloc: Global,
-    name: &Option<Name>,
-    trace: &[Entry],
-    shelf: &mut S,
-) -> Result<(), WriteRefusal>
-    ensures ok { OnOk result (IfSome name.now (λ n. HasText n (trace_text trace.now) (S.content shelf.old) (S.content shelf.new))) }
-    ensures left { IfSome name.now (λ n. IsLeft n (trace_text trace.now) (Rose (S.write_faults shelf.old) (S.write_faults shelf.new)) (S.content shelf.old) (S.content shelf.new)) }
-    ensures others { (other : List ℕ) → name.now ≢ Some other → file_at (S.content shelf.new) other ≡ file_at (S.content shelf.old) other }
-    ensures failed { IsErrOf result WriteRefusal.Failed → Rose (S.write_faults shelf.old) (S.write_faults shelf.new) }
-    ensures writes { S.write_faults shelf.old ≤ S.write_faults shelf.new }
-    ensures unasked { name.now ≡ None → S.write_faults shelf.new ≡ S.write_faults shelf.old }
-    ensures reads { S.read_faults shelf.new ≡ S.read_faults shelf.old }
+/// What is saved of a run.
+#[derive(Clone, Copy)]
+enum Saved {
+    /// Its trace.
+    Trace,
+    /// The acts of its trace.
+    Schedule,
+}
+
+/// The text that is saved.
+fn text_of(alloc: Global, saved: Saved, trace: &[Entry]) -> Result<Vec<u8>, NoMemory>
+    ensures { IfOk result (λ text. text.items ≡ text_of saved trace.now) }
 {
-    match name {
-        None => Ok(()),
-        Some(name) => match trace_text(alloc, trace) {
-            Ok(text) => shelf.write_file(name.as_str(), &text),
-            Err(NoMemory) => Err(WriteRefusal::NoMemory),
-        },
+    match saved {
+        Saved::Trace => trace_text(alloc, trace),
+        Saved::Schedule => schedule_text(alloc, trace),
     }
 }
 
-/// Writes the acts of a trace to the file of this name, where there is one.
-fn put_schedule<S: Shelf>(
+/// Saves it in the file of this name, where there is one.
+fn put_file<S: Shelf>(
     alloc: Global,
     name: &Option<Name>,
+    saved: Saved,
     trace: &[Entry],
     shelf: &mut S,
 ) -> Result<(), WriteRefusal>
-    ensures ok { OnOk result (IfSome name.now (λ n. HasText n (schedule_text trace.now) (S.content shelf.old) (S.content shelf.new))) }
-    ensures left { IfSome name.now (λ n. IsLeft n (schedule_text trace.now) (Rose (S.write_faults shelf.old) (S.write_faults shelf.new)) (S.content shelf.old) (S.content shelf.new)) }
+    ensures ok { OnOk result (IfSome name.now (λ n. HasText n (text_of saved trace.now) (S.content shelf.old) (S.content shelf.new))) }
+    ensures left { IfSome name.now (λ n. IsLeft n (text_of saved trace.now) (Rose (S.write_faults shelf.old) (S.write_faults shelf.new)) (S.content shelf.old) (S.content shelf.new)) }
     ensures others { (other : List ℕ) → name.now ≢ Some other → file_at (S.content shelf.new) other ≡ file_at (S.content shelf.old) other }
     ensures failed { IsErrOf result WriteRefusal.Failed → Rose (S.write_faults shelf.old) (S.write_faults shelf.new) }
     ensures writes { S.write_faults shelf.old ≤ S.write_faults shelf.new }
@@ -80,7 +74,7 @@ fn put_schedule<S: Shelf>(
 {
     match name {
         None => Ok(()),
-        Some(name) => match schedule_text(alloc, trace) {
+        Some(name) => match text_of(alloc, saved, trace) {
             Ok(text) => shelf.write_file(name.as_str(), &text),
             Err(NoMemory) => Err(WriteRefusal::NoMemory),
         },
@@ -102,8 +96,8 @@ fn put_files<S: Shelf>(
     ensures unasked { asked.now.trace ≡ None → asked.now.schedule ≡ None → S.write_faults shelf.new ≡ S.write_faults shelf.old }
     ensures reads { S.read_faults shelf.new ≡ S.read_faults shelf.old }
 {
-    put_trace(alloc, &asked.trace, trace, shelf)?;
-    put_schedule(alloc, &asked.schedule, trace, shelf)
+    put_file(alloc, &asked.trace, Saved::Trace, trace, shelf)?;
+    put_file(alloc, &asked.schedule, Saved::Schedule, trace, shelf)
 }
 
 /// Writes the summary and then the files, each where it is asked for.

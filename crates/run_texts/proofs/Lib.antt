@@ -2,7 +2,6 @@ pub mod Again
 pub mod Digits
 pub mod Ends
 pub mod Joins
-pub mod Ranges
 pub mod Readings
 pub mod Splits
 pub mod Words

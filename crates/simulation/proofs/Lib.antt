@@ -1,5 +1,6 @@
 mod Beginning
 mod Choosing
+mod Course
 mod Running
 mod Replaying
 mod Rounding

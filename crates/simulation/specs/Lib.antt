@@ -1,5 +1,6 @@
 pub mod Drawn
 pub mod Ends
+pub mod Course
 pub mod Underway
 pub mod Schedules
 pub mod Replayed

@@ -6,10 +6,8 @@ use Rattle.run_trace.specs.Legality.{Legal, boot_entries}
 use Rattle.run_trace.specs.Program.{Program, nodes_of}
 use Rattle.cluster.specs.Outcomes.{GoesOn, IsDoneAt, IsStuckAt}
 use Rattle.cluster.specs.Rounds.{AreOfOneRound, last_stamp}
-use Rattle.cluster.specs.Standing.{StandsFor, HasTrace}
-use Rattle.cluster.specs.View.{ClusterView, console_in, greatest_clock, round_in, wires_of}
-use Rattle.simulation.specs.Ends.{ShowsAt}
-use Rattle.simulation.specs.Underway.{LeavesAt}
+use Rattle.cluster.specs.View.{ClusterView, console_in, greatest_clock, round_in}
+use Rattle.simulation.specs.Course.{HasCome, HasEnded}
 use Rattle.simulation.specs.declared.simulation.RunEnd.{RunEnd}
 use Rattle.simulation.specs.declared.simulation.RunEnd.TheVariants.{Done, Stalled, OutOfTurns, NotPossible, WriteFault, NoMemory}
 use Rattle.simulation.specs.declared.simulation.Simulated.{Simulated}
@@ -64,9 +62,9 @@ GoesInRounds p turns s = RunsInRounds p turns (reverse s.trace) s.end ⊎ ((s.tr
 
 -- after so many rounds of a run that began as old: it goes on
 pub record IsGoingOn (turns : ℕ) (old : ClusterView) (written : Option (List ℕ)) (done : ℕ) (c : ClusterView) (now : Option (List ℕ)) : Type 0 where
-  pub program : c.program ≡ old.program
   pub rounds : List (List Entry)
-  pub stands : StandsFor c [] (entries_in rounds ++ boot_entries old.program (nodes_of old.program))
+  pub come : HasCome old (entries_in rounds ++ boot_entries old.program (nodes_of old.program)) c
+  pub shown : Appends written (console_in c) now
   pub clock : greatest_clock c.nodes ≡ last_stamp 1 (entries_in rounds)
   pub round : round_in c ≡ length rounds
   pub count : length rounds ≡ done
@@ -76,13 +74,7 @@ pub record IsGoingOn (turns : ℕ) (old : ClusterView) (written : Option (List �
   pub are_rounds : AreRounds old.program (boot_entries old.program (nodes_of old.program)) rounds
   pub went_on : WentOnFor old.program turns (boot_entries old.program (nodes_of old.program)) rounds
   pub going : GoesOn old.program (entries_in rounds ++ boot_entries old.program (nodes_of old.program)) ⊎ (rounds ≡ [])
-  pub shown : Appends written (console_in c) now
-  pub wide : length (wires_of c) ≡ length (wires_of old)
 
 -- a run that began as old has ended
-pub record HasGone (turns : ℕ) (old new : ClusterView) (written now : Option (List ℕ)) (end : RunEnd) : Type 0 where
-  pub entries : List Entry
-  pub trace : HasTrace new entries
-  pub runs : RunsInRounds old.program turns entries end
-  pub shows : ShowsAt old.program written now entries end
-  pub leaves : LeavesAt old.program old new entries end
+abbrev pub HasGone : (turns : ℕ) → ClusterView → ClusterView → Option (List ℕ) → Option (List ℕ) → RunEnd → Type 0
+HasGone turns old new written now end = HasEnded (λ p trace e. RunsInRounds p turns trace e) old new written now end

@@ -11,7 +11,7 @@ ghost use Rattle.cluster.specs.View.{greatest_clock, round_in};
 ghost use Rattle.simulation.specs.Ends.{Shows, CarriesAt};
 ghost use Rattle.simulation.specs.Rounds.{GoesInRounds, HasGone};
 
-use crate::simulation::{RunEnd, Simulated, none, show};
+use crate::simulation::{RunEnd, Simulated, ended, none, show};
 use basics::NoMemory;
 use cluster::{Cluster, State};
 use node_loop::Gate;
@@ -53,10 +53,7 @@ pub fn run_in_rounds<R: Threads + Sync, K: Sink, G: Gate>(
         Err(NoMemory) => return none(alloc),
         Ok(end) => end,
     };
-    match cluster.finish() {
-        Err(NoMemory) => none(alloc),
-        Ok((trace, wires)) => Simulated { end, trace, wires },
-    }
+    ended(alloc, cluster, end)
 }
 
 // Does round after round. Each has an entry, so there are no more rounds than turns.

@@ -12,7 +12,7 @@ ghost use Rattle.simulation.specs.Ends.{Shows, CarriesAt};
 ghost use Rattle.simulation.specs.Schedules.{AreInRange, Follows};
 ghost use Rattle.simulation.specs.Replayed.{HasReplayed};
 
-use crate::simulation::{RunEnd, Simulated, none, show};
+use crate::simulation::{RunEnd, Simulated, ended, none, show};
 use basics::NoMemory;
 use cluster::{Cluster, State};
 use node_loop::Turned;
@@ -50,10 +50,7 @@ pub fn replay<K: Sink>(
         Ok(cluster) => cluster,
     };
     let end = do_acts(&mut cluster, schedule, out);
-    match cluster.finish() {
-        Err(NoMemory) => none(alloc),
-        Ok((trace, wires)) => Simulated { end, trace, wires },
-    }
+    ended(alloc, cluster, end)
 }
 
 // Does act after act.

@@ -7,9 +7,10 @@ ghost use Rattle.run_trace.specs.Legality.{boot_entries};
 ghost use Rattle.run_trace.specs.Program.{nodes_of, quantum_limit};
 ghost use Rattle.node_state.specs.Events.{program, StartsAligned};
 ghost use Rattle.wires.specs.Wires.{AreFreshFor};
-ghost use Rattle.cluster.specs.Standing.{StandsFor, Loses};
-ghost use Rattle.cluster.specs.View.{console_in, greatest_clock, round_in};
+ghost use Rattle.cluster.specs.Standing.{StandsFor, HasTrace, Loses};
+ghost use Rattle.cluster.specs.View.{console_in, greatest_clock, round_in, wires_of};
 ghost use Rattle.node_loop.specs.Turns.{entry_limit};
+ghost use Rattle.simulation.specs.Course.{HandsOut};
 ghost use Rattle.simulation.specs.Drawn.{generator, possible_after};
 ghost use Rattle.simulation.specs.Ends.{Simulates, Shows, CarriesAt};
 ghost use Rattle.simulation.specs.Underway.{Draws, HasRun};
@@ -46,7 +47,7 @@ pub enum RunEnd {
 }
 
 impl From<WriteRefusal> for RunEnd {
-    ghost use Rattle.simulation.specs.Underway.{refusal_end};
+    ghost use Rattle.simulation.specs.Course.{refusal_end};
 
     ghost from_gives = { λ refusal end. end ≡ refusal_end refusal };
 
@@ -96,6 +97,14 @@ pub fn simulate<K: Sink>(
         Ok(cluster) => cluster,
     };
     let end = run(&mut cluster, turns, seed, moves, out);
+    ended(alloc, cluster, end)
+}
+
+// A run that has come to this end is handed out.
+pub(crate) fn ended(alloc: Global, cluster: Cluster, end: RunEnd) -> Simulated
+    requires { (kept : List Entry) × HasTrace cluster kept }
+    ensures { (kept : List Entry) → HasTrace cluster kept → HandsOut kept (wires_of cluster) end result }
+{
     match cluster.finish() {
         Err(NoMemory) => none(alloc),
         Ok((trace, wires)) => Simulated { end, trace, wires },

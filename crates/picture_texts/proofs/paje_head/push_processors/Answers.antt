@@ -1,7 +1,7 @@
 use Rattle.std.proofs.Common.{◌++◌}
 use Rattle.std.specs.List.{flat_map, range_with_len}
 use Rattle.picture_texts.specs.PajeHead.{processor_container}
-use Rattle.picture_texts.proofs.Ranges.{one_more}
+use Rattle.basics.proofs.Lemmas.{one_more}
 use Rattle.picture_texts.proofs.paje_head.push_processors.Goals as goal
 
 pub loop-vp-preserved : goal.loop-vp-preserved

@@ -1,7 +1,7 @@
 use Rattle.std.proofs.Common.{◌++◌}
 use Rattle.std.specs.List.{flat_map, range_with_len}
 use Rattle.picture_texts.specs.SvgFrame.{node_name}
-use Rattle.picture_texts.proofs.Ranges.{one_more}
+use Rattle.basics.proofs.Lemmas.{one_more}
 use Rattle.picture_texts.proofs.svg_frame.push_node_names.Goals as goal
 
 pub loop-node-preserved : goal.loop-node-preserved

@@ -2,7 +2,7 @@ use Rattle.std.proofs.Common.{◌++◌}
 use Rattle.std.specs.List.{flat_map, range_with_len}
 use Rattle.picture_texts.specs.SvgFrame.{tick_at}
 use Rattle.picture_texts.specs.Frames.{frame_of}
-use Rattle.picture_texts.proofs.Ranges.{one_more}
+use Rattle.basics.proofs.Lemmas.{one_more}
 use Rattle.picture_texts.proofs.svg_frame.push_ticks.Goals as goal
 
 pub loop-i-preserved : goal.loop-i-preserved

@@ -1,7 +1,7 @@
 use Rattle.std.proofs.Common.{◌++◌}
 use Rattle.std.specs.Prelude.{map}
 use Rattle.run_texts.specs.Stress.{all_jobs, job_lines}
-use Rattle.run_texts.proofs.Ranges.{one_more}
+use Rattle.basics.proofs.Lemmas.{one_more}
 use Rattle.run_texts.proofs.stress.push_jobs.Goals as goal
 
 pub loop-job-preserved : goal.loop-job-preserved

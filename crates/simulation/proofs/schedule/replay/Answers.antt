@@ -1,18 +1,17 @@
-use Rattle.std.proofs.Common.{refl}
-use Rattle.simulation.proofs.Replaying.{follows, shown_by, carried_by}
+use Rattle.simulation.proofs.Course.{runs_out, shown_out, carried_out, failed_out}
 use Rattle.simulation.proofs.schedule.replay.Goals as goal
 
-pub returns-in-Ok-finish-clause-replayed : goal.returns-in-Ok-finish-clause-replayed
-returns-in-Ok-finish-clause-replayed g c =
-    let r = c.do_acts-end.ensures.ran in
-    follows _ _ _ _ _ _ _ r c.in-Ok.ensures.program (record { end = c.do_acts-end.result; trace = c.in-Ok-finish.trace; wires = c.in-Ok-finish.wires }) refl (c.in-Ok-finish.ensures.trace r.entries r.trace)
+pub ended-requires : goal.ended-requires
+ended-requires g c = let r = c.do_acts-end.ensures.ran in (r.entries, r.trace)
 
-pub returns-in-Ok-finish-clause-shown : goal.returns-in-Ok-finish-clause-shown
-returns-in-Ok-finish-clause-shown g c =
-    let r = c.do_acts-end.ensures.ran in
-    shown_by _ _ _ _ _ _ _ r c.in-Ok.ensures.program (record { end = c.do_acts-end.result; trace = c.in-Ok-finish.trace; wires = c.in-Ok-finish.wires }) refl (c.in-Ok-finish.ensures.trace r.entries r.trace)
+pub returns-clause-replayed : goal.returns-clause-replayed
+returns-clause-replayed g c = let r = c.do_acts-end.ensures.ran in runs_out _ _ _ _ _ _ _ r c.in-Ok.ensures.program c.ended.result (c.ended.ensures r.entries r.trace)
 
-pub returns-in-Ok-finish-clause-carried : goal.returns-in-Ok-finish-clause-carried
-returns-in-Ok-finish-clause-carried g c =
-    let r = c.do_acts-end.ensures.ran in
-    carried_by _ _ _ _ _ _ _ r c.in-Ok.ensures.program _ refl (c.in-Ok-finish.ensures.trace r.entries r.trace) _ c.in-Ok-finish.ensures.wires c.in-Ok.ensures.wires
+pub returns-clause-shown : goal.returns-clause-shown
+returns-clause-shown g c = let r = c.do_acts-end.ensures.ran in shown_out _ _ _ _ _ _ _ r c.in-Ok.ensures.program c.ended.result (c.ended.ensures r.entries r.trace)
+
+pub returns-clause-carried : goal.returns-clause-carried
+returns-clause-carried g c = let r = c.do_acts-end.ensures.ran in carried_out _ _ _ _ _ _ _ r c.in-Ok.ensures.program c.ended.result (c.ended.ensures r.entries r.trace) _ c.in-Ok.ensures.wires
+
+pub returns-clause-failed : goal.returns-clause-failed
+returns-clause-failed g c e = let r = c.do_acts-end.ensures.ran in c.do_acts-end.ensures.failed (failed_out _ _ _ _ _ _ _ r c.in-Ok.ensures.program c.ended.result (c.ended.ensures r.entries r.trace) e)
