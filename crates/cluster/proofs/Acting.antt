@@ -7,12 +7,13 @@ use Rattle.run_trace.specs.declared.entry.Act.TheVariants.{Boot, Run, Take, Move
 use Rattle.run_trace.specs.declared.packet.Packet.{Packet}
 use Rattle.run_trace.specs.Program.{Program}
 use Rattle.wires.specs.declared.ends.Ends.{Ends}
-use Rattle.wires.specs.Wires.{AreWired, StaysWired}
+use Rattle.wires.specs.Wires.{AreWired}
 use Rattle.basics.proofs.Lemmas.{by_eq, some_at, get_set_same, get_set_other}
 use Rattle.node_loop.specs.View.{NodeView, raised}
 use Rattle.node_loop.specs.Turns.{IsInRange, IsLost, Turns, entry_limit}
 use Rattle.node_loop.specs.declared.node.Turned.{Turned}
 use Rattle.node_loop.specs.declared.node.Turned.TheVariants.{Did, Idle}
+use Rattle.cluster.specs.Apart.{StaysInPlace}
 use Rattle.cluster.specs.Between.{AllOf, AreNumbered, IsReady, KeepNodes, raised_but, wires_in}
 use Rattle.cluster.specs.View.{ends_of}
 use Rattle.cluster.proofs.Lists.{wires-get, wires-set}
@@ -38,20 +39,15 @@ read_some (y ∷ ys) (suc k) d x e = read_some ys k d x e
 pub raised_at : (clock : ℕ) (vs now : List NodeView) (at : ℕ) (d v : NodeView) → now ≡ map (raised clock) vs → slice_get vs at ≡ Some v → get_or now at d ≡ raised clock v
 raised_at clock vs now at d v e h = ap (λ us. get_or us at d) e ∙ read_some (map (raised clock) vs) at d (raised clock v) (get_raised clock vs at v h)
 
--- what every turn keeps
-pub record TurnKeeps (old new : NodeView) : Type 0 where
-  pub program : new.program ≡ old.program
-  pub me : new.me ≡ old.me
-  pub wired : StaysWired old.ends new.ends
-
-pub turn_keeps : (old new : NodeView) (act : Act) (t : Turned) → Turns old act new t → TurnKeeps old new
+-- every turn keeps these
+pub turn_keeps : (old new : NodeView) (act : Act) (t : Turned) → Turns old act new t → StaysInPlace old new
 turn_keeps old new act Did h = record { program = ap (λ (z : NodeView). z.program) h.after; me = ap (λ (z : NodeView). z.me) h.after; wired = h.links.wired }
 turn_keeps old new act Idle h = record { program = ap (λ (z : NodeView). z.program) h.same; me = ap (λ (z : NodeView). z.me) h.same; wired = h.links.wired }
 
-pub lost_keeps : (old new : NodeView) → IsLost old new → TurnKeeps old new
+pub lost_keeps : (old new : NodeView) → IsLost old new → StaysInPlace old new
 lost_keeps old new h = record { program = h.program; me = h.me; wired = h.wired }
 
-module _ (clock at : ℕ) (vs : List NodeView) (v new : NodeView) (here : slice_get vs at ≡ Some v) (keeps : TurnKeeps (raised clock v) new) where
+module _ (clock at : ℕ) (vs : List NodeView) (v new : NodeView) (here : slice_get vs at ≡ Some v) (keeps : StaysInPlace (raised clock v) new) where
   within : at < length (map (raised clock) vs)
   within = omega (arith, raised_length clock vs, slice_get_within vs at v here)
 

@@ -22,6 +22,10 @@ pub mod Picks
 pub mod ByWord
 mod Gathered
 mod Weaving
+mod NodeTurns
+mod Outside
+mod Together
+mod Shells
 mod SideRuns
 mod SideStands
 mod SideWires
@@ -30,3 +34,5 @@ mod SideDriven
 mod SideAdds
 mod SideLoses
 mod TheRound
+mod Counting
+mod GoingOn

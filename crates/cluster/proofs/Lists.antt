@@ -119,6 +119,11 @@ wires-get [] rest i v e = absurd (cc e)
 wires-get (w ∷ ws) rest zero v e = let same : w ≡ v = cc e in ap (λ (z : NodeView). Some z.ends) same
 wires-get (w ∷ ws) rest (suc i) v e = wires-get ws rest i v e
 
+-- behind the nodes' ends stand the others
+pub behind : (vs : List NodeView) (rest : List (Ends Packet)) (k : ℕ) → slice_get (wires_in vs rest) (length vs + k) ≡ slice_get rest k
+behind [] rest k = let e : 0 + k ≡ k = omega arith in ap (slice_get rest) e
+behind (v ∷ vs) rest k = let e : suc (length vs) + k ≡ suc (length vs + k) = omega arith in ap (slice_get (wires_in (v ∷ vs) rest)) e ∙ behind vs rest k
+
 -- ## Nothing but the ends has changed
 
 pub keeps_all : (vs : List NodeView) → KeepNodes vs vs

@@ -157,10 +157,10 @@ few_own n clock trace o h = own_few n (suc clock) trace o (all_below clock n tra
 
 -- ## All entries of the nodes together
 
-abbrev others : ℕ → List Entry → List Entry
+abbrev pub others : ℕ → List Entry → List Entry
 others n xs = filter (λ x. not (x.node == n)) xs
 
-own_gone : (n : ℕ) (xs : List Entry) → own_entries n (others n xs) ≡ []
+pub own_gone : (n : ℕ) (xs : List Entry) → own_entries n (others n xs) ≡ []
 own_gone n [] = refl
 own_gone n (x ∷ xs) = by (eqb x.node n) refl (own_gone n xs)
   where
@@ -168,7 +168,7 @@ own_gone n (x ∷ xs) = by (eqb x.node n) refl (own_gone n xs)
     by true e rest = rest
     by false e rest = ap (λ b. cond b (x ∷ own_entries n (others n xs)) (own_entries n (others n xs))) e ∙ rest
 
-own_others : (n m : ℕ) → m ≢ n → (xs : List Entry) → own_entries m (others n xs) ≡ own_entries m xs
+pub own_others : (n m : ℕ) → m ≢ n → (xs : List Entry) → own_entries m (others n xs) ≡ own_entries m xs
 own_others n m ne [] = refl
 own_others n m ne (x ∷ xs) = by (eqb x.node n) refl (own_others n m ne xs)
   where
@@ -178,7 +178,7 @@ own_others n m ne (x ∷ xs) = by (eqb x.node n) refl (own_others n m ne xs)
         rest ∙ sym (ap (λ b. cond b (x ∷ own_entries m xs) (own_entries m xs)) apart)
     by false e rest = ap (λ ys. cond (eqb x.node m) (x ∷ ys) ys) rest
 
-none_own : (xs : List Entry) → ((n : ℕ) → own_entries n xs ≡ []) → xs ≡ []
+pub none_own : (xs : List Entry) → ((n : ℕ) → own_entries n xs ≡ []) → xs ≡ []
 none_own [] h = refl
 none_own (x ∷ xs) h =
     let one : own_entries x.node (x ∷ xs) ≡ x ∷ own_entries x.node xs = ap (λ b. cond b (x ∷ own_entries x.node xs) (own_entries x.node xs)) (eq-eqb x.node x.node refl) in

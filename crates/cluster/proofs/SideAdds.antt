@@ -8,10 +8,8 @@ use Rattle.run_trace.specs.declared.entry.Entry.{Entry}
 use Rattle.run_trace.specs.Console.{printed}
 use Rattle.run_trace.specs.Histories.{Turn}
 use Rattle.run_trace.specs.Program.{Program, nodes_of}
-use Rattle.wires.specs.Wires.{AreWired}
 use Rattle.node_loop.specs.Histories.{entries_of_turns, events_of_turns}
 use Rattle.node_loop.specs.View.{NodeView, next_round}
-use Rattle.cluster.specs.Between.{wires_in}
 use Rattle.cluster.specs.Gathering.{AreGathered, GathersAfter, entries_in}
 use Rattle.cluster.specs.Rounds.{AddsRound, HasRoomForRound}
 use Rattle.cluster.specs.SideBySide.{HaveRounded, entries_together}
@@ -23,6 +21,7 @@ use Rattle.cluster.proofs.Resettling.{same_at, same_clocks}
 use Rattle.cluster.proofs.SidePasses as passes
 use Rattle.cluster.proofs.SideRuns as side
 use Rattle.cluster.proofs.SideStands as standing
+use Rattle.cluster.proofs.Together.{entries_length}
 use Rattle.cluster.proofs.Weaving.{weave_length, woven}
 
 -- ## How many entries there are
@@ -42,7 +41,6 @@ together_few most [] k = omega arith
 together_few most (v ∷ vs) k = omega (arith, k 0 v refl, together_few most vs (λ n w e. k (suc n) w e))
 
 module _ (c : ClusterView) (before kept : List Entry) (s : StandsFor c before kept) (room : HasRoomForRound c) (nodes : List NodeView) (h : HaveRounded (greatest_clock c.nodes) c.rest c.nodes nodes)
-    (wired : AreWired (wires_in h.ran c.rest))
     (law : (p : Program) (old : List Entry) (clock round : ℕ) (clocks : ℕ → ℕ) (turns : List Turn) → GathersAfter p old clock round clocks turns → AreGathered p old turns) where
   abbrev p : Program
   p = c.program
@@ -63,10 +61,10 @@ module _ (c : ClusterView) (before kept : List Entry) (s : StandsFor c before ke
   entries = entries_in turns
 
   a : AreGathered p trace turns
-  a = law p trace top (next_round (round_in c)) (λ n. top) turns (side.gather c before kept s nodes h)
+  a = law p trace top (next_round (round_in c)) (λ n. top) turns (side.gather c before kept s nodes h room)
 
   stands : StandsFor (view_of p (c.turns + length entries) nodes c.rest) before (entries ++ kept)
-  stands = standing.stands c before kept s room nodes h wired a
+  stands = standing.stands c before kept s room nodes h a
 
   many_of : (ts : List Turn) → length (entries_of_turns ts) ≡ length ts
   many_of [] = refl
@@ -87,7 +85,7 @@ module _ (c : ClusterView) (before kept : List Entry) (s : StandsFor c before ke
       let all_ran : take (nodes_of p) h.ran ≡ h.ran = take_all h.ran (nodes_of p) (omega (arith, side.ran_count c before kept s nodes h)) in
       let all_old : take (nodes_of p) c.nodes ≡ c.nodes = take_all c.nodes (nodes_of p) (omega (arith, side.old_count c before kept s nodes h)) in
       together_same h.ran nodes h.settled.nodes.count (λ n v w f g. ap (λ (z : NodeView). length z.entries) (h.settled.nodes.each n v w f g))
-      ∙ omega (arith, ran, ap entries_together all_ran, ap entries_together all_old, standing.entries_length turns)
+      ∙ omega (arith, ran, ap entries_together all_ran, ap entries_together all_old, entries_length turns)
 
   abbrev shown : List ℕ
   shown = printed (events_of_turns (each 0))
@@ -104,10 +102,10 @@ module _ (c : ClusterView) (before kept : List Entry) (s : StandsFor c before ke
     entries = entries;
     stands = stands;
     turns = refl;
-    is_round = passes.is_round c before kept s nodes h a;
-    goes_on = passes.goes_on c before kept s nodes h a;
-    clock = same_clocks h.ran nodes h.settled.nodes ∙ standing.greatest_now c before kept s room nodes h wired a;
-    round = same_at h.ran nodes h.settled.nodes round_at (λ v es. refl) 0 ∙ standing.round_now c before kept s room nodes h wired a;
+    is_round = passes.is_round c before kept s room nodes h a;
+    goes_on = passes.goes_on c before kept s room nodes h a;
+    clock = same_clocks h.ran nodes h.settled.nodes ∙ standing.greatest_now c before kept s room nodes h;
+    round = same_at h.ran nodes h.settled.nodes round_at (λ v es. refl) 0 ∙ standing.round_now c before kept s room nodes h;
     shown = shown;
     console = console_now;
   }

@@ -12,21 +12,22 @@ use Rattle.node_loop.specs.Rounds.{Rounds}
 use Rattle.node_loop.specs.View.{NodeView, raised}
 use Rattle.node_loop.specs.declared.node.RoundEnd.{RoundEnd}
 use Rattle.node_loop.specs.declared.node.RoundEnd.TheVariants.{Lost, Through}
+use Rattle.cluster.specs.Apart.{StaysInPlace}
 use Rattle.cluster.specs.Between.{AllOf, AreNumbered, wires_in}
 use Rattle.cluster.specs.Rounds.{acts_in_round}
 use Rattle.cluster.specs.SideBySide.{EachHasRun, HasRun}
-use Rattle.cluster.proofs.Acting.{TurnKeeps, get_raised, raised_length, read_some}
+use Rattle.cluster.proofs.Acting.{get_raised, raised_length, read_some}
 use Rattle.cluster.proofs.SideWires.{wired_all}
 
-run_keeps : (v w : NodeView) → HasRun v w → TurnKeeps v w
+run_keeps : (v w : NodeView) → HasRun v w → StaysInPlace v w
 run_keeps v w h = by h.end h.rounds
   where
-    by : (e : RoundEnd) → Rounds v acts_in_round w e → TurnKeeps v w
+    by : (e : RoundEnd) → Rounds v acts_in_round w e → StaysInPlace v w
     by Through r = record { program = r.done.history.program; me = r.done.history.me; wired = r.done.wired }
     by Lost r = record { program = r.lost.program ∙ r.done.history.program; me = r.lost.me ∙ r.done.history.me; wired = stays_trans v.ends r.last.ends w.ends r.done.wired r.lost.wired }
 
 -- what is raised and has run, one by one
-pub ran_keep : (clock : ℕ) (old mid ran : List NodeView) → mid ≡ map (raised clock) old → length ran ≡ length mid → EachHasRun mid ran → (n : ℕ) (v w : NodeView) → slice_get old n ≡ Some v → slice_get ran n ≡ Some w → TurnKeeps (raised clock v) w
+pub ran_keep : (clock : ℕ) (old mid ran : List NodeView) → mid ≡ map (raised clock) old → length ran ≡ length mid → EachHasRun mid ran → (n : ℕ) (v w : NodeView) → slice_get old n ≡ Some v → slice_get ran n ≡ Some w → StaysInPlace (raised clock v) w
 ran_keep clock old mid ran e long h n v w f g =
     let at : slice_get mid n ≡ Some (raised clock v) = ap (λ us. slice_get us n) e ∙ get_raised clock old n v f in
     run_keeps (raised clock v) w

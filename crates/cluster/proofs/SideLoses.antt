@@ -27,8 +27,8 @@ use Rattle.cluster.proofs.Clocks.{clock_within}
 use Rattle.cluster.proofs.Runs.{later_front}
 use Rattle.cluster.proofs.SideDriven.{ran_wired}
 use Rattle.cluster.proofs.SidePasses.{clock_low}
-use Rattle.cluster.proofs.SideRuns.{ranges, rises, stamped_above}
-use Rattle.cluster.proofs.SideStands.{entries_same, own_in, own_joined}
+use Rattle.cluster.proofs.NodeTurns.{ranges, rises, stamped_above}
+use Rattle.cluster.proofs.Together.{entries_same, own_in, own_joined}
 use Rattle.cluster.proofs.Weaving.{AreAfter, Rises, woven, woven_after, woven_descends, woven_own, woven_past}
 
 -- it has done these turns, and keeps their entries

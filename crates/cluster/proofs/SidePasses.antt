@@ -32,12 +32,13 @@ use Rattle.node_loop.specs.View.{NodeView, next_round}
 use Rattle.cluster.specs.Acts.{acts_of, has_pick, holds, takes_of}
 use Rattle.cluster.specs.Gathering.{AreGathered, AreOfRound, entries_in}
 use Rattle.cluster.specs.Outcomes.{GoesOn}
-use Rattle.cluster.specs.Rounds.{AreOfOneRound, AreStamped, GoesInPasses, acts_in_round, clock_of, moments_of}
+use Rattle.cluster.specs.Rounds.{AreOfOneRound, AreStamped, GoesInPasses, HasRoomForRound, acts_in_round, clock_of, moments_of}
 use Rattle.cluster.specs.SideBySide.{HaveRounded}
 use Rattle.cluster.specs.Standing.{StandsFor, IsNodeOf, net_after}
 use Rattle.cluster.specs.View.{ClusterView, greatest_clock, round_in}
 use Rattle.cluster.proofs.Gathered.{gathers}
 use Rattle.cluster.proofs.Linking.{can_is}
+use Rattle.cluster.proofs.NodeTurns.{AreInRange, ranges, stamped_above}
 use Rattle.cluster.proofs.Runs.{net_joined}
 use Rattle.cluster.proofs.SideRuns as side
 
@@ -100,11 +101,11 @@ clocks_same n clk (t ∷ before) = by (eqb t.event.node n) (clocks_same n clk be
     by true e = refl
     by false e = e
 
-pub clock_low : (n clk : ℕ) (p : Program) (base : Local) (ts : List Turn) → IsHistory p n clk base ts → side.AreInRange p n ts → clk ≤ clock clk ts
+pub clock_low : (n clk : ℕ) (p : Program) (base : Local) (ts : List Turn) → IsHistory p n clk base ts → AreInRange p n ts → clk ≤ clock clk ts
 clock_low n clk p base [] h o = omega arith
-clock_low n clk p base (t ∷ before) h o = omega (arith, clock_low n clk p base before h.0 o.1, side.stamped_above t p n (clock clk before) t.event.act o.0 h.1.stamp)
+clock_low n clk p base (t ∷ before) h o = omega (arith, clock_low n clk p base before h.0 o.1, stamped_above t p n (clock clk before) t.event.act o.0 h.1.stamp)
 
-module _ (c : ClusterView) (before kept : List Entry) (s : StandsFor c before kept) (nodes : List NodeView) (h : HaveRounded (greatest_clock c.nodes) c.rest c.nodes nodes)
+module _ (c : ClusterView) (before kept : List Entry) (s : StandsFor c before kept) (room : HasRoomForRound c) (nodes : List NodeView) (h : HaveRounded (greatest_clock c.nodes) c.rest c.nodes nodes)
     (a : AreGathered c.program (kept ++ before) (side.turns c before kept s nodes h)) where
   abbrev p : Program
   p = c.program
@@ -128,7 +129,7 @@ module _ (c : ClusterView) (before kept : List Entry) (s : StandsFor c before ke
   each = side.each c before kept s nodes h
 
   g : Gathers p net top (λ n. top) turns
-  g = gathers p trace top round (λ n. top) turns (side.gather c before kept s nodes h)
+  g = gathers p trace top round (λ n. top) turns (side.gather c before kept s nodes h room)
 
   -- ## At each place of the round
 
@@ -240,7 +241,7 @@ module _ (c : ClusterView) (before kept : List Entry) (s : StandsFor c before ke
       let own : own_turns n (t ∷ ts) ≡ t ∷ own_turns n ts = ap (λ b. cond b (t ∷ own_turns n ts) (own_turns n ts)) (eq-eqb n n refl) in
       let k : IsHistory p n top (net.nodes n) (t ∷ own_turns n ts) = subst (λ xs. IsHistory p n top (net.nodes n) xs) own (history_here later (t ∷ ts) part n) in
       let r : AreInRound p n top round (t ∷ own_turns n ts) = subst (λ xs. AreInRound p n top round xs) own (side.round_front c before kept s nodes h later (t ∷ ts) part n) in
-      let low : top ≤ clock top (own_turns n ts) = clock_low n top p (net.nodes n) (own_turns n ts) k.0 (side.ranges p n top round (own_turns n ts) r.1) in
+      let low : top ≤ clock top (own_turns n ts) = clock_low n top p (net.nodes n) (own_turns n ts) k.0 (ranges p n top round (own_turns n ts) r.1) in
       let took : t.event.took ≡ next_packet (net_after p (entries_in ts ++ trace)) n t.event.act = (runs_here later (t ∷ ts) part).1.first ∙ ap (λ (z : Net). next_packet z n t.event.act) (sym (net_here (later ++ t ∷ []) ts front)) in
       let stamp : t.event.stamp ≡ suc (max (clock top (own_turns n ts)) (seen t.event.took)) = restamped t (clock top (own_turns n ts)) t.event.act r.0.3 o.0.0 low k.1.stamp in (
         o.0.1,

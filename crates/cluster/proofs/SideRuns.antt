@@ -1,58 +1,54 @@
 -- What nodes have done side by side in a round goes on with the trace.
-use Rattle.std.proofs.Common.{◌≡◌, ◌≢◌, ℕ, zero, suc, ◌+◌, ◌<◌, ◌≤◌, inl, inr, max, List, [], ◌∷◌, ◌++◌, length, map, reverse, get_or, Option, Some, None, Bool, true, false, cond, eqb, refl, sym, ap, ◌∙◌, subst, arith, append_assoc, append-nil}
-use Rattle.std.specs.Prelude.{⊤, ◌&&◌, slice_get}
-use Rattle.std.proofs.lemmas.Bool.{eq-eqb, ne_eqb}
+use Rattle.std.proofs.Common.{◌≡◌, ℕ, zero, suc, ◌<◌, ◌≤◌, inl, inr, List, [], ◌∷◌, ◌++◌, length, map, reverse, get_or, Some, Bool, true, false, cond, eqb, refl, sym, ap, ◌∙◌, subst, arith, append_assoc}
+use Rattle.std.specs.Prelude.{slice_get}
 use Rattle.std.proofs.lemmas.List.{length-append, length-reverse}
-use Rattle.std.proofs.lemmas.Option.{slice_get_past, slice_get_within, same_Some}
-use Rattle.std.proofs.Math.Nat.{le-max_left, le-max_right, max-le, max-eq_right}
-use Rattle.run_trace.specs.declared.entry.Act.{Act}
-use Rattle.run_trace.specs.declared.entry.Act.TheVariants.{Boot, Run, Take, Move}
+use Rattle.std.proofs.lemmas.Option.{slice_get_within, same_Some}
+use Rattle.std.proofs.Math.Nat.{max-eq_right}
+use Rattle.run_trace.specs.declared.entry.Act.TheVariants.{Take}
 use Rattle.run_trace.specs.declared.entry.Entry.{Entry}
 use Rattle.run_trace.specs.declared.packet.Packet.{Packet}
-use Rattle.run_trace.specs.Cluster.{IsAbove, IsDescending, IsPrefix, Net, received, sent, taken_of}
-use Rattle.run_trace.specs.Histories.{IsHistory, IsStamped, Turn, clock, seen, sent_to, taken_from}
+use Rattle.run_trace.specs.Cluster.{Net}
+use Rattle.run_trace.specs.Histories.{IsHistory, Turn, clock, sent_to, taken_from}
 use Rattle.run_trace.specs.Legality.{NoneAbove}
 use Rattle.run_trace.specs.Local.{Local}
-use Rattle.run_trace.specs.Machine.{stamp_limit}
 use Rattle.run_trace.specs.Program.{Program, nodes_of}
 use Rattle.trace_laws.specs.Gathers.{events_in, own_turns}
-use Rattle.trace_laws.proofs.Lemmas.{own_events, received_own, sent_own}
 use Rattle.wires.specs.declared.ends.Ends.{Ends}
-use Rattle.wires.specs.Ends as ends
-use Rattle.wires.specs.Ends.{of_link, width}
-use Rattle.wires.specs.Link.{link_known, link_received, link_sent, link_waiting, IsSettled}
-use Rattle.wires.specs.Wires.{row_link, received_on, sent_on}
 use Rattle.wires.proofs.Lemmas.{received_on-node, sent_on-node}
 use Rattle.basics.proofs.Lemmas.{by_less, some_at}
 use Rattle.node_loop.specs.Histories.{entries_of_turns}
 use Rattle.node_loop.specs.Passes.{IsRound}
 use Rattle.node_loop.specs.Rounds.{AreInRound, HasDone, HasRounded, Rounds, can_run, moments_in}
-use Rattle.node_loop.specs.Turns.{IsActInRange, can, entry_limit}
+use Rattle.node_loop.specs.Turns.{can, entry_limit}
 use Rattle.node_loop.specs.View.{NodeView, next_round, raised, with_ends}
 use Rattle.node_loop.specs.declared.node.RoundEnd.{RoundEnd}
 use Rattle.node_loop.specs.declared.node.RoundEnd.TheVariants.{Lost, Through}
-use Rattle.cluster.specs.Between.{wires_in}
 use Rattle.cluster.specs.Gathering.{AreOfRound, GathersAfter, entries_in}
-use Rattle.cluster.specs.Rounds.{HasRoomForRound, acts_in_round, last_stamp}
+use Rattle.cluster.specs.Rounds.{HasRoomForRound, acts_in_round}
 use Rattle.cluster.specs.SideBySide.{HasRun, HaveRounded, all_stand}
-use Rattle.cluster.specs.Standing.{StandsFor, IsNodeOf, net_after, turn_in}
-use Rattle.cluster.specs.View.{ClusterView, ends_of, greatest_clock, round_in, wires_of}
+use Rattle.cluster.specs.Standing.{StandsFor, IsNodeOf, net_after}
+use Rattle.cluster.specs.View.{ClusterView, greatest_clock, round_in, wires_of}
+use Rattle.cluster.specs.Apart.{Fits, HasGoneOn, HaveGoneOn, StaysInPlace}
+use Rattle.cluster.proofs.NodeTurns.{and_first, and_rest, of_round, own_low, rebased, rises}
+use Rattle.cluster.proofs.Shells.{fit_after, still_before}
+use Rattle.cluster.proofs.SideDriven.{ran_keep}
+use Rattle.cluster.proofs.Together as together
+use Rattle.cluster.proofs.Together.{entries_same}
+use Rattle.run_trace.specs.Console.{console_of, printed}
+use Rattle.run_trace.specs.Spots.{at_first}
+use Rattle.cluster.specs.Rounds.{clock_of}
+use Rattle.cluster.specs.View.{console_at, shell_of}
+use Rattle.cluster.specs.Standing.{entries_at}
+use Rattle.run_trace.specs.Histories.{own_entries, turn_state}
+use Rattle.std.proofs.lemmas.List.{reverse-append, reverse-reverse}
+use Rattle.std.proofs.Common.{◌⊎◌}
 use Rattle.cluster.proofs.Acting.{get_raised, raised_length, read_some}
-use Rattle.cluster.proofs.Clocks.{clock_within, few_entries, greatest_most, greatest_within, next_not_below}
-use Rattle.cluster.proofs.Linking.{link_there, same_rest}
-use Rattle.cluster.proofs.Lists.{wires-get, wires-length}
+use Rattle.cluster.proofs.Clocks.{clock_within, greatest_within, next_not_below}
+use Rattle.cluster.proofs.Lists.{wires-get}
 use Rattle.cluster.proofs.Runs.{higher}
-use Rattle.cluster.proofs.Weaving.{AreLess, Rises, woven, woven_descends, woven_own, woven_past, woven_length, woven_round}
+use Rattle.cluster.proofs.Weaving.{Rises, woven, woven_own, woven_past, woven_round}
 
 -- ## One node
-
-and_first : (a b : Bool) → (a && b) ≡ true → a ≡ true
-and_first true b e = refl
-and_first false b e = absurd (cc e)
-
-and_rest : (a b : Bool) → (a && b) ≡ true → b ≡ true
-and_rest true b e = e
-and_rest false b e = absurd (cc e)
 
 pub stands_at : (vs : List NodeView) → all_stand vs ≡ true → (n : ℕ) (v : NodeView) → slice_get vs n ≡ Some v → v.state.booted ≡ true
 stands_at [] h n v e = absurd (cc e)
@@ -67,74 +63,17 @@ through v w h b = by h.end h.rounds
     by Through r = r
     by Lost r = absurd (cc (b, r.gone))
 
--- stamps rise, and end with the node's clock
-pub stamped_above : (t : Turn) (p : Program) (me last : ℕ) (a : Act) → IsActInRange p me a → IsStamped last t a → last < t.event.stamp
-stamped_above t p me last Boot r s = absurd r
-stamped_above t p me last (Run vp quantum) r s = omega (arith, s, le-max_right t.began (max last (seen t.event.took)), le-max_left last (seen t.event.took))
-stamped_above t p me last (Take from) r s = omega (arith, s, le-max_right t.began (max last (seen t.event.took)), le-max_left last (seen t.event.took))
-stamped_above t p me last (Move u to) r s = omega (arith, s, le-max_right t.began (max last (seen t.event.took)), le-max_left last (seen t.event.took))
-
-less_all : (n s d : ℕ) (turns : List Turn) → clock d turns < s → Rises n turns → AreLess s turns
-less_all n s d [] l r = tt
-less_all n s d (t ∷ before) l r = (l, less_more t.event.stamp before (omega (arith, l)) r.1)
-  where
-    less_more : (a : ℕ) (xs : List Turn) → a ≤ s → AreLess a xs → AreLess s xs
-    less_more a [] m h = tt
-    less_more a (x ∷ xs) m h = (omega (arith, m, h.0), less_more a xs m h.1)
-
-pub rises : (p : Program) (me d began round : ℕ) (base : Local) (turns : List Turn) → IsHistory p me d base turns → AreInRound p me began round turns → Rises me turns
-rises p me d began round base [] h o = tt
-rises p me d began round base (t ∷ before) h o =
-    let rest : Rises me before = rises p me d began round base before h.0 o.1 in
-    (o.0.0, less_all me t.event.stamp d before (stamped_above t p me (clock d before) t.event.act o.0.3 h.1.stamp) rest, rest)
-
--- each act is one of this node
-abbrev pub AreInRange : Program → ℕ → List Turn → Type 0
-AreInRange p n [] = ⊤
-AreInRange p n (t ∷ before) = IsActInRange p n t.event.act × AreInRange p n before
-
-pub ranges : (p : Program) (n began round : ℕ) (ts : List Turn) → AreInRound p n began round ts → AreInRange p n ts
-ranges p n began round [] o = tt
-ranges p n began round (t ∷ before) o = (o.0.3, ranges p n began round before o.1)
-
-one_turn : (p : Program) (me : ℕ) (a : Act) → IsActInRange p me a → turn_in a ≡ 1
-one_turn p me Boot r = absurd r
-one_turn p me (Run vp quantum) r = refl
-one_turn p me (Take from) r = refl
-one_turn p me (Move t to) r = refl
-
-of_round : (p : Program) (me began round : ℕ) (turns : List Turn) → AreInRound p me began round turns → AreOfRound began round turns
-of_round p me began round [] o = tt
-of_round p me began round (t ∷ before) o = ((o.0.1, o.0.2, one_turn p me t.event.act o.0.3), of_round p me began round before o.1)
-
--- nothing is taken from a node that isn't there
-taken_out : (p : Program) (me i : ℕ) (a : Act) (took : Option Packet) → nodes_of p ≤ i → IsActInRange p me a → taken_of i a took ≡ []
-taken_out p me i Boot took l r = refl
-taken_out p me i (Run vp quantum) took l r = refl
-taken_out p me i (Move t to) took l r = refl
-taken_out p me i (Take from) None l r = refl
-taken_out p me i (Take from) (Some packet) l r = ap (λ b. cond b (packet ∷ []) []) (ne_eqb from i (λ e. absurd (omega (arith, e, l, r))))
-
-all_taken_out : (p : Program) (me i began round : ℕ) (turns : List Turn) → nodes_of p ≤ i → AreInRound p me began round turns → taken_from i (events_in turns) ≡ []
-all_taken_out p me i began round [] l o = refl
-all_taken_out p me i began round (t ∷ before) l o =
-    ap (λ ps. ps ++ taken_of i t.event.act t.event.took) (all_taken_out p me i began round before l o.1) ∙ taken_out p me i t.event.act t.event.took l o.0.3
-
 moments_length : (p : Program) (me : ℕ) (base : Local) (turns : List Turn) → length (moments_in p me base turns) ≡ length turns
 moments_length p me base [] = refl
 moments_length p me base (t ∷ before) = ap suc (moments_length p me base before)
 
--- the items behind the first parts of two lists are the same
-get_past : {A : Type 0} (xs ys zs : List A) (j : ℕ) → length xs ≡ length ys → length xs ≤ j → slice_get (xs ++ zs) j ≡ slice_get (ys ++ zs) j
-get_past [] [] zs j e l = refl
-get_past [] (y ∷ ys) zs j e l = absurd (omega (arith, e))
-get_past (x ∷ xs) [] zs j e l = absurd (omega (arith, e))
-get_past (x ∷ xs) (y ∷ ys) zs zero e l = absurd (omega (arith, l))
-get_past (x ∷ xs) (y ∷ ys) zs (suc j) e l = get_past xs ys zs j (omega (arith, e)) (omega (arith, l))
+clock_up : (c d : ℕ) → c ≤ d → (ts : List Turn) → clock c ts ≤ clock d ts
+clock_up c d l [] = l
+clock_up c d l (t ∷ before) = omega arith
 
-length_ends : (vs : List NodeView) → length (map ends_of vs) ≡ length vs
-length_ends [] = refl
-length_ends (v ∷ vs) = ap suc (length_ends vs)
+clock_there : (c d k : ℕ) (ts : List Turn) → k ≡ clock d ts → (k ≤ clock c ts) ⊎ (k ≤ d)
+clock_there c d k [] e = inr (omega (arith, e))
+clock_there c d k (t ∷ before) e = inl (omega (arith, e))
 
 module _ (c : ClusterView) (before kept : List Entry) (s : StandsFor c before kept) (nodes : List NodeView) (h : HaveRounded (greatest_clock c.nodes) c.rest c.nodes nodes) where
   abbrev pub p : Program
@@ -158,12 +97,6 @@ module _ (c : ClusterView) (before kept : List Entry) (s : StandsFor c before ke
 
   abbrev pub es : List (Ends Packet)
   es = wires_of c
-
-  abbrev pub fs : List (Ends Packet)
-  fs = wires_in h.ran c.rest
-
-  abbrev pub gs : List (Ends Packet)
-  gs = wires_in nodes c.rest
 
   pub old_count : length c.nodes ≡ many
   old_count = s.agrees.count
@@ -252,113 +185,9 @@ module _ (c : ClusterView) (before kept : List Entry) (s : StandsFor c before ke
   pub own_is : (n : ℕ) → own_turns n turns ≡ each n
   own_is n = by_less n many (λ l. woven_own each all_rise many n l) (λ past. woven_past each all_rise many n past ∙ sym ((at_node n).past past))
 
-  few_each : (n : ℕ) → length (each n) ≤ acts_in_round
-  few_each n = by_less n many
-      (λ l. (let a = (at_node n).here l in omega (arith, a.passes.few, moments_length a.v.program a.v.me a.v.state (each n))))
-      (λ past. (let none : length (each n) ≡ 0 = ap length ((at_node n).past past) in omega (arith, none)))
-
-  pub few_turns : length turns ≤ 512
-  few_turns = omega (arith, woven_length each acts_in_round many few_each, c.program.setup.geometry.few_nodes)
-
   pub all_of_round : AreOfRound top round turns
   all_of_round = woven_round each top round many
       (λ n. by_less n many (λ l. of_round p n top round (each n) (in_round n l)) (λ past. subst (λ ts. AreOfRound top round ts) (sym ((at_node n).past past)) tt))
-
-  -- ## Links
-
-  past_es : (j : ℕ) → many ≤ j → slice_get fs j ≡ slice_get es j
-  past_es j l = get_past (map ends_of h.ran) (map ends_of c.nodes) c.rest j (length_ends h.ran ∙ h.count ∙ sym (length_ends c.nodes)) (omega (arith, length_ends h.ran, ran_count, l))
-
-  pub received_now : (i j : ℕ) → received_on fs i j ≡ received_on es i j ++ taken_from i (events_in (each j))
-  received_now i j = by_less j many
-      (λ l.
-      let a = (at_node j).here l in
-      received_on-node fs i j a.w.ends (wires-get h.ran c.rest j a.w a.ran) ∙ a.done.history.received i ∙ ap (λ ps. ps ++ taken_from i (events_in (each j))) (sym (received_on-node es i j a.v.ends (wires-get c.nodes c.rest j a.v a.was))))
-      (λ past. ap (λ o. of_link link_received (row_link o i)) (past_es j past) ∙ sym (append-nil (received_on es i j)) ∙ ap (λ ts. received_on es i j ++ taken_from i (events_in ts)) (sym ((at_node j).past past)))
-
-  pub sent_now : (i j : ℕ) → j < many → sent_on fs i j ≡ sent_on es i j ++ sent_to j (events_in (each i))
-  sent_now i j lj = by_less i many
-      (λ l.
-      let a = (at_node i).here l in
-      let here : slice_get es i ≡ Some a.v.ends = wires-get c.nodes c.rest i a.v a.was in
-      let inside : j < width a.v.ends = omega (arith, lj, s.agrees.trace.wired.wide i a.v.ends here, wires-length c.nodes c.rest, old_count) in
-      sent_on-node fs i j a.w.ends (wires-get h.ran c.rest i a.w a.ran) ∙ a.done.history.sent j inside ∙ ap (λ ps. ps ++ sent_to j (events_in (each i))) (sym (sent_on-node es i j a.v.ends here)))
-      (λ past. ap (λ o. of_link link_sent (row_link o j)) (past_es i past) ∙ sym (append-nil (sent_on es i j)) ∙ ap (λ ts. sent_on es i j ++ sent_to j (events_in ts)) (sym ((at_node i).past past)))
-
-  pub taken_is : (i j : ℕ) → received i j (events_in turns) ≡ taken_from i (events_in (each j))
-  taken_is i j = received_own i j (events_in turns) ∙ ap (taken_from i) (own_events j turns ∙ ap events_in (own_is j))
-
-  pub given_is : (i j : ℕ) → sent i j (events_in turns) ≡ sent_to j (events_in (each i))
-  given_is i j = sent_own i j (events_in turns) ∙ ap (sent_to j) (own_events i turns ∙ ap events_in (own_is i))
-
-  -- what was taken, and then the rest, is what was there and then what was sent
-  fits : (r t rest l q g : List Packet) → r ++ l ≡ g → (r ++ t) ++ rest ≡ g ++ q → t ++ rest ≡ l ++ q
-  fits r t rest l q g held all = same_rest r (t ++ rest) (l ++ q) (sym (append_assoc r t rest) ∙ all ∙ ap (λ ps. ps ++ q) (sym held) ∙ append_assoc r l q)
-
-  links_fit : (i j : ℕ) → i < many → j < many → IsPrefix (received i j (events_in turns)) (net.links i j ++ sent i j (events_in turns))
-  links_fit i j li lj =
-      let x = link_there gs i j h.settled.wired (omega (arith, wires-length nodes c.rest, new_count, li)) (omega (arith, wires-length nodes c.rest, new_count, lj)) in
-      let y = link_there gs j i h.settled.wired (omega (arith, wires-length nodes c.rest, new_count, lj)) (omega (arith, wires-length nodes c.rest, new_count, li)) in
-      let settled : IsSettled x.0 y.0 = h.settled.settled i j x.0 y.0 (omega (arith, ran_count, li)) (omega (arith, ran_count, lj)) x.1 y.1 in
-      let got : link_received y.0 ≡ received_on es i j ++ taken_from i (events_in (each j)) = sym (ap (of_link link_received) y.1) ∙ h.settled.same.same_received i j ∙ received_now i j in
-      let gave : link_sent x.0 ≡ sent_on es i j ++ sent_to j (events_in (each i)) = sym (ap (of_link link_sent) x.1) ∙ h.settled.same.same_sent i j ∙ sent_now i j lj in
-      let rest : List Packet = link_known y.0 ++ link_waiting x.0 in (
-        rest,
-        ap (λ ps. ps ++ rest) (taken_is i j)
-            ∙ fits (received_on es i j) (taken_from i (events_in (each j))) rest (net.links i j) (sent_to j (events_in (each i))) (sent_on es i j) (s.agrees.under_way i j) (ap (λ ps. ps ++ rest) (sym got) ∙ settled.content ∙ gave)
-            ∙ ap (λ ps. net.links i j ++ ps) (sym (given_is i j)),
-      )
-
-  all_fit : (i j : ℕ) → IsPrefix (received i j (events_in turns)) (net.links i j ++ sent i j (events_in turns))
-  all_fit i j = by_less j many
-      (λ lj. by_less i many
-      (λ li. links_fit i j li lj)
-      (λ past. (let none : received i j (events_in turns) ≡ [] = taken_is i j ∙ all_taken_out p j i top round (each j) past (in_round j lj) in
-      (net.links i j ++ sent i j (events_in turns), ap (λ ps. ps ++ (net.links i j ++ sent i j (events_in turns))) none))))
-      (λ past. (let none : received i j (events_in turns) ≡ [] = taken_is i j ∙ ap (λ ts. taken_from i (events_in ts)) ((at_node j).past past) in
-      (net.links i j ++ sent i j (events_in turns), ap (λ ps. ps ++ (net.links i j ++ sent i j (events_in turns))) none)))
-
-  -- ## They gather
-
-  begun : trace ≢ []
-  begun none =
-      let a = (at_node 0).here (omega (arith, c.program.setup.geometry.some_node)) in
-      let i = s.agrees.node 0 a.v a.was in
-      let unbooted : a.v.state.booted ≡ false = ap (λ (z : Local). z.booted) (sym i.state) ∙ ap (λ xs. ((net_after p xs).nodes 0).booted) none in
-      absurd (cc (unbooted, i.booted))
-
-  low : top + length turns < stamp_limit
-  unfolding stamp_limit
-  low = omega (arith, greatest_within c before kept s.agrees, few_entries c before kept s.agrees, few_turns)
-
-  pub gather : GathersAfter p trace top round (λ n. top) turns
-  gather = record {
-    legal = s.agrees.legal;
-    begun = begun;
-    order = woven_descends each all_rise many;
-    local = λ n. subst (λ ts. IsHistory p n top (net.nodes n) ts) (sym (own_is n))
-        (by_less n many (λ l. history n l) (λ past. subst (λ ts. IsHistory p n top (net.nodes n) ts) (sym ((at_node n).past past)) tt));
-    links = all_fit;
-    one_round = all_of_round;
-    stamps = s.agrees.stamps;
-    rounds = higher (round_in c) round (next_not_below (round_in c)) trace s.agrees.rounds;
-    clocks_within = λ n. omega arith;
-    few = low;
-  }
-
-  -- ## For what the cluster becomes
-
-  pub sent_past : (i j : ℕ) → many ≤ j → sent_to j (events_in (each i)) ≡ [] → sent_on fs i j ≡ sent_on es i j
-  sent_past i j lj none = by_less i many
-      (λ l.
-      let a = (at_node i).here l in
-      let here : slice_get es i ≡ Some a.v.ends = wires-get c.nodes c.rest i a.v a.was in
-      sent_on-node fs i j a.w.ends (wires-get h.ran c.rest i a.w a.ran)
-      ∙ by_less j (width a.v.ends)
-      (λ inside. a.done.history.sent j inside ∙ ap (λ ps. ends.sent_to a.v.ends j ++ ps) none ∙ append-nil (ends.sent_to a.v.ends j))
-      (λ out. ap (of_link link_sent) (slice_get_past a.w.ends.links.items j (omega (arith, out, a.done.history.wide, a.w.ends.links.ok.0))) ∙ sym (ap (of_link link_sent) (slice_get_past a.v.ends.links.items j (omega (arith, out, a.v.ends.links.ok.0)))))
-      ∙ sym (sent_on-node es i j a.v.ends here))
-      (λ past. ap (λ o. of_link link_sent (row_link o j)) (past_es i past))
 
   pub same_at_place : (n : ℕ) (w : NodeView) (o : NodeRound n (each n)) → slice_get h.ran n ≡ Some w → o.w ≡ w
   same_at_place n w o e = same_Some o.w w (sym o.ran ∙ e)
@@ -375,64 +204,13 @@ module _ (c : ClusterView) (before kept : List Entry) (s : StandsFor c before ke
   pub rounds_low : NoneAbove round trace
   rounds_low = higher (round_in c) round (next_not_below (round_in c)) trace s.agrees.rounds
 
-  pub few_entries_now : (room : HasRoomForRound c) (n : ℕ) (o : NodeRound n (each n)) → length o.w.entries ≤ entry_limit
+  few_entries_now : (room : HasRoomForRound c) (n : ℕ) (o : NodeRound n (each n)) → length o.w.entries ≤ entry_limit
   few_entries_now room n o =
       omega (arith, ap length o.done.history.entries, length-append o.v.entries (reverse (entries_of_turns (each n))), length-reverse (entries_of_turns (each n)), entries_many (each n), room n o.v o.was, o.passes.few, moments_length o.v.program o.v.me o.v.state (each n))
     where
       entries_many : (ts : List Turn) → length (entries_of_turns ts) ≡ length ts
       entries_many [] = refl
       entries_many (t ∷ before) = ap suc (entries_many before)
-
-  -- ## The greatest clock
-
-  has_stamp : (t : Turn) (ts before : List Turn) (clk : ℕ) → own_turns t.event.node ts ≡ t ∷ before → clock clk (own_turns t.event.node ts) ≡ t.event.stamp
-  has_stamp t ts before clk e = ap (clock clk) e
-
-  node_clock : (n : ℕ) (w : NodeView) → slice_get h.ran n ≡ Some w → w.clock ≡ clock top (own_turns n turns)
-  node_clock n w e =
-      let l : n < many = omega (arith, ran_count, slice_get_within h.ran n w e) in
-      let o = (at_node n).here l in
-      ap (λ (z : NodeView). z.clock) (sym (same_at_place n w o e)) ∙ o.done.clock ∙ ap (λ k. clock k (each n)) (clock_at n o l) ∙ ap (clock top) (sym (own_is n))
-
-  own_low : (n : ℕ) (ts : List Turn) → clock top (own_turns n ts) ≤ last_stamp top (entries_in ts)
-  own_low n [] = omega arith
-  own_low n (t ∷ before) = by (eqb t.event.node n) (own_low n before)
-    where
-      by : (b : Bool) → clock top (own_turns n before) ≤ last_stamp top (entries_in before) → clock top (cond b (t ∷ own_turns n before) (own_turns n before)) ≤ max t.event.stamp (last_stamp top (entries_in before))
-      by true r = le-max_left t.event.stamp (last_stamp top (entries_in before))
-      by false r = omega (arith, r, le-max_right t.event.stamp (last_stamp top (entries_in before)))
-
-  -- the newest has the last stamp
-  newest_last : (t : Turn) (before : List Turn) → IsAbove t.event (events_in before) → last_stamp top (entries_in before) ≤ max top t.event.stamp
-  newest_last t [] o = le-max_left top t.event.stamp
-  newest_last t (x ∷ xs) o = max-le {a = x.event.stamp} {b = last_stamp top (entries_in xs)} {k = max top t.event.stamp}
-      (elim o.0 as (λ z. x.event.stamp ≤ max top t.event.stamp) [ inl l ↦ omega (arith, l, le-max_right top t.event.stamp) | inr r ↦ omega (arith, r.0, le-max_right top t.event.stamp) ])
-      (newest_last t xs o.1)
-
-  low_clock : (n : ℕ) (w : NodeView) → slice_get h.ran n ≡ Some w → top ≤ w.clock
-  low_clock n w e =
-      let l : n < many = omega (arith, ran_count, slice_get_within h.ran n w e) in
-      let o = (at_node n).here l in
-      omega (arith, ap (λ (z : NodeView). z.clock) (sym (same_at_place n w o e)), o.done.later, clock_at n o l)
-
-  last_reached : (ts : List Turn) → ts ≡ turns → last_stamp top (entries_in ts) ≤ greatest_clock h.ran
-  last_reached [] e =
-      let w = some_at h.ran 0 (omega (arith, ran_count, c.program.setup.geometry.some_node)) in
-      omega (arith, low_clock 0 w.0 w.1, clock_within h.ran 0 w.0 w.1)
-  last_reached (t ∷ before) e =
-      let d : IsDescending (events_in (t ∷ before)) = subst (λ ts. IsDescending (events_in ts)) (sym e) (woven_descends each all_rise many) in
-      let first : own_turns t.event.node (t ∷ before) ≡ t ∷ own_turns t.event.node before = ap (λ b. cond b (t ∷ own_turns t.event.node before) (own_turns t.event.node before)) (eq-eqb t.event.node t.event.node refl) in
-      let own : each t.event.node ≡ t ∷ own_turns t.event.node before = sym (own_is t.event.node) ∙ ap (own_turns t.event.node) (sym e) ∙ first in
-      let l : t.event.node < many = by_less t.event.node many (λ m. m) (λ past. absurd (cc (own, (at_node t.event.node).past past))) in
-      let w = some_at h.ran t.event.node (omega (arith, ran_count, l)) in
-      let clk : w.0.clock ≡ t.event.stamp = node_clock t.event.node w.0 w.1 ∙ ap (clock top) (own_is t.event.node ∙ own) in
-      let up : t.event.stamp ≤ greatest_clock h.ran = omega (arith, clk, clock_within h.ran t.event.node w.0 w.1) in
-      let base : top ≤ greatest_clock h.ran = omega (arith, low_clock t.event.node w.0 w.1, clock_within h.ran t.event.node w.0 w.1) in
-      max-le {a = t.event.stamp} {b = last_stamp top (entries_in before)} {k = greatest_clock h.ran} up
-      (let m : max top t.event.stamp ≤ greatest_clock h.ran = max-le {a = top} {b = t.event.stamp} {k = greatest_clock h.ran} base up in omega (arith, newest_last t before d.0, m))
-
-  pub greatest : greatest_clock h.ran ≡ last_stamp top (entries_in turns)
-  greatest = omega (arith, greatest_most (last_stamp top (entries_in turns)) h.ran (λ n w e. omega (arith, node_clock n w e, own_low n turns)), last_reached turns refl)
 
   -- ## A part of the round
 
@@ -447,3 +225,72 @@ module _ (c : ClusterView) (before kept : List Entry) (s : StandsFor c before ke
           by : (b : Bool) → AreInRound p n top round (cond b (x ∷ own_turns n (xs ++ ts)) (own_turns n (xs ++ ts))) → AreInRound p n top round (own_turns n (xs ++ ts))
           by true o = o.1
           by false o = o
+
+  -- ## Each node has gone on by itself
+
+  keeps : (n : ℕ) (v w : NodeView) → slice_get c.nodes n ≡ Some v → slice_get h.ran n ≡ Some w → StaysInPlace v w
+  keeps n v w e g =
+      let k = ran_keep top c.nodes (map (raised top) c.nodes) h.ran refl (omega (arith, h.count, raised_length top c.nodes)) h.each n v w e g in
+      record { program = k.program; me = k.me; wired = k.wired }
+
+  pub fits : Fits (shell_of c) h.ran
+  fits = fit_after c before kept s.agrees h.ran h.count keeps
+
+  module _ (room : HasRoomForRound c) where
+    node_gone : (n : ℕ) (l : n < many) → HasGoneOn p before kept top round n (each n) ((at_node n).here l).w
+    node_gone n l =
+        let o = (at_node n).here l in
+        let i : IsNodeOf c trace n o.v = is_node n l in
+        let mine : own_entries n kept ≡ reverse o.v.entries = s.agrees.trace.entries n ∙ ap (λ x. reverse (entries_at x)) o.was in
+        let here : slice_get es n ≡ Some o.v.ends = wires-get c.nodes c.rest n o.v o.was in
+        let clk : o.w.clock ≡ clock top (each n) = o.done.clock ∙ ap (λ k. clock k (each n)) (clock_at n o l) in
+        let low : clock_of n 0 trace ≤ top = own_low n top trace s.agrees.stamps in
+        record {
+          history = rebased p n top round top (clock_of n 0 trace) (omega arith) low (net.nodes n) (each n) (in_round n l) (history n l);
+          one_round = in_round n l;
+          state = ap (λ (z : Local). turn_state p n z (each n)) i.state
+              ∙ ap (λ m. turn_state p m o.v.state (each n)) (sym i.me)
+              ∙ ap (λ (q : Program). turn_state q o.v.me o.v.state (each n)) (sym i.program)
+              ∙ o.done.history.state;
+          booted = o.done.booted;
+          entries = o.done.history.entries ∙ ap (λ xs. o.v.entries ++ reverse xs) (entries_same (each n))
+              ∙ ap (λ ys. ys ++ reverse (entries_in (each n))) (sym (ap reverse mine ∙ reverse-reverse o.v.entries))
+              ∙ sym (reverse-append (entries_in (each n)) (own_entries n kept));
+          few = few_entries_now room n o;
+          received = λ i. o.done.history.received i ∙ ap (λ ps. ps ++ taken_from i (events_in (each n))) (sym (received_on-node es i n o.v.ends here) ∙ s.agrees.carried.takes i n);
+          sent = λ j lj. o.done.history.sent j (omega (arith, lj, o.done.history.wide)) ∙ ap (λ ps. ps ++ sent_to j (events_in (each n))) (sym (sent_on-node es n j o.v.ends here) ∙ s.agrees.carried.sends n j);
+          in_round = o.done.round ∙ round_at_was n o;
+          not_below = omega (arith, clk, clock_up (clock_of n 0 trace) top low (each n));
+          not_above = clock_there (clock_of n 0 trace) top o.w.clock (each n) clk;
+        }
+
+    reached : top ≤ greatest_clock h.ran
+    reached =
+        let l : 0 < many = c.program.setup.geometry.some_node in
+        let o = (at_node 0).here l in
+        omega (arith, o.done.later, clock_at 0 o l, clock_within h.ran 0 o.w o.ran)
+
+    console : console_of p (at_first p) before ++ console_at (slice_get h.ran 0) ≡ console_of p (at_first p) trace ++ printed (events_in (each 0))
+    console =
+        let o = (at_node 0).here c.program.setup.geometry.some_node in
+        ap (λ x. console_of p (at_first p) before ++ console_at x) o.ran ∙ ap (λ bs. console_of p (at_first p) before ++ bs) o.done.console
+        ∙ sym (append_assoc (console_of p (at_first p) before) o.v.console (printed (events_in (each 0))))
+        ∙ ap (λ bs. bs ++ printed (events_in (each 0))) (sym (s.agrees.console ∙ ap (λ x. console_of p (at_first p) before ++ console_at x) o.was))
+
+    pub gone : HaveGoneOn (shell_of c) h.ran before kept top round each
+    gone = record {
+      legal = s.agrees.legal;
+      still = still_before c before kept s.agrees;
+      each = λ n w e.
+          let l : n < many = omega (arith, ran_count, slice_get_within h.ran n w e) in
+          subst (λ z. HasGoneOn p before kept top round n (each n) z) (same_at_place n w ((at_node n).here l) e) (node_gone n l);
+      none = λ n past. (at_node n).past past;
+      rounds = rounds_low;
+      stamps = s.agrees.stamps;
+      low = greatest_within c before kept s.agrees;
+      reached = reached;
+      console = console;
+    }
+
+    pub gather : GathersAfter p trace top round (λ n. top) turns
+    gather = together.gather (shell_of c) h.ran fits before kept top round each gone nodes h.settled

@@ -20,7 +20,7 @@ use Rattle.cluster.proofs.Acting.{all_still, get_raised, raised_length, read_som
 use Rattle.cluster.proofs.Clocks.{few_entries}
 use Rattle.cluster.proofs.Runs.{few_turns}
 use Rattle.cluster.proofs.SideAdds.{adds, together_few, together_now}
-use Rattle.cluster.proofs.SideDriven.{ran_all, ran_wired}
+use Rattle.cluster.proofs.SideDriven.{ran_all}
 use Rattle.cluster.proofs.SideLoses.{loses}
 use Rattle.cluster.proofs.SideRuns as side
 use Rattle.cluster.proofs.TheStep.{raised_to}
@@ -55,23 +55,20 @@ module _ (c : ClusterView) (before kept : List Entry) (s : StandsFor c before ke
   abbrev top : ℕ
   top = greatest_clock c.nodes
 
-  wired : AreWired (wires_in h.ran c.rest)
-  wired = ran_wired top c.nodes (map (raised top) c.nodes) h.ran c.rest refl (omega (arith, h.count, raised_length top c.nodes)) h.each s.agrees.trace.wired
-
   many : entries_together nodes ≡ entries_together c.nodes + length (entries_in (side.turns c before kept s nodes h))
-  many = together_now c before kept s room nodes h wired law
+  many = together_now c before kept s room nodes h law
 
   done : (m : ℕ) → m ≡ entries_together nodes - entries_together c.nodes → AddsRound c before kept (view_of c.program (c.turns + m) nodes c.rest)
   done m e =
       let same : length (entries_in (side.turns c before kept s nodes h)) ≡ m = omega (arith, e, many) in
-      subst (λ k. AddsRound c before kept (view_of c.program (c.turns + k) nodes c.rest)) same (adds c before kept s room nodes h wired law)
+      subst (λ k. AddsRound c before kept (view_of c.program (c.turns + k) nodes c.rest)) same (adds c before kept s room nodes h law)
 
   not_fewer : entries_together c.nodes ≤ entries_together nodes
   not_fewer = omega (arith, many)
 
   few_after : entries_together nodes ≤ 16000000
   few_after =
-      let r = adds c before kept s room nodes h wired law in
+      let r = adds c before kept s room nodes h law in
       omega (arith, together_few entry_limit nodes (λ n v e. (r.stands.agrees.node n v e).few), r.stands.agrees.count, c.program.setup.geometry.few_nodes)
 
   few_turns_now : (m : ℕ) → m ≡ entries_together nodes - entries_together c.nodes → c.turns + m < 2 ^ 64

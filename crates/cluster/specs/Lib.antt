@@ -7,3 +7,4 @@ pub mod Between
 pub mod Choosing
 pub mod Rounds
 pub mod SideBySide
+pub mod Apart

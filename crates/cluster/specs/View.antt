@@ -14,6 +14,14 @@ pub record ClusterView : Type 0 where
 abbrev pub view_of : Program → (turns : ℕ) → List NodeView → List (Ends Packet) → ClusterView
 view_of p turns nodes rest = record { program = p; turns = turns; nodes = nodes; rest = rest }
 
+-- a cluster without its nodes
+pub record ShellView : Type 0 where
+  pub program : Program
+  pub rest : List (Ends Packet)  -- the ends of the wires' further nodes
+
+abbrev pub shell_of : ClusterView → ShellView
+shell_of c = record { program = c.program; rest = c.rest }
+
 abbrev pub ends_of : NodeView → Ends Packet
 ends_of v = v.ends
 

@@ -1,8 +1,9 @@
 //! The cluster.
 
-ghost use Rattle.std.specs.Prelude.{◌≡◌, ◌<◌, ◌≤◌, ◌↔◌, ◌%◌, ◌++◌, [], List, length, reverse, Bool, false, IfOk, IsOk, OnErr, OnOk, slice_get};
+ghost use Rattle.std.specs.Prelude.{◌≡◌, ◌<◌, ◌≤◌, ◌↔◌, ◌%◌, ◌++◌, ℕ, [], List, length, reverse, Bool, false, IfOk, IsOk, OnErr, OnOk, slice_get};
 ghost use Rattle.run_trace.specs.declared.entry.Entry.{Entry};
 ghost use Rattle.run_trace.specs.Console.{console_of};
+ghost use Rattle.run_trace.specs.Histories.{Turn};
 ghost use Rattle.run_trace.specs.Legality.{boot_entries};
 ghost use Rattle.run_trace.specs.Program.{nodes_of, quantum_limit};
 ghost use Rattle.run_trace.specs.Spots.{at_first};
@@ -10,18 +11,21 @@ ghost use Rattle.node_state.specs.Events.{program, StartsAligned};
 ghost use Rattle.node_loop.specs.Turns.{IsActInRange};
 ghost use Rattle.wires.specs.Wires.{AreFreshFor};
 ghost use Rattle.cluster.specs.Acts.{possible_acts, is_possible};
+ghost use Rattle.cluster.specs.Apart.{FitAfterTurns, Fits, HaveGoneOn, StandsForMerge};
 ghost use Rattle.cluster.specs.Between.{KeepNodes};
 ghost use Rattle.cluster.specs.Outcomes.{IsAt};
 ghost use Rattle.cluster.specs.Rounds.{AddsRound, HasRoomForRound, LosesRound};
 ghost use Rattle.cluster.specs.Standing.{StandsFor, AgreesWith, IsStanding, HasRoom, HasTrace, Steps, Loses, net_after, turns_in};
-ghost use Rattle.cluster.specs.View.{console_in, greatest_clock, round_in, wires_of};
+ghost use Rattle.cluster.specs.View.{console_in, greatest_clock, round_in, shell_of, wires_of};
 
 use crate::beginning::begun;
 use crate::choosing::{act_at, count_all};
 use crate::deciding::{State, any_halted, any_packet, any_ready, any_thread, decided};
 use crate::ending::taken_apart;
+use crate::gathering::turns_together;
 use crate::laws::rounds_gather;
 use crate::listing::push_acts;
+use crate::shell::Shell;
 use crate::side_by_side::{entries_together, round_all};
 use crate::stepping::{carry_out, next_clock, settle_all};
 use basics::{Items, NoMemory};
@@ -190,6 +194,41 @@ impl Cluster {
         match self.nodes.first() {
             None => &[],
             Some(node) => node.console(),
+        }
+    }
+
+    /// Its nodes, to be driven apart from it, and what is left of it. Whatever turns they take, they can be put into it again.
+    pub fn apart(self) -> (Shell, Vec<Node>)
+        requires agrees { (before kept : List Entry) × AgreesWith self before kept }
+        ensures parts { (result.0 ≡ shell_of self) × (result.1.items ≡ self.nodes) }
+        ensures fit { FitAfterTurns result.0 result.1.items }
+    {
+        let shell = Shell {
+            alloc: self.alloc,
+            program: self.program,
+            rest: self.rest,
+        };
+        (shell, self.nodes)
+    }
+
+    /// The nodes are put into the shell, and their links are settled. Whatever histories they have that begin with their parts of
+    /// one legal trace, and go on in one round: the merge of the histories is legal, and the cluster stands for it.
+    pub fn gather(shell: Shell, nodes: Vec<Node>) -> Cluster
+        requires fits { Fits shell nodes.items }
+        ensures same { (result.program ≡ shell.program) × (result.rest ≡ shell.rest) × KeepNodes nodes.items result.nodes }
+        ensures stands { (before kept : List Entry) (began round : ℕ) (histories : ℕ → List Turn) → HaveGoneOn shell nodes.items before kept began round histories → StandsForMerge result before kept histories }
+    {
+        rounds_gather();
+        let mut nodes = nodes;
+        let turns = turns_together(&nodes);
+        // It always succeeds.
+        let _settled = settle_all(&mut nodes, &shell.rest);
+        Cluster {
+            alloc: shell.alloc,
+            program: shell.program,
+            turns,
+            nodes,
+            rest: shell.rest,
         }
     }
 

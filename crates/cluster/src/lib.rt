@@ -8,11 +8,14 @@ mod choosing;
 mod cluster;
 mod deciding;
 mod ending;
+mod gathering;
 mod laws;
 mod listing;
+mod shell;
 mod side_by_side;
 mod stepping;
 
 pub use cluster::Cluster;
 pub use deciding::State;
-pub use laws::{nodes_have_histories, rounds_gather, runs_join};
+pub use laws::{nodes_go_on, nodes_have_histories, rounds_gather, runs_join};
+pub use shell::Shell;
