@@ -1,4 +1,4 @@
-//! Links whose ends are in two threads.
+//! Links whose ends are in two threads, and a ring that was full.
 
 ghost use Rattle.std.specs.Prelude.{◌≡◌, ◌<◌, length, vec_len, IfOk, OnOk};
 ghost use Rattle.wires.specs.Ends.{width};
@@ -80,6 +80,30 @@ fn gives(nodes: &mut [Ends<u32>], first: u32, end: u32) -> bool
     next(nodes).is_none()
 }
 
+// The next packet that the ring of node 0 shows node 1, known or not.
+fn next_shown(nodes: &mut [Ends<u32>]) -> Option<u32>
+    requires places { 1 < length nodes.old }
+    requires wired { AreWired nodes.old }
+    ensures { AreWired nodes.new }
+{
+    let ends = &mut nodes[1];
+    ends.take(NodeNo(0))
+}
+
+// Whether the ring of node 0 shows node 1 exactly these numbers, in their order. It takes them.
+fn shows(nodes: &mut [Ends<u32>], first: u32, end: u32) -> bool
+    requires places { 1 < length nodes.old }
+    requires wired { AreWired nodes.old }
+    ensures { AreWired nodes.new }
+{
+    for n in first..end {
+        if next_shown(nodes) != Some(n) {
+            return false;
+        }
+    }
+    next_shown(nodes).is_none()
+}
+
 // Sends back a packet of node 0, if its ring shows one, plus 1000.
 #[tactic(auto, using(wires::proofs::Lemmas::stays_trans))]
 fn answer_one(ends: &mut Ends<u32>) -> Result<(), NoMemory>
@@ -159,5 +183,22 @@ fn ends_move_to_threads_and_back(rt: HostRuntime) -> Result<(), Fail> {
     let nodes = sent(rt.alloc())?;
     let mut nodes = answer_beside(&rt, nodes)?;
     assert!(rt; are_answered(nodes.as_mut_slice())?);
+    Ok(())
+}
+
+// Whether a full ring takes no more, and what was left of the outbox once it has room, with no settle.
+fn goes_on_with_room(nodes: &mut [Ends<u32>]) -> bool
+    requires places { 1 < length nodes.old }
+    requires wired { AreWired nodes.old }
+{
+    let were_there = shows(nodes, 0, 64);
+    flush(nodes);
+    were_there && shows(nodes, 64, 100)
+}
+
+#[test]
+fn a_ring_that_was_full_takes_more_once_it_has_room(rt: HostRuntime) -> Result<(), Fail> {
+    let mut nodes = sent(rt.alloc())?;
+    assert!(rt; goes_on_with_room(nodes.as_mut_slice()));
     Ok(())
 }

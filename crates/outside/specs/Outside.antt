@@ -1,5 +1,6 @@
 -- What a shelf of files and a sink of bytes tell, and when a count of faults rose.
-use Rattle.std.specs.Prelude.{◌≡◌, ◌≤◌, ◌+◌, ◌-◌, ◌^◌, ◌++◌, ℕ, min, List, take, Option, Some, None, IfSome, option_map}
+use Rattle.std.specs.Prelude.{◌≡◌, ◌≤◌, ◌+◌, ◌-◌, ◌^◌, ◌++◌, ℕ, Bool, nat_eq, min, List, take, Option, Some, None, IfSome, option_map}
+use Rattle.std.specs.List.{list_any}
 
 -- the count rose in a call: it is greater after it, or stands at its last value
 abbrev pub Rose : ℕ → ℕ → Type 0
@@ -33,3 +34,7 @@ Appends old bytes new = new ≡ option_map (λ b. b ++ bytes) old
 -- a first part of the bytes is
 abbrev pub AppendsPrefix : Option (List ℕ) → List ℕ → Option (List ℕ) → Type 0
 AppendsPrefix old bytes new = (n : ℕ) × Appends old (take n bytes) new
+
+-- the call of this number is one of those that fail
+abbrev pub is_planned : List ℕ → ℕ → Bool
+is_planned fails call = list_any (λ n. nat_eq n call) fails

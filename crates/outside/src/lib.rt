@@ -5,6 +5,7 @@
 mod memory;
 mod outside;
 mod piece;
+mod plan;
 mod real;
 
 pub use memory::{FailingShelf, FailingSink, MapShelf, VecSink};

@@ -1,9 +1,10 @@
 //! Shelves and sinks in memory: plain ones, whose counts are always 0, and ones with a list of calls that fail.
 
-ghost use Rattle.std.specs.Prelude.{◌≡◌, ◌<◌, Some, [], option_map};
+ghost use Rattle.std.specs.Prelude.{◌≡◌, ◌<◌, true, Some, [], option_map};
 ghost use Rattle.std.specs.BTreeMap.{get_by_text};
 
 use crate::outside::{ReadRefusal, Shelf, Sink, WriteRefusal};
+use crate::plan::Plan;
 use std::alloc::Global;
 use std::collections::BTreeMap;
 
@@ -63,8 +64,7 @@ impl Shelf for MapShelf {
 #[derive(Drop)]
 pub struct FailingShelf {
     pub inner: MapShelf,
-    calls: u64,
-    fails: Vec<u64>,
+    plan: Plan,
     read_faults: u64,
     write_faults: u64,
 }
@@ -72,12 +72,12 @@ pub struct FailingShelf {
 impl FailingShelf {
     /// The calls are counted from 0, reads and writes together; those in `fails` fail.
     pub fn new(inner: MapShelf, fails: Vec<u64>) -> Self
-        ensures { result.inner ≡ inner }
+        ensures inner { result.inner ≡ inner }
+        ensures plan { (result.plan.calls ≡ 0) × (result.plan.fails ≡ fails) }
     {
         FailingShelf {
             inner,
-            calls: 0,
-            fails,
+            plan: Plan::new(fails),
             read_faults: 0,
             write_faults: 0,
         }
@@ -92,9 +92,7 @@ impl Shelf for FailingShelf {
     ghost write_faults = { λ s. s.write_faults };
 
     fn read_file(&mut self, alloc: Global, name: &str, limit: u64) -> Result<Vec<u8>, ReadRefusal> {
-        let fails = self.fails.contains(&self.calls);
-        self.calls = self.calls.saturating_add(1);
-        if fails {
+        if self.plan.fails_now() {
             self.read_faults = self.read_faults.saturating_add(1);
             return Err(ReadRefusal::Failed);
         }
@@ -102,9 +100,7 @@ impl Shelf for FailingShelf {
     }
 
     fn write_file(&mut self, name: &str, bytes: &[u8]) -> Result<(), WriteRefusal> {
-        let fails = self.fails.contains(&self.calls);
-        self.calls = self.calls.saturating_add(1);
-        if fails {
+        if self.plan.fails_now() {
             self.write_faults = self.write_faults.saturating_add(1);
             return Err(WriteRefusal::Failed);
         }
@@ -138,6 +134,8 @@ impl Sink for VecSink {
 
     ghost faults = { λ _. 0 };
 
+    ghost takes_memory = { true };
+
     fn write(&mut self, piece: &[u8]) -> Result<usize, WriteRefusal> {
         let part = if piece.len() > self.most {
             &piece[..self.most]
@@ -155,20 +153,19 @@ impl Sink for VecSink {
 #[derive(Drop)]
 pub struct FailingSink {
     pub inner: VecSink,
-    calls: u64,
-    fails: Vec<u64>,
+    plan: Plan,
     faults: u64,
 }
 
 impl FailingSink {
     /// The writes are counted from 0; those in `fails` fail.
     pub fn new(inner: VecSink, fails: Vec<u64>) -> Self
-        ensures { result.inner ≡ inner }
+        ensures inner { result.inner ≡ inner }
+        ensures plan { (result.plan.calls ≡ 0) × (result.plan.fails ≡ fails) }
     {
         FailingSink {
             inner,
-            calls: 0,
-            fails,
+            plan: Plan::new(fails),
             faults: 0,
         }
     }
@@ -179,10 +176,10 @@ impl Sink for FailingSink {
 
     ghost faults = { λ s. s.faults };
 
+    ghost takes_memory = { true };
+
     fn write(&mut self, piece: &[u8]) -> Result<usize, WriteRefusal> {
-        let fails = self.fails.contains(&self.calls);
-        self.calls = self.calls.saturating_add(1);
-        if fails {
+        if self.plan.fails_now() {
             self.faults = self.faults.saturating_add(1);
             return Err(WriteRefusal::Failed);
         }

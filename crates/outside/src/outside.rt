@@ -1,6 +1,6 @@
 //! The files and the output as the program sees them.
 
-ghost use Rattle.std.specs.Prelude.{◌≡◌, ◌≢◌, ◌≤◌, ◌<◌, List, ℕ, length, take, Option, Some, IfOk, OnOk, OnErr, IsErrOf, IfSome, IsSomeAnd, option_map};
+ghost use Rattle.std.specs.Prelude.{◌≡◌, ◌≢◌, ◌≤◌, ◌<◌, List, ℕ, Bool, true, length, take, Option, Some, IfOk, OnOk, OnErr, IsErrOf, IfSome, IsSomeAnd, option_map};
 ghost use Rattle.outside.specs.Outside.{Rose, file_at, Lacks, MayHold, Appends};
 
 use std::alloc::Global;
@@ -27,7 +27,7 @@ pub enum WriteRefusal {
     NoMemory,
 }
 
-/// Files by their names, and two counts of faults that never fall. A shelf may tell what its files hold.
+/// Files by their names, and two counts of faults that only a failure raises. A shelf may tell what its files hold.
 pub trait Shelf {
     /// The files by their names, where the shelf tells them.
     ghost content: { Self → Option (List ℕ → Option (List ℕ)) };
@@ -45,6 +45,10 @@ pub trait Shelf {
         ensures missing { IsErrOf result ReadRefusal.Missing → Lacks (content self.old) name.now }
         ensures large { IsErrOf result ReadRefusal.TooLarge → IfSome (file_at (content self.old) name.now) (λ file. IsSomeAnd file (λ bytes. limit < length bytes)) }
         ensures failed { IsErrOf result ReadRefusal.Failed → Rose (read_faults self.old) (read_faults self.new) }
+        ensures uncounted { OnOk result (read_faults self.new ≡ read_faults self.old) }
+        ensures uncounted_memory { IsErrOf result ReadRefusal.NoMemory → read_faults self.new ≡ read_faults self.old }
+        ensures uncounted_large { IsErrOf result ReadRefusal.TooLarge → read_faults self.new ≡ read_faults self.old }
+        ensures uncounted_missing { IsErrOf result ReadRefusal.Missing → read_faults self.new ≡ read_faults self.old }
         ensures reads { read_faults self.old ≤ read_faults self.new }
         ensures writes { write_faults self.new ≡ write_faults self.old }
         ensures files { content self.new ≡ content self.old };
@@ -55,17 +59,22 @@ pub trait Shelf {
         ensures others { (other : List ℕ) → other ≢ name.now → file_at (content self.new) other ≡ file_at (content self.old) other }
         ensures memory { IsErrOf result WriteRefusal.NoMemory → content self.new ≡ content self.old }
         ensures failed { IsErrOf result WriteRefusal.Failed → Rose (write_faults self.old) (write_faults self.new) }
+        ensures uncounted { OnOk result (write_faults self.new ≡ write_faults self.old) }
+        ensures uncounted_memory { IsErrOf result WriteRefusal.NoMemory → write_faults self.new ≡ write_faults self.old }
         ensures writes { write_faults self.old ≤ write_faults self.new }
         ensures reads { read_faults self.new ≡ read_faults self.old };
 }
 
-/// An output of bytes, and a count of faults that never falls. A sink may tell what was written to it.
+/// An output of bytes, and a count of faults that only a failure raises. A sink may tell what was written to it.
 pub trait Sink {
     /// What was written so far, where the sink tells it.
     ghost written: { Self → Option (List ℕ) };
 
     /// How often a write has failed.
     ghost faults: { Self → ℕ };
+
+    /// Whether what is written takes memory: only then a write is refused for want of it.
+    ghost takes_memory: { Bool };
 
     /// Takes a first part of the piece, at least one byte unless it is empty, and answers its length.
     fn write(&mut self, piece: &[u8]) -> Result<usize, WriteRefusal>
@@ -74,5 +83,8 @@ pub trait Sink {
         ensures ok { IfOk result (λ n. Appends (written self.old) (take n piece.now) (written self.new)) }
         ensures err { OnErr result (written self.new ≡ written self.old) }
         ensures failed { IsErrOf result WriteRefusal.Failed → Rose (faults self.old) (faults self.new) }
+        ensures memory { IsErrOf result WriteRefusal.NoMemory → takes_memory ≡ true }
+        ensures uncounted { OnOk result (faults self.new ≡ faults self.old) }
+        ensures uncounted_memory { IsErrOf result WriteRefusal.NoMemory → faults self.new ≡ faults self.old }
         ensures later { faults self.old ≤ faults self.new };
 }

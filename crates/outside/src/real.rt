@@ -1,6 +1,8 @@
 //! Real files and any real output. They tell nothing of what they hold, and are trusted.
 
-ghost use Rattle.std.specs.Prelude.{◌≤◌, None, IfOk, length};
+ghost use Rattle.std.specs.Prelude.{◌≡◌, ◌<◌, ◌≤◌, true, false, None, IfOk, OnOk, IfSome, IsErrOf, length};
+ghost use Rattle.std.specs.Io.KnownBytes.{WriteAppends};
+ghost use Rattle.outside.specs.Outside.{Rose};
 
 use crate::outside::{ReadRefusal, Shelf, Sink, WriteRefusal};
 use std::alloc::Global;
@@ -29,7 +31,9 @@ impl<'a, R: Files> RealShelf<'a, R> {
 
 /// Reads to the end, `TooLarge` as soon as more than `limit` bytes came.
 fn read_all<F: Read>(alloc: Global, file: &mut F, limit: u64) -> Result<Vec<u8>, ReadRefusal>
-    ensures { IfOk result (λ bytes. length bytes.items ≤ limit) }
+    ensures within { IfOk result (λ bytes. length bytes.items ≤ limit) }
+    ensures whole { IfOk result (λ bytes. IfSome (F.remaining file.old) (λ all. bytes.items ≡ all)) }
+    ensures large { IsErrOf result ReadRefusal.TooLarge → IfSome (F.remaining file.old) (λ all. limit < length all) }
 {
     let mut bytes = Vec::new(alloc);
     let mut buffer = [0u8; 4096];
@@ -99,14 +103,18 @@ impl<W: Write> RealSink<W> {
     pub fn new(writer: W) -> Self {
         RealSink { writer, faults: 0 }
     }
-}
 
-impl<W: Write> Sink for RealSink<W> {
-    ghost written = { λ _. None };
-
-    ghost faults = { λ s. s.faults };
-
-    fn write(&mut self, piece: &[u8]) -> Result<usize, WriteRefusal> {
+    /// Hands a first part of the piece to the writer, which has exactly as many bytes more as are answered, where it is known what it has.
+    fn hand_over(&mut self, piece: &[u8]) -> Result<usize, WriteRefusal>
+        ensures taken { WriteAppends (W.contents self.old.writer) (W.contents self.new.writer) result piece.now }
+        ensures count { IfOk result (λ n. n ≤ length piece.now) }
+        ensures some { IfOk result (λ n. 0 < length piece.now → 0 < n) }
+        ensures memory { IsErrOf result WriteRefusal.NoMemory → false ≡ true }
+        ensures failed { IsErrOf result WriteRefusal.Failed → Rose self.old.faults self.new.faults }
+        ensures uncounted { OnOk result (self.new.faults ≡ self.old.faults) }
+        ensures uncounted_memory { IsErrOf result WriteRefusal.NoMemory → self.new.faults ≡ self.old.faults }
+        ensures later { self.old.faults ≤ self.new.faults }
+    {
         match self.writer.write(piece) {
             Ok(count) if count > 0 || piece.is_empty() => Ok(count),
             _ => {
@@ -114,5 +122,17 @@ impl<W: Write> Sink for RealSink<W> {
                 Err(WriteRefusal::Failed)
             }
         }
+    }
+}
+
+impl<W: Write> Sink for RealSink<W> {
+    ghost written = { λ _. None };
+
+    ghost faults = { λ s. s.faults };
+
+    ghost takes_memory = { false };
+
+    fn write(&mut self, piece: &[u8]) -> Result<usize, WriteRefusal> {
+        self.hand_over(piece)
     }
 }

@@ -3,8 +3,8 @@
 
 use basics::NoMemory;
 use node_loop::Open;
-use outside::{RealShelf, RealSink, write_piece};
-use pm2_top::{Status, pm2_main};
+use outside::{RealShelf, RealSink};
+use pm2_top::{no_memory_told, pm2_main};
 use std::env;
 use std::io::{self, ErrorKind};
 use std::process::ExitCode;
@@ -20,23 +20,20 @@ fn words(rt: &HostRuntime) -> io::Result<Vec<String>> {
 }
 
 fn main(rt: HostRuntime) -> ExitCode {
+    let mut err = RealSink::new(rt.stderr());
     let words = match words(&rt) {
         Ok(words) => words,
         Err(error) if error.kind() == ErrorKind::OutOfMemory => {
-            return ExitCode::from(Status::NoMemory.number());
+            return ExitCode::from(no_memory_told(&mut err).number());
         }
         // A word that isn't text is none of ours, and what it stands with asks for nothing.
         Err(_) => Vec::new(rt.alloc()),
     };
     let mut shelf = RealShelf::new(&rt);
     let mut out = RealSink::new(rt.stdout());
-    let mut err = RealSink::new(rt.stderr());
     let wires = match Wires::new(rt.alloc(), 8) {
         Ok(wires) => wires,
-        Err(NoMemory) => {
-            let _ = write_piece(&mut err, b"pm2: out of memory\n");
-            return ExitCode::from(Status::NoMemory.number());
-        }
+        Err(NoMemory) => return ExitCode::from(no_memory_told(&mut err).number()),
     };
     let alloc = rt.alloc();
     let report = pm2_main(

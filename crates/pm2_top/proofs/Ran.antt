@@ -288,9 +288,9 @@ becomes asked ran w now ended (Refused some part refusals.NoMemory is) = inr (in
 abbrev pub IsTold : Report → Status → Type 0
 IsTold ended status = (status ≡ ended.status) ⊎ (status ≡ NoMemory)
 
-pub is_told_as : (ended : Report) (status : Status) (w now : Option (List ℕ)) (before after : ℕ) → StatusTold ended status w now before after → IsTold ended status
+pub is_told_as : {takes : Bool} (ended : Report) (status : Status) (w now : Option (List ℕ)) (before after : ℕ) → StatusTold takes ended status w now before after → IsTold ended status
 is_told_as ended status w now before after (inl h) = inl h.0
-is_told_as ended status w now before after (inr h) = inr h
+is_told_as ended status w now before after (inr h) = inr h.0
 
 pub as_read : (ended : Report) (status : Status) → IsTold ended status → status ≡ ReadFault → ended.status ≡ ReadFault
 as_read ended status (inl told) is = sym told ∙ is

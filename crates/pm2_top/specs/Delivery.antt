@@ -78,3 +78,10 @@ pub data Tells (asked : Chosen) (ran : Report) (written now : Option (List ℕ))
   All : is_told ran.status ≡ true → Appends written (summary_for asked ran.trace) now → ended ≡ ran → Tells asked ran written now ended
   Refused : is_told ran.status ≡ true → AppendsPrefix written (summary_for asked ran.trace) now
       → (refusal : WriteRefusal) → ended ≡ with_status (refusal_status refusal) ran → Tells asked ran written now ended
+
+-- ---- what is counted
+
+-- a read of a file is counted as failed only where the command ends as not read, and a write of one only where it ends as not written
+pub record CountsNoOther (status : Status) (unread unread_now unwritten unwritten_now : ℕ) : Type 0 where
+  pub reads : status ≢ ReadFault → unread_now ≡ unread
+  pub writes : status ≢ WriteFault → unwritten_now ≡ unwritten

@@ -1,5 +1,5 @@
 -- What stands on the error output.
-use Rattle.std.specs.Prelude.{◌≡◌, ◌⊎◌, ℕ, ◌++◌, List, [], ◌∷◌, codes, false, Option}
+use Rattle.std.specs.Prelude.{◌≡◌, ◌⊎◌, ℕ, ◌++◌, List, [], ◌∷◌, codes, Bool, true, false, Option}
 use Rattle.std.specs.Fmt.{decimal, digits}
 use Rattle.std.specs.List.{flat_map}
 use Rattle.outside.specs.Outside.{Rose, Appends, AppendsPrefix}
@@ -82,13 +82,23 @@ err_text status trace = faults_text trace ++ status_line status
 abbrev pub IsOnError : List ℕ → Option (List ℕ) → Option (List ℕ) → ℕ → ℕ → Type 0
 IsOnError text written now before after = Appends written text now ⊎ (AppendsPrefix written text now × Rose before after)
 
--- the status and the text of how a command has ended; want of memory for the text gives a status of its own
-abbrev pub StatusTold : Report → Status → Option (List ℕ) → Option (List ℕ) → ℕ → ℕ → Type 0
-StatusTold ended status written now before after =
-    ((status ≡ ended.status) × IsOnError (err_text ended.status ended.trace) written now before after) ⊎ (status ≡ NoMemory)
+-- a first part of the text is on an output that takes memory and had none for the rest
+abbrev pub IsCutShort : Bool → List ℕ → Option (List ℕ) → Option (List ℕ) → ℕ → ℕ → Type 0
+IsCutShort takes_memory text written now before after = (takes_memory ≡ true) × AppendsPrefix written text now × (after ≡ before)
+
+-- the line of want of memory is told: on an output that takes no memory, all of it but for a fault
+abbrev pub IsMemoryTold : Bool → Option (List ℕ) → Option (List ℕ) → ℕ → ℕ → Type 0
+IsMemoryTold takes_memory written now before after =
+    IsOnError (status_line NoMemory) written now before after ⊎ IsCutShort takes_memory (status_line NoMemory) written now before after
+
+-- the status and the text of how a command has ended; where there was no memory for the text, or the output had none, that is the status
+abbrev pub StatusTold : Bool → Report → Status → Option (List ℕ) → Option (List ℕ) → ℕ → ℕ → Type 0
+StatusTold takes_memory ended status written now before after =
+    ((status ≡ ended.status) × IsOnError (err_text ended.status ended.trace) written now before after)
+    ⊎ ((status ≡ NoMemory) × (IsMemoryTold takes_memory written now before after ⊎ IsCutShort takes_memory (err_text ended.status ended.trace) written now before after))
 
 -- a command is reported as it has ended, with its trace and its links
-pub record Reports (ended report : Report) (written now : Option (List ℕ)) (before after : ℕ) : Type 0 where
+pub record Reports (takes_memory : Bool) (ended report : Report) (written now : Option (List ℕ)) (before after : ℕ) : Type 0 where
   pub trace : report.trace ≡ ended.trace
   pub wires : report.wires ≡ ended.wires
-  pub told : StatusTold ended report.status written now before after
+  pub told : StatusTold takes_memory ended report.status written now before after

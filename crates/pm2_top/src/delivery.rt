@@ -26,6 +26,8 @@ fn tell_summary<K: Sink>(
     ensures ok { OnOk result (Appends (K.written out.old) (summary_for (chosen asked.now) trace.now) (K.written out.new)) }
     ensures err { OnErr result (AppendsPrefix (K.written out.old) (summary_for (chosen asked.now) trace.now) (K.written out.new)) }
     ensures failed { IsErrOf result WriteRefusal.Failed → Rose (K.faults out.old) (K.faults out.new) }
+    ensures uncounted { OnOk result (K.faults out.new ≡ K.faults out.old) }
+    ensures uncounted_memory { IsErrOf result WriteRefusal.NoMemory → K.faults out.new ≡ K.faults out.old }
     ensures later { K.faults out.old ≤ K.faults out.new }
 {
     if !asked.summary {
@@ -68,6 +70,8 @@ fn put_file<S: Shelf>(
     ensures left { IfSome name.now (λ n. IsLeft n (text_of saved trace.now) (Rose (S.write_faults shelf.old) (S.write_faults shelf.new)) (S.content shelf.old) (S.content shelf.new)) }
     ensures others { (other : List ℕ) → name.now ≢ Some other → file_at (S.content shelf.new) other ≡ file_at (S.content shelf.old) other }
     ensures failed { IsErrOf result WriteRefusal.Failed → Rose (S.write_faults shelf.old) (S.write_faults shelf.new) }
+    ensures uncounted { OnOk result (S.write_faults shelf.new ≡ S.write_faults shelf.old) }
+    ensures uncounted_memory { IsErrOf result WriteRefusal.NoMemory → S.write_faults shelf.new ≡ S.write_faults shelf.old }
     ensures writes { S.write_faults shelf.old ≤ S.write_faults shelf.new }
     ensures unasked { name.now ≡ None → S.write_faults shelf.new ≡ S.write_faults shelf.old }
     ensures reads { S.read_faults shelf.new ≡ S.read_faults shelf.old }
@@ -92,6 +96,8 @@ fn put_files<S: Shelf>(
     ensures ok { OnOk result (HasFiles (chosen asked.now) trace.now (S.content shelf.old) (S.content shelf.new)) }
     ensures left { LeavesFiles (chosen asked.now) trace.now (Rose (S.write_faults shelf.old) (S.write_faults shelf.new)) (S.content shelf.old) (S.content shelf.new) }
     ensures failed { IsErrOf result WriteRefusal.Failed → Rose (S.write_faults shelf.old) (S.write_faults shelf.new) }
+    ensures uncounted { OnOk result (S.write_faults shelf.new ≡ S.write_faults shelf.old) }
+    ensures uncounted_memory { IsErrOf result WriteRefusal.NoMemory → S.write_faults shelf.new ≡ S.write_faults shelf.old }
     ensures writes { S.write_faults shelf.old ≤ S.write_faults shelf.new }
     ensures unasked { asked.now.trace ≡ None → asked.now.schedule ≡ None → S.write_faults shelf.new ≡ S.write_faults shelf.old }
     ensures reads { S.read_faults shelf.new ≡ S.read_faults shelf.old }
@@ -114,6 +120,8 @@ fn deliver<S: Shelf, K: Sink>(
     ensures put { OnOk result (HasFiles (chosen asked.now) trace.now (S.content shelf.old) (S.content shelf.new)) }
     ensures left { LeavesFiles (chosen asked.now) trace.now (Rose (S.write_faults shelf.old) (S.write_faults shelf.new)) (S.content shelf.old) (S.content shelf.new) }
     ensures failed { IsErrOf result WriteRefusal.Failed → Rose (K.faults out.old) (K.faults out.new) ⊎ Rose (S.write_faults shelf.old) (S.write_faults shelf.new) }
+    ensures uncounted { OnOk result ((K.faults out.new ≡ K.faults out.old) × (S.write_faults shelf.new ≡ S.write_faults shelf.old)) }
+    ensures uncounted_memory { IsErrOf result WriteRefusal.NoMemory → (K.faults out.new ≡ K.faults out.old) × (S.write_faults shelf.new ≡ S.write_faults shelf.old) }
     ensures later { K.faults out.old ≤ K.faults out.new }
     ensures unasked { asked.now.trace ≡ None → asked.now.schedule ≡ None → S.write_faults shelf.new ≡ S.write_faults shelf.old }
     ensures reads { S.read_faults shelf.new ≡ S.read_faults shelf.old }
@@ -135,6 +143,7 @@ pub(crate) fn tell_all<S: Shelf, K: Sink>(
     ensures put { is_told result.status ≡ true → HasFiles (chosen asked.now) ran.trace (S.content shelf.old) (S.content shelf.new) }
     ensures left { LeavesFiles (chosen asked.now) ran.trace (Rose (S.write_faults shelf.old) (S.write_faults shelf.new)) (S.content shelf.old) (S.content shelf.new) }
     ensures failed { result.status ≡ Status.WriteFault → (ran.status ≡ Status.WriteFault) ⊎ (Rose (K.faults out.old) (K.faults out.new) ⊎ Rose (S.write_faults shelf.old) (S.write_faults shelf.new)) }
+    ensures uncounted { result.status ≢ Status.WriteFault → (K.faults out.new ≡ K.faults out.old) × (S.write_faults shelf.new ≡ S.write_faults shelf.old) }
     ensures later { K.faults out.old ≤ K.faults out.new }
     ensures unasked { asked.now.trace ≡ None → asked.now.schedule ≡ None → S.write_faults shelf.new ≡ S.write_faults shelf.old }
     ensures reads { S.read_faults shelf.new ≡ S.read_faults shelf.old }

@@ -36,6 +36,8 @@ fn read_text<S: Shelf>(
         (λ status. (status ≡ Status.ReadFault) ⊎ (status ≡ Status.NoMemory)) }
     ensures fault { IsErrOf result Status.ReadFault → Lacks (S.content shelf.old) name.now ⊎ Rose (S.read_faults shelf.old) (S.read_faults shelf.new) }
     ensures missing { Lacks (S.content shelf.old) name.now → OnOk result ⊥ }
+    ensures uncounted { OnOk result (S.read_faults shelf.new ≡ S.read_faults shelf.old) }
+    ensures uncounted_memory { IsErrOf result Status.NoMemory → S.read_faults shelf.new ≡ S.read_faults shelf.old }
     ensures reads { S.read_faults shelf.old ≤ S.read_faults shelf.new }
     ensures files { S.content shelf.new ≡ S.content shelf.old }
     ensures writes { S.write_faults shelf.new ≡ S.write_faults shelf.old }
@@ -60,6 +62,8 @@ pub(crate) fn read_inputs<S: Shelf>(
     ensures within { IfOk result (λ inputs. IfSome inputs.schedule (λ bytes. length bytes ≤ schedule_limit)) }
     ensures fault { IsErrOf result Status.ReadFault → LacksAny (S.content shelf.old) command.now ⊎ Rose (S.read_faults shelf.old) (S.read_faults shelf.new) }
     ensures missing { LacksAny (S.content shelf.old) command.now → OnOk result ⊥ }
+    ensures uncounted { OnOk result (S.read_faults shelf.new ≡ S.read_faults shelf.old) }
+    ensures uncounted_memory { IsErrOf result Status.NoMemory → S.read_faults shelf.new ≡ S.read_faults shelf.old }
     ensures reads { S.read_faults shelf.old ≤ S.read_faults shelf.new }
     ensures files { S.content shelf.new ≡ S.content shelf.old }
     ensures writes { S.write_faults shelf.new ≡ S.write_faults shelf.old }

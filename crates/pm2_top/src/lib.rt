@@ -11,5 +11,5 @@ mod top;
 
 pub use report::Report;
 pub use status::Status;
-pub use texts::err_text;
+pub use texts::{err_text, no_memory_told};
 pub use top::pm2_main;

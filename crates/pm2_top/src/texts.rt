@@ -3,7 +3,7 @@
 ghost use Rattle.std.specs.Prelude.{◌≡◌, ◌++◌, ◌≤◌, IfOk, OnOk};
 ghost use Rattle.std.specs.List.{flat_map};
 ghost use Rattle.std.specs.String.{string_bytes};
-ghost use Rattle.pm2_top.specs.Texts.{kind_word, what_words, at_line, error_line, fault_line, label_text, faults_text, status_line, err_text, StatusTold, Reports};
+ghost use Rattle.pm2_top.specs.Texts.{kind_word, what_words, at_line, error_line, fault_line, label_text, faults_text, status_line, err_text, IsMemoryTold, StatusTold, Reports};
 
 use crate::report::Report;
 use crate::status::Status;
@@ -159,14 +159,27 @@ pub fn err_text(alloc: Global, status: &Status, trace: &[Entry]) -> Result<Strin
     Ok(text)
 }
 
+/// Tells want of memory where no text can be made: this takes no memory but what the output takes.
+pub fn no_memory_told<E: Sink>(err: &mut E) -> Status
+    ensures status { result ≡ Status.NoMemory }
+    ensures told { IsMemoryTold E.takes_memory (E.written err.old) (E.written err.new) (E.faults err.old) (E.faults err.new) }
+    ensures later { E.faults err.old ≤ E.faults err.new }
+{
+    match write_piece(err, "pm2: out of memory\n".as_bytes()) {
+        Ok(()) => Status::NoMemory,
+        Err(WriteRefusal::Failed) => Status::NoMemory,
+        Err(WriteRefusal::NoMemory) => Status::NoMemory,
+    }
+}
+
 /// Writes what is told of a command. Its status stays, but for want of memory.
 fn status_told<E: Sink>(alloc: Global, ended: &Report, err: &mut E) -> Status
-    ensures told { StatusTold ended.now result (E.written err.old) (E.written err.new) (E.faults err.old) (E.faults err.new) }
+    ensures told { StatusTold E.takes_memory ended.now result (E.written err.old) (E.written err.new) (E.faults err.old) (E.faults err.new) }
     ensures later { E.faults err.old ≤ E.faults err.new }
 {
     let text = match err_text(alloc, &ended.status, ended.trace.as_slice()) {
         Ok(text) => text,
-        Err(NoMemory) => return Status::NoMemory,
+        Err(NoMemory) => return no_memory_told(err),
     };
     match write_piece(err, text.as_bytes()) {
         Ok(()) => ended.status,
@@ -177,7 +190,7 @@ fn status_told<E: Sink>(alloc: Global, ended: &Report, err: &mut E) -> Status
 
 /// Tells what a command has come to.
 pub(crate) fn tell<E: Sink>(alloc: Global, ended: Report, err: &mut E) -> Report
-    ensures told { Reports ended result (E.written err.old) (E.written err.new) (E.faults err.old) (E.faults err.new) }
+    ensures told { Reports E.takes_memory ended result (E.written err.old) (E.written err.new) (E.faults err.old) (E.faults err.new) }
     ensures later { E.faults err.old ≤ E.faults err.new }
 {
     let status = status_told(alloc, &ended, err);

@@ -15,7 +15,7 @@ ghost use Rattle.settings.specs.Settings.{settings_of};
 ghost use Rattle.settings.specs.Seen.{chosen, IsWithinLimits};
 ghost use Rattle.simulation.specs.Schedules.{AreInRange};
 ghost use Rattle.pm2_top.specs.Asked.{LacksAny, acts_in, acts_of, image_in, schedule_in, source_in, schedule_limit};
-ghost use Rattle.pm2_top.specs.Delivery.{is_told, HasFiles, LeavesFiles, Leaves, KeepsCount};
+ghost use Rattle.pm2_top.specs.Delivery.{is_told, HasFiles, LeavesFiles, Leaves, KeepsCount, CountsNoOther};
 ghost use Rattle.pm2_top.specs.Outcome.{IsUnlessMemory, IsUsual, MayBeNoSource, MayBeNoSchedule, HasSource, Lists, HasRunAs, DrawnBy, InRounds, HasReplayed, HasSourceEnded, HasRun, HasObeyed, HasEnded, IsTraceOf, IsCarriedOut, node_limit};
 ghost use Rattle.pm2_top.specs.Texts.{Reports};
 ghost use Rattle.pm2_top.specs.declared.report.Report.{Report as Ended};
@@ -46,6 +46,7 @@ fn list_image<K: Sink>(alloc: Global, image: &Image, out: &mut K) -> Status
     requires short { HasShortAddresses image.now }
     ensures lists { Lists (listing image.now) (K.written out.old) (K.written out.new) result }
     ensures failed { result ≡ Status.WriteFault → Rose (K.faults out.old) (K.faults out.new) }
+    ensures uncounted { result ≢ Status.WriteFault → K.faults out.new ≡ K.faults out.old }
     ensures later { K.faults out.old ≤ K.faults out.new }
 {
     let text = match list(alloc, image) {
@@ -224,6 +225,7 @@ fn run_asked<R: Threads + Sync, S: Shelf, K: Sink, G: Gate>(
     ensures ran { HasRun (S.content shelf.old) (chosen asked.now) wires (K.written out.old) (K.written out.new) result }
     ensures read { result.status ≡ Status.ReadFault → LacksAny (S.content shelf.old) asked.now.command ⊎ Rose (S.read_faults shelf.old) (S.read_faults shelf.new) }
     ensures missing { LacksAny (S.content shelf.old) asked.now.command → IsUnlessMemory result.status Status.ReadFault }
+    ensures uncounted { result.status ≢ Status.ReadFault → S.read_faults shelf.new ≡ S.read_faults shelf.old }
     ensures failed { result.status ≡ Status.WriteFault → Rose (K.faults out.old) (K.faults out.new) }
     ensures later { K.faults out.old ≤ K.faults out.new }
     ensures files { S.content shelf.new ≡ S.content shelf.old }
@@ -252,6 +254,7 @@ fn do_asked<R: Threads + Sync, S: Shelf, K: Sink, G: Gate>(
     ensures missing { LacksAny (S.content shelf.old) asked.now.command → IsUnlessMemory result.status Status.ReadFault }
     ensures failed { result.status ≡ Status.WriteFault → Rose (K.faults out.old) (K.faults out.new) ⊎ Rose (S.write_faults shelf.old) (S.write_faults shelf.new) }
     ensures unasked { asked.now.trace ≡ None → asked.now.schedule ≡ None → S.write_faults shelf.new ≡ S.write_faults shelf.old }
+    ensures counted { CountsNoOther result.status (S.read_faults shelf.old) (S.read_faults shelf.new) (S.write_faults shelf.old) (S.write_faults shelf.new) }
     ensures put { is_told result.status ≡ true → HasFiles (chosen asked.now) result.trace (S.content shelf.old) (S.content shelf.new) }
     ensures left { LeavesFiles (chosen asked.now) result.trace (Rose (S.write_faults shelf.old) (S.write_faults shelf.new)) (S.content shelf.old) (S.content shelf.new) }
 {
@@ -276,6 +279,7 @@ fn obey<R: Threads + Sync, S: Shelf, K: Sink, G: Gate>(
     ensures missing { IfSome (settings_of (map string_bytes words.now)) (λ asked.
         LacksAny (S.content shelf.old) asked.command → IsUnlessMemory result.status Status.ReadFault) }
     ensures failed { result.status ≡ Status.WriteFault → Rose (K.faults out.old) (K.faults out.new) ⊎ Rose (S.write_faults shelf.old) (S.write_faults shelf.new) }
+    ensures counted { CountsNoOther result.status (S.read_faults shelf.old) (S.read_faults shelf.new) (S.write_faults shelf.old) (S.write_faults shelf.new) }
     ensures put { is_told result.status ≡ true → IfSome (settings_of (map string_bytes words.now)) (λ asked.
         HasFiles asked result.trace (S.content shelf.old) (S.content shelf.new)) }
     ensures left { Leaves (settings_of (map string_bytes words.now)) result.trace (Rose (S.write_faults shelf.old) (S.write_faults shelf.new))
@@ -306,9 +310,11 @@ pub fn pm2_main<R: Threads + Sync, S: Shelf, K: Sink, E: Sink, G: Gate>(
     requires wires { AreFreshFor node_limit wires }
 
     // How it has ended: the output has the listing, or the lines of the trace and the summary, or at a refused write a first part of
-    // them, and the error output the text of it.
+    // them, and the error output the text of it. A failed read or write of a file is counted only where it has ended so: status 7 may
+    // stand for such an end where there was no memory for its text, and then the error output has the line of want of memory.
     ensures ended { (ended : Ended) × HasEnded (S.content shelf.old) (settings_of (map string_bytes words.now)) wires (K.written out.old) (K.written out.new) ended
-        × Reports ended result (E.written err.old) (E.written err.new) (E.faults err.old) (E.faults err.new) }
+        × Reports E.takes_memory ended result (E.written err.old) (E.written err.new) (E.faults err.old) (E.faults err.new)
+        × CountsNoOther ended.status (S.read_faults shelf.old) (S.read_faults shelf.new) (S.write_faults shelf.old) (S.write_faults shelf.new) }
 
     // Whatever the order of events, the trace is legal: each slot has one holder, each thread's registers, memory and output are
     // those of its code run alone with the replies that it got, each reply is the library's.

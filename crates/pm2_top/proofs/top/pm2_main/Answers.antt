@@ -3,7 +3,7 @@ use Rattle.pm2_top.proofs.Traced.{legal, carried}
 use Rattle.pm2_top.proofs.top.pm2_main.Goals as goal
 
 pub returns-clause-ended : goal.returns-clause-ended
-returns-clause-ended g c = (c.obey-ended.result, c.obey-ended.ensures.ended, c.tell.ensures.told)
+returns-clause-ended g c = (c.obey-ended.result, c.obey-ended.ensures.ended, c.tell.ensures.told, c.obey-ended.ensures.counted)
 
 pub returns-clause-legal : goal.returns-clause-legal
 returns-clause-legal g c = legal _ _ c.requires.wires _ _ _ c.obey-ended.result c.tell.result.trace c.obey-ended.ensures.ended c.tell.ensures.told.trace
