@@ -1,4 +1,4 @@
--- The births of one home, by their numbers: what joins are answered, and what joins and ends change.
+-- The births of one home, by their numbers: what joins and detaches are answered, and what they and ends change.
 use Rattle.std.specs.Prelude.{ℕ, List, Bool, true, false, Option, Some, None, slice_get, slice_set}
 use Rattle.rv_step.specs.Fault.{fault_number}
 use Rattle.slot_space.specs.declared.names.Tid.{Tid}
@@ -10,6 +10,8 @@ use Rattle.marcel_core.specs.declared.birth.Birth.{Birth}
 use Rattle.marcel_core.specs.declared.birth.Birth.TheVariants.{Lives, Awaited, Detached, Ended, Over}
 use Rattle.marcel_core.specs.declared.birth.Verdict.{Verdict}
 use Rattle.marcel_core.specs.declared.birth.Verdict.TheVariants.{Now, Later, NoSuch, Taken}
+use Rattle.marcel_core.specs.declared.birth.Detached.{Detached as DetachVerdict}
+use Rattle.marcel_core.specs.declared.birth.Detached.TheVariants as detaching
 
 -- what a join of this birth is answered; None is a number that wasn't born here
 abbrev pub verdict : Option Birth → Verdict
@@ -27,6 +29,28 @@ joined by at (Awaited other there) = Awaited other there
 joined by at Detached = Detached
 joined by at (Ended end) = Over
 joined by at Over = Over
+
+-- what a detach of this birth is answered: one whose end is known may be detached too
+abbrev pub detach_verdict : Option Birth → DetachVerdict
+detach_verdict None = detaching.NoSuch
+detach_verdict (Some Lives) = detaching.Done
+detach_verdict (Some (Awaited by at)) = detaching.Taken
+detach_verdict (Some Detached) = detaching.NoSuch
+detach_verdict (Some (Ended end)) = detaching.Done
+detach_verdict (Some Over) = detaching.NoSuch
+
+-- the birth after a detach
+abbrev pub detached : Birth → Birth
+detached Lives = Detached
+detached (Awaited by at) = Awaited by at
+detached Detached = Detached
+detached (Ended end) = Over
+detached Over = Over
+
+abbrev pub detached_reply : DetachVerdict → Reply
+detached_reply detaching.Done = replies.Value 0
+detached_reply detaching.NoSuch = replies.NoSuch
+detached_reply detaching.Taken = replies.Taken
 
 -- the birth after its end has become known
 abbrev pub ended : End → Birth → Birth

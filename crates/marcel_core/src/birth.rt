@@ -1,7 +1,10 @@
-//! What a home keeps of a birth, and what it answers to a join.
+//! What a home keeps of a birth, and what it answers to a join and to a detach.
+
+ghost use Rattle.std.specs.Prelude.{◌≡◌};
+ghost use Rattle.marcel_core.specs.Homes.{detached_reply};
 
 use crate::end::End;
-use slot_space::{NodeNo, Tid};
+use slot_space::{NodeNo, Reply, Tid};
 
 /// A birth, as its home knows it.
 #[derive(Clone, Copy)]
@@ -29,4 +32,28 @@ pub enum Verdict {
     NoSuch,
     /// Another thread waits.
     Taken,
+}
+
+/// What a detach is answered.
+#[derive(Clone, Copy)]
+pub enum Detached {
+    /// From now on no thread may join it.
+    Done,
+    /// There is nothing to detach.
+    NoSuch,
+    /// Another thread waits.
+    Taken,
+}
+
+impl Detached {
+    /// Its reply: 0 where it is done.
+    pub fn reply(self) -> Reply
+        ensures { result ≡ detached_reply self }
+    {
+        match self {
+            Detached::Done => Reply::Value(0),
+            Detached::NoSuch => Reply::NoSuch,
+            Detached::Taken => Reply::Taken,
+        }
+    }
 }

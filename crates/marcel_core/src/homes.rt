@@ -1,10 +1,10 @@
 //! The births of one node: their names, joins of them, and their ends.
 
 ghost use Rattle.std.specs.Prelude.{◌≡◌, ◌<◌, ◌≤◌, [], length, true, slice_get, IfOk, OnErr};
-ghost use Rattle.marcel_core.specs.Homes.{verdict, joined, ended, joiner, is_open};
+ghost use Rattle.marcel_core.specs.Homes.{verdict, joined, detach_verdict, detached, ended, joiner, is_open};
 ghost use Rattle.marcel_core.specs.Births.{birth_limit, next_name, with_birth_more, changed};
 
-use crate::birth::{Birth, Verdict};
+use crate::birth::{Birth, Detached, Verdict};
 use crate::end::End;
 use basics::NoMemory;
 use slot_space::{NodeNo, Tid};
@@ -54,6 +54,33 @@ fn joined(by: Tid, at: NodeNo, birth: Birth) -> Birth
     match birth {
         Birth::Lives => Birth::Awaited(by, at),
         Birth::Awaited(other, there) => Birth::Awaited(other, there),
+        Birth::Detached => Birth::Detached,
+        Birth::Ended(_) => Birth::Over,
+        Birth::Over => Birth::Over,
+    }
+}
+
+// What a detach of this birth is answered.
+fn detach_verdict(birth: Option<Birth>) -> Detached
+    ensures { result ≡ detach_verdict birth }
+{
+    match birth {
+        None => Detached::NoSuch,
+        Some(Birth::Lives) => Detached::Done,
+        Some(Birth::Awaited(_, _)) => Detached::Taken,
+        Some(Birth::Detached) => Detached::NoSuch,
+        Some(Birth::Ended(_)) => Detached::Done,
+        Some(Birth::Over) => Detached::NoSuch,
+    }
+}
+
+// The birth after a detach.
+fn detached(birth: Birth) -> Birth
+    ensures { result ≡ detached birth }
+{
+    match birth {
+        Birth::Lives => Birth::Detached,
+        Birth::Awaited(by, at) => Birth::Awaited(by, at),
         Birth::Detached => Birth::Detached,
         Birth::Ended(_) => Birth::Over,
         Birth::Over => Birth::Over,
@@ -153,6 +180,18 @@ impl Homes {
         let verdict = verdict(self.birth_of(seq));
         if let Some(birth) = self.known.get_mut(seq as usize) {
             *birth = joined(by, at, *birth);
+        }
+        verdict
+    }
+
+    /// The birth of this number is detached: what that is answered. It takes no memory.
+    pub fn detach(&mut self, seq: u32) -> Detached
+        ensures verdict { result ≡ detach_verdict (slice_get self.old.births seq) }
+        ensures after { self.new ≡ changed seq detached self.old }
+    {
+        let verdict = detach_verdict(self.birth_of(seq));
+        if let Some(birth) = self.known.get_mut(seq as usize) {
+            *birth = detached(*birth);
         }
         verdict
     }

@@ -1,11 +1,11 @@
 //! How threads end, and what a home keeps of the threads that were born there.
-//! A layer above uses `Homes`: what a join is answered, who waits for an end, and the names of births.
+//! A layer above uses `Homes`: what a join and a detach are answered, who waits for an end, and the names of births.
 #![tactic(auto)]
 
 mod birth;
 mod end;
 mod homes;
 
-pub use birth::{Birth, Verdict};
+pub use birth::{Birth, Detached, Verdict};
 pub use end::End;
 pub use homes::{BIRTH_LIMIT, Homes};

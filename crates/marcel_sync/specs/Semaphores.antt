@@ -37,7 +37,42 @@ left_by_v value (first ∷ rest) = row_of value rest
 abbrev pub after_v : SemRow → SemRow
 after_v sem = left_by_v sem.value sem.waiters
 
--- ## The semaphores of a node, by their numbers
+-- ## A list of semaphores, by their numbers
+
+-- the semaphore of that number, where there is one, has become what the change makes of it
+abbrev pub with_sem : ℕ → List SemRow → Option SemRow → List SemRow
+with_sem k sems None = sems
+with_sem k sems (Some sem) = slice_set sems k sem
+
+abbrev pub sem_changed : (SemRow → SemRow) → ℕ → List SemRow → List SemRow
+sem_changed change k sems = with_sem k sems (option_map change (slice_get sems k))
+
+-- what P and V of the semaphore of that number are answered, and the semaphores after them
+abbrev pub lowered_answer : ℕ → List SemRow → Pgot
+lowered_answer k sems = unwrap_or (option_map p_answer (slice_get sems k)) lowering.NoSuch
+
+abbrev pub lowered : ℕ → Tid × ℕ → List SemRow → List SemRow
+lowered k waiter sems = sem_changed (after_p waiter) k sems
+
+abbrev pub raised_answer : ℕ → List SemRow → Vgot
+raised_answer k sems = unwrap_or (option_map v_answer (slice_get sems k)) raising.NoSuch
+
+abbrev pub raised : ℕ → List SemRow → List SemRow
+raised k sems = sem_changed after_v k sems
+
+-- one more semaphore, of this value
+abbrev pub with_one_more : ℕ → List SemRow → List SemRow
+with_one_more v sems = sems ++ row_of v [] ∷ []
+
+-- the threads that wait for the semaphore of that number
+abbrev pub waiters_of : Option SemRow → List (Tid × ℕ)
+waiters_of None = []
+waiters_of (Some sem) = sem.waiters
+
+abbrev pub waiters_at : ℕ → List SemRow → List (Tid × ℕ)
+waiters_at k sems = waiters_of (slice_get sems k)
+
+-- ## The semaphores of a node
 
 pub record SemsView : Type 0 where
   pub node : ℕ
@@ -60,28 +95,23 @@ abbrev pub number_in : ℕ → ℕ
 number_in id = id % 2 ^ 32
 
 -- a new semaphore has the next number
+abbrev pub name_on : (node number : ℕ) → ℕ
+name_on node number = node * 2 ^ 32 + number
+
 abbrev pub new_name : ℕ → SemsView → Option ℕ
-new_name v s = if nat_lt v (2 ^ 31) then Some (s.node * 2 ^ 32 + length s.sems) else None
+new_name v s = if nat_lt v (2 ^ 31) then Some (name_on s.node (length s.sems)) else None
 
 abbrev pub after_make : ℕ → SemsView → SemsView
-after_make v s = record s { sems = if nat_lt v (2 ^ 31) then s.sems ++ row_of v [] ∷ [] else s.sems }
-
--- the semaphore of that number, where there is one, has become what the change makes of it
-abbrev pub with_sem : ℕ → List SemRow → Option SemRow → List SemRow
-with_sem k sems None = sems
-with_sem k sems (Some sem) = slice_set sems k sem
-
-abbrev pub changed : (SemRow → SemRow) → ℕ → SemsView → SemsView
-changed change id s = record s { sems = with_sem (number_in id) s.sems (option_map change (slice_get s.sems (number_in id))) }
+after_make v s = record s { sems = if nat_lt v (2 ^ 31) then with_one_more v s.sems else s.sems }
 
 abbrev pub p_told : ℕ → SemsView → Pgot
-p_told id s = unwrap_or (option_map p_answer (slice_get s.sems (number_in id))) lowering.NoSuch
+p_told id s = lowered_answer (number_in id) s.sems
 
 abbrev pub after_p_of : ℕ → Tid × ℕ → SemsView → SemsView
-after_p_of id waiter s = changed (after_p waiter) id s
+after_p_of id waiter s = record s { sems = lowered (number_in id) waiter s.sems }
 
 abbrev pub v_told : ℕ → SemsView → Vgot
-v_told id s = unwrap_or (option_map v_answer (slice_get s.sems (number_in id))) raising.NoSuch
+v_told id s = raised_answer (number_in id) s.sems
 
 abbrev pub after_v_of : ℕ → SemsView → SemsView
-after_v_of id s = changed after_v id s
+after_v_of id s = record s { sems = raised (number_in id) s.sems }

@@ -5,5 +5,5 @@
 mod sem;
 mod sems;
 
-pub use sem::{Pgot, SemRow, Vgot};
-pub use sems::Sems;
+pub use sem::{Pgot, SemRow, VALUE_LIMIT, Vgot};
+pub use sems::{SEM_LIMIT, Sems};

@@ -11,7 +11,7 @@ use std::collections::VecDeque;
 use std::marker::Model;
 
 /// The greatest value of a semaphore.
-pub(crate) const LIMIT: u32 = 0x7fff_ffff;
+pub const VALUE_LIMIT: u32 = 0x7fff_ffff;
 
 /// What P, which lowers, is answered.
 #[derive(Drop)]
@@ -127,7 +127,7 @@ impl Sem {
         ensures answer { result ≡ v_answer self.old }
         ensures after { self.new ≡ after_v self.old }
     {
-        if self.value == LIMIT {
+        if self.value == VALUE_LIMIT {
             return Vgot::AtLimit;
         }
         self.value += 1;

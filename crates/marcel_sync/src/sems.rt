@@ -3,11 +3,14 @@
 ghost use Rattle.std.specs.Prelude.{◌≡◌, ◌<◌, ◌-◌, ◌^◌, [], length, nat_lt, IfOk, OnErr, if◌then◌else◌};
 ghost use Rattle.marcel_sync.specs.Semaphores.{AreSemaphores, new_name, after_make, node_in, p_told, after_p_of, v_told, after_v_of, semaphores};
 
-use crate::sem::{LIMIT, Pgot, Sem, SemRow, Vgot};
+use crate::sem::{Pgot, Sem, SemRow, VALUE_LIMIT, Vgot};
 use basics::NoMemory;
 use slot_space::{NodeNo, Tid};
 use std::alloc::Global;
 use std::marker::Model;
+
+/// The most semaphores that a node makes.
+pub const SEM_LIMIT: usize = 0xffff_ffff;
 
 /// The names that each node has for its semaphores.
 const NAMES: u64 = 0x1_0000_0000;
@@ -63,7 +66,7 @@ impl Sems {
         ensures ok { IfOk result (λ name. (name ≡ new_name v self.old) × (self.new ≡ after_make v self.old)) }
         ensures err { OnErr result (self.new ≡ self.old) }
     {
-        if v > LIMIT as u64 {
+        if v > VALUE_LIMIT as u64 {
             return Ok(None);
         }
         let name = self.node.0 as u64 * NAMES + self.sems.len() as u64;
@@ -71,9 +74,15 @@ impl Sems {
         Ok(Some(name))
     }
 
-    /// The thread on that node lowers the semaphore, or waits for it.
+    /// How many semaphores the node has made.
+    pub fn count(&self) -> usize
+        ensures { result ≡ length self.now.sems }
+    {
+        self.sems.len()
+    }
+
+    /// The thread on that node lowers the semaphore of the name's number, or waits for it.
     pub fn p(&mut self, id: u64, by: Tid, at: NodeNo) -> Result<Pgot, NoMemory>
-        requires { node_in id ≡ self.old.node }
         ensures ok { IfOk result (λ got. (got ≡ p_told id self.old) × (self.new ≡ after_p_of id (by, at) self.old)) }
         ensures err { OnErr result (self.new ≡ self.old) }
     {
@@ -84,9 +93,8 @@ impl Sems {
         self.sems[k].p(by, at)
     }
 
-    /// Wakes the thread that waits longest for the semaphore, or raises it. It takes no memory.
+    /// Wakes the thread that waits longest for the semaphore of the name's number, or raises it. It takes no memory.
     pub fn v(&mut self, id: u64) -> Vgot
-        requires { node_in id ≡ self.old.node }
         ensures answer { result ≡ v_told id self.old }
         ensures after { self.new ≡ after_v_of id self.old }
     {

@@ -1,6 +1,6 @@
 -- A node that has begun stays so.
 use Rattle.std.proofs.Common.{◌≡◌, ℕ, List, [], ◌∷◌, Option, Some, None, Bool, true, false, cond, eqb, refl, ◌∙◌, subst}
-use Rattle.std.specs.Prelude.{slice_get, nat_lt, ⊤}
+use Rattle.std.specs.Prelude.{length, slice_get, nat_lt, ⊤}
 use Rattle.std.specs.Map.{lookup}
 use Rattle.slot_space.specs.declared.names.Tid.{Tid}
 use Rattle.slot_space.specs.declared.names.Reply.{Reply}
@@ -13,15 +13,21 @@ use Rattle.marcel_core.specs.declared.end.End.{End}
 use Rattle.marcel_core.specs.declared.end.End.TheVariants as end_of
 use Rattle.marcel_core.specs.declared.birth.Verdict.{Verdict}
 use Rattle.marcel_core.specs.declared.birth.Verdict.TheVariants.{Now, Later, NoSuch, Taken}
-use Rattle.marcel_core.specs.Homes.{verdict, joiner}
+use Rattle.marcel_core.specs.Homes.{verdict, detach_verdict, detached_reply, joiner}
+use Rattle.marcel_sync.specs.declared.sem.SemRow.{SemRow}
+use Rattle.marcel_sync.specs.declared.sem.Pgot.{Pgot}
+use Rattle.marcel_sync.specs.declared.sem.Pgot.TheVariants as lowering
+use Rattle.marcel_sync.specs.declared.sem.Vgot.{Vgot}
+use Rattle.marcel_sync.specs.declared.sem.Vgot.TheVariants as raising
+use Rattle.marcel_sync.specs.Semaphores.{node_in, number_in, name_on, lowered_answer, lowered, raised_answer, raised, with_one_more}
 use Rattle.run_trace.specs.declared.call.Call.{Call}
-use Rattle.run_trace.specs.declared.call.Call.TheVariants.{Exit, Name, Node, Nodes, Yield, Create, Join, Isomalloc, Isofree, MigrateSelf, Print, Halt, Unknown}
+use Rattle.run_trace.specs.declared.call.Call.TheVariants.{Exit, Name, Node, Nodes, Yield, Create, Join, Detach, SemNew, SemP, SemV, Isomalloc, Isofree, MigrateSelf, Migrate, Print, Halt, Unknown}
 use Rattle.run_trace.specs.declared.entry.Act.{Act}
 use Rattle.run_trace.specs.declared.entry.Act.TheVariants.{Boot, Run as RunThread, Take, Move}
 use Rattle.run_trace.specs.declared.label.Why.{Why}
 use Rattle.run_trace.specs.declared.label.Why.TheVariants as why
 use Rattle.run_trace.specs.declared.packet.Body.{Body}
-use Rattle.run_trace.specs.declared.packet.Body.TheVariants.{Mover, Show, ShowDone, JoinAsk, Answer, EndNote}
+use Rattle.run_trace.specs.declared.packet.Body.TheVariants.{Mover, Show, ShowDone, JoinAsk, DetachAsk, SemAsk, Answer, EndNote}
 use Rattle.run_trace.specs.declared.packet.Packet.{Packet}
 use Rattle.run_trace.specs.declared.node.ReadyRow.{ReadyRow}
 use Rattle.run_trace.specs.Names.{is_tid, tid_of}
@@ -31,8 +37,8 @@ use Rattle.run_trace.specs.Calls.{call_of, refusal, bytes_of, place_code}
 use Rattle.run_trace.specs.RunLists.{best_on, is_listed}
 use Rattle.pack_thread.specs.Threads.{PackedThread as Packed}
 use Rattle.run_trace.specs.Local.{Local, EventSoFar, nothing, with_booted}
-use Rattle.run_trace.specs.Steps.{say, put, print, arrive, take_off, thread_at, at_thread, at_found, keep, thread_in, thread_out, slots_out, slots_in, birth_in, change_birth, halt, next_name, birth, ran, asks, asks_show, asks_join, halts, judge, tell_found, tell, judge_as, reply_by_link, takes_run, returns, gives, ends, leaves, comes, shows, acknowledges, hears, knows}
-use Rattle.run_trace.specs.Machine.{answer, end_thread, free_slot, creates_in, creates, judge_and_tell, places, run_for, allocates_with, allocates, returns_any, frees_block, frees, goes, migrates, moves_found, does, calls, boots_in, boots, stopped, run_thread, run_found, run_picked, judges_join, tells_joiner, accepts, is_stray, takes, is_range, acts, local_event, turn_event, is_beyond}
+use Rattle.run_trace.specs.Steps.{say, put, print, arrive, take_off, thread_at, at_thread, at_found, keep, thread_in, thread_out, slots_out, slots_in, birth_in, change_birth, halt, next_name, birth, ran, asks, asks_show, asks_join, asks_detach, asks_signal, asks_here, asks_waiting, halts, judge, tell_found, tell, judge_as, reply_by_link, takes_run, returns, gives, ends, leaves, comes, shows, acknowledges, hears, hears_detach, hears_signal, knows}
+use Rattle.run_trace.specs.Machine.{answer, end_thread, free_slot, creates_in, creates, judge_and_tell, places, run_for, allocates_with, allocates, returns_any, frees_block, frees, goes, migrates, sends_away, sends, replies_to, answers_p, answers_v, lowers, raises, signals, hears_call, moves_found, does, calls, boots_in, boots, stopped, run_thread, run_found, run_picked, judges_join, tells_joiner, accepts, is_stray, takes, is_range, acts, local_event, turn_event, is_beyond}
 
 -- ## Steps
 
@@ -76,6 +82,22 @@ asks_show_keeps t c bytes x d = kept refl
 asks_join_keeps : (t : Tid) (c : Call) (u : Tid) (x : Thread) (d : EventSoFar) → Kept d (asks_join t c u x d)
 unfolding asks_join asks put keep say
 asks_join_keeps t c u x d = kept refl
+
+asks_detach_keeps : (t : Tid) (c : Call) (u : Tid) (x : Thread) (d : EventSoFar) → Kept d (asks_detach t c u x d)
+unfolding asks_detach asks put keep say
+asks_detach_keeps t c u x d = kept refl
+
+asks_signal_keeps : (t : Tid) (c : Call) (id : ℕ) (up : Bool) (x : Thread) (d : EventSoFar) → Kept d (asks_signal t c id up x d)
+unfolding asks_signal asks put keep say
+asks_signal_keeps t c id up x d = kept refl
+
+asks_here_keeps : (t : Tid) (c : Call) (sems : List SemRow) (d : EventSoFar) → Kept d (asks_here t c sems d)
+unfolding asks_here asks say
+asks_here_keeps t c sems d = kept refl
+
+asks_waiting_keeps : (t : Tid) (c : Call) (sems : List SemRow) (x : Thread) (d : EventSoFar) → Kept d (asks_waiting t c sems x d)
+unfolding asks_waiting asks keep say
+asks_waiting_keeps t c sems x d = kept refl
 
 halts_keeps : (t : Tid) (x : Thread) (d : EventSoFar) → Kept d (halts t x d)
 unfolding halts halt keep say
@@ -129,6 +151,14 @@ hears_keeps : (by : Tid) (seq at : ℕ) (d : EventSoFar) → Kept d (hears by se
 unfolding hears change_birth say
 hears_keeps by seq at d = kept refl
 
+hears_detach_keeps : (by : Tid) (seq : ℕ) (d : EventSoFar) → Kept d (hears_detach by seq d)
+unfolding hears_detach change_birth say
+hears_detach_keeps by seq d = kept refl
+
+hears_signal_keeps : (by : Tid) (sems : List SemRow) (d : EventSoFar) → Kept d (hears_signal by sems d)
+unfolding hears_signal say
+hears_signal_keeps by sems d = kept refl
+
 knows_keeps : (me seq : ℕ) (end : End) (d : EventSoFar) → Kept d (knows me seq end d)
 unfolding knows change_birth say
 knows_keeps me seq end d = kept refl
@@ -178,6 +208,58 @@ migrates_keeps p me to t d = by (eqb to me)
     by true = kept refl
     by false = at_keeps t (goes p t to) d (λ x. goes_keeps p t to x d)
 
+sends_keeps : (p : Program) (me : ℕ) (u : Tid) (to : ℕ) (t : Tid) (itself : Bool) (d : EventSoFar) → Kept d (sends p me u to t itself d)
+sends_keeps p me u to t true d = then (answer_keeps t 0 d) (migrates_keeps p me to t _)
+sends_keeps p me u to t false d = by (is_listed u d.node.run_lists.rows)
+  where
+    by : (listed : Bool) → Kept d (sends_away p me u to t listed d)
+    by true = then (migrates_keeps p me to u d) (answer_keeps t 0 _)
+    by false = answer_keeps t (reply_code replies.NotHere) d
+
+-- ## Semaphores
+
+replies_keep : (me at : ℕ) (t : Tid) (reply : Reply) (d : EventSoFar) → Kept d (replies_to me at t reply d)
+replies_keep me at t reply d = by (eqb me at)
+  where
+    by : (b : Bool) → Kept d (cond b (answer t (reply_code reply) d) (reply_by_link t at reply None d))
+    by true = answer_keeps t (reply_code reply) d
+    by false = reply_keeps t at reply None d
+
+answers_p_keep : (me at : ℕ) (t : Tid) (got : Pgot) (d : EventSoFar) → Kept d (answers_p me at t got d)
+answers_p_keep me at t lowering.Got d = replies_keep me at t (replies.Value 0) d
+answers_p_keep me at t lowering.Later d = kept refl
+answers_p_keep me at t lowering.NoSuch d = replies_keep me at t replies.NoSuch d
+
+answers_v_keep : (me at : ℕ) (t : Tid) (got : Vgot) (d : EventSoFar) → Kept d (answers_v me at t got d)
+answers_v_keep me at t (raising.Woke u there) d = then (replies_keep me there u (replies.Value 0) d) (replies_keep me at t (replies.Value 0) _)
+answers_v_keep me at t raising.Stored d = replies_keep me at t (replies.Value 0) d
+answers_v_keep me at t raising.AtLimit d = replies_keep me at t replies.BadArgument d
+answers_v_keep me at t raising.NoSuch d = replies_keep me at t replies.NoSuch d
+
+lowers_keeps : (me : ℕ) (t : Tid) (c : Call) (id : ℕ) (got : Pgot) (d : EventSoFar) → Kept d (lowers me t c id got d)
+lowers_keeps me t c id lowering.Later d =
+    let sems : List SemRow = lowered (number_in id) (t, me) d.node.sems in at_keeps t (asks_waiting t c sems) d (λ x. asks_waiting_keeps t c sems x d)
+lowers_keeps me t c id lowering.Got d = then (asks_here_keeps t c _ d) (answers_p_keep me me t lowering.Got _)
+lowers_keeps me t c id lowering.NoSuch d = then (asks_here_keeps t c _ d) (answers_p_keep me me t lowering.NoSuch _)
+
+signals_keeps : (me : ℕ) (t : Tid) (c : Call) (id : ℕ) (up : Bool) (d : EventSoFar) → Kept d (signals me t c id up d)
+signals_keeps me t c id true d = by (eqb (node_in id) me)
+  where
+    by : (b : Bool) → Kept d (cond b (raises me t c id (raised_answer (number_in id) d.node.sems) d) (at_thread t (asks_signal t c id true) d))
+    by true = then (asks_here_keeps t c (raised (number_in id) d.node.sems) d) (answers_v_keep me me t (raised_answer (number_in id) d.node.sems) _)
+    by false = at_keeps t (asks_signal t c id true) d (λ x. asks_signal_keeps t c id true x d)
+signals_keeps me t c id false d = by (eqb (node_in id) me)
+  where
+    by : (b : Bool) → Kept d (cond b (lowers me t c id (lowered_answer (number_in id) d.node.sems) d) (at_thread t (asks_signal t c id false) d))
+    by true = lowers_keeps me t c id (lowered_answer (number_in id) d.node.sems) d
+    by false = at_keeps t (asks_signal t c id false) d (λ x. asks_signal_keeps t c id false x d)
+
+hears_call_keeps : (me from : ℕ) (t : Tid) (id : ℕ) (up : Bool) (d : EventSoFar) → Kept d (hears_call me from t id up d)
+hears_call_keeps me from t id true d =
+    then (hears_signal_keeps t (raised (number_in id) d.node.sems) d) (answers_v_keep me from t (raised_answer (number_in id) d.node.sems) _)
+hears_call_keeps me from t id false d =
+    then (hears_signal_keeps t (lowered (number_in id) (t, from) d.node.sems) d) (answers_p_keep me from t (lowered_answer (number_in id) d.node.sems) _)
+
 -- one case a call
 does_keeps : (p : Program) (me : ℕ) (t : Tid) (c : Call) (bytes : List ℕ) (d : EventSoFar) → Kept d (does p me t c bytes d)
 does_keeps p me t (Exit value) bytes d = then (asks_keeps t (Exit value) d) (at_keeps t (λ x. end_thread t x (end_of.Exit value)) _ (λ x. end_keeps t x (end_of.Exit value) _))
@@ -187,9 +269,15 @@ does_keeps p me t Nodes bytes d = then (asks_keeps t Nodes d) (answer_keeps t (n
 does_keeps p me t Yield bytes d = then (asks_keeps t Yield d) (answer_keeps t 0 _)
 does_keeps p me t (Create entry argument priority) bytes d = then (asks_keeps t (Create entry argument priority) d) (creates_keeps me t entry argument priority _)
 does_keeps p me t (Join name) bytes d = at_keeps t (asks_join t (Join name) (tid_of name)) d (λ x. asks_join_keeps t (Join name) (tid_of name) x d)
+does_keeps p me t (Detach name) bytes d = at_keeps t (asks_detach t (Detach name) (tid_of name)) d (λ x. asks_detach_keeps t (Detach name) (tid_of name) x d)
+does_keeps p me t (SemNew value) bytes d =
+    then (asks_here_keeps t (SemNew value) (with_one_more value d.node.sems) d) (answer_keeps t (name_on me (length d.node.sems)) _)
+does_keeps p me t (SemP id) bytes d = signals_keeps me t (SemP id) id false d
+does_keeps p me t (SemV id) bytes d = signals_keeps me t (SemV id) id true d
 does_keeps p me t (Isomalloc len) bytes d = then (asks_keeps t (Isomalloc len) d) (at_keeps t (allocates t (rounded len)) _ (λ x. allocates_keeps t (rounded len) x _))
 does_keeps p me t (Isofree address) bytes d = then (asks_keeps t (Isofree address) d) (at_keeps t (frees t address) _ (λ x. frees_keep t address x _))
 does_keeps p me t (MigrateSelf to) bytes d = then (then (asks_keeps t (MigrateSelf to) d) (answer_keeps t 0 _)) (migrates_keeps p me to t _)
+does_keeps p me t (Migrate name to) bytes d = then (asks_keeps t (Migrate name to) d) (sends_keeps p me (tid_of name) to t (eqb name (tid_value t)) _)
 does_keeps p me t (Print address len) bytes d = at_keeps t (asks_show t (Print address len) bytes) d (λ x. asks_show_keeps t (Print address len) bytes x d)
 does_keeps p me t Halt bytes d = then (asks_keeps t Halt d) (at_keeps t (halts t) _ (λ x. halts_keeps t x _))
 does_keeps p me t (Unknown number) bytes d = then (asks_keeps t (Unknown number) d) (answer_keeps t (reply_code replies.BadArgument) _)
@@ -234,6 +322,9 @@ accepts_keeps p me from (JoinAsk by seq) s = then (hears_keeps by seq from (noth
     judges Later d = kept refl
     judges NoSuch d = reply_keeps by from replies.NoSuch None d
     judges Taken d = reply_keeps by from replies.Taken None d
+accepts_keeps p me from (DetachAsk by seq) s =
+    then (hears_detach_keeps by seq (nothing s)) (reply_keeps by from (detached_reply (detach_verdict (slice_get s.births seq))) None _)
+accepts_keeps p me from (SemAsk by id up) s = hears_call_keeps me from by id up (nothing s)
 accepts_keeps p me from (Answer t reply second) s = tell_keeps t (reply_code reply) second (nothing s)
 accepts_keeps p me from (EndNote seq end) s = then (knows_keeps me seq end (nothing s)) (tells (joiner (slice_get s.births seq)) _)
   where
@@ -242,7 +333,7 @@ accepts_keeps p me from (EndNote seq end) s = then (knows_keeps me seq end (noth
     tells (Some by) d = reply_keeps by.0 by.1 _ _ d
 
 takes_keeps : (p : Program) (me from : ℕ) (body : Body) (s : Local) → Kept (nothing s) (takes p me from body s)
-takes_keeps p me from body s = by (is_stray p me s body)
+takes_keeps p me from body s = by (is_stray p me from s body)
   where
     by : (b : Bool) → Kept (nothing s) (cond b (nothing s) (accepts me from body s))
     by true = kept refl

@@ -5,3 +5,4 @@ pub mod Heaps
 pub mod Found
 pub mod Coming
 pub mod Possible
+pub mod Waiting

@@ -14,7 +14,7 @@ use Rattle.run_trace.specs.Steps.{thread_at, at_found, at_thread, asks, asks_sho
 use Rattle.run_trace.specs.Machine.{calls, does, stopped}
 use Rattle.node_state.specs.declared.call.Checked.{Checked}
 use Rattle.node_state.specs.declared.call.Checked.TheVariants.{Refused, Shows, Passed}
-use Rattle.node_state.specs.Asking.{IsChecked, IsPrint, refused_by, named_by}
+use Rattle.node_state.specs.Asking.{IsChecked, IsPrint, CanBeDone, refused_by, named_by}
 
 -- a thread that asks stays where it is
 pub asked : (t u : Tid) (c : Call) (d : EventSoFar) → thread_at u (asks t c d) ≡ thread_at u d
@@ -33,6 +33,12 @@ calls_is p me t x c (Shows bytes) d h =
     ap (λ (b : List ℕ). calls p me t c None b d) h.bytes ∙ ap (λ (o : Option Reply). calls p me t c o (bytes_of p x.guest.solo.state c) d) (sym h.unrefused)
 calls_is p me t x c Passed d h =
     ap (λ (b : List ℕ). calls p me t c None b d) h.bytes ∙ ap (λ (o : Option Reply). calls p me t c o (bytes_of p x.guest.solo.state c) d) (sym h.unrefused)
+
+-- a call that is checked can be done by its thread
+pub can_be_done : (p : Program) (t : Tid) (x : Thread) (c : Call) (checked : Checked) → IsChecked p t x.guest.solo c checked → CanBeDone c (Some x) checked
+can_be_done p t x c (Refused reply) h = tt
+can_be_done p t x c (Shows bytes) h = h.print
+can_be_done p t x c Passed h = (h.small, h.block, tt)
 
 -- a thread that stops at a call asks it
 pub stop_is : (p : Program) (me : ℕ) (t : Tid) (stop : Stop) (x : Thread) (c : Call) (checked : Checked) (d : EventSoFar)

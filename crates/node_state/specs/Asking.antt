@@ -1,23 +1,33 @@
--- What the checks of a call come to in code.
+-- What the checks of a call come to in code, and how a thread that asks begins to wait.
 use Rattle.std.specs.Prelude.{◌≡◌, ℕ, ◌<◌, ◌≤◌, ◌/◌, ◌%◌, ◌^◌, List, [], Option, Some, None, true, ⊤}
 use Rattle.slot_space.specs.declared.names.Tid.{Tid}
 use Rattle.slot_space.specs.declared.names.Reply.{Reply}
 use Rattle.iso_blocks.specs.Heap.{starts_at}
+use Rattle.marcel_sync.specs.Semaphores.{node_in}
 use Rattle.run_trace.specs.declared.call.Call.{Call}
-use Rattle.run_trace.specs.declared.call.Call.TheVariants.{Create, Join, Isomalloc, Isofree, MigrateSelf, Print}
+use Rattle.run_trace.specs.declared.call.Call.TheVariants.{Create, Join, Detach, SemNew, SemP, SemV, Isomalloc, Isofree, MigrateSelf, Migrate, Print}
+use Rattle.run_trace.specs.declared.packet.Body.{Body}
+use Rattle.run_trace.specs.declared.node.Wait.TheVariants as wait
 use Rattle.run_trace.specs.Program.{Program}
-use Rattle.run_trace.specs.Guests.{Solo, Thread}
+use Rattle.run_trace.specs.Guests.{Solo, Thread, waits}
 use Rattle.run_trace.specs.Calls.{refusal, bytes_of}
+use Rattle.run_trace.specs.Local.{EventSoFar}
+use Rattle.run_trace.specs.Steps.{put, keep, asks}
 use Rattle.node_thread.specs.Limits.{block_limit}
 use Rattle.node_state.specs.declared.call.Checked.{Checked}
 use Rattle.node_state.specs.declared.call.Checked.TheVariants.{Refused, Shows, Passed}
 
--- a call whose checks have passed names an entry, a priority, a home, a size and a node that fit
+-- a call whose checks have passed names an entry, a priority, a home, a value, a size and a node that fit
 abbrev pub IsSmall : Call → Type 0
 IsSmall (Create entry argument priority) = (priority ≤ 7) × (entry % 4 ≡ 0)
 IsSmall (Join name) = name / 2 ^ 32 < 256
+IsSmall (Detach name) = name / 2 ^ 32 < 256
+IsSmall (SemNew value) = value < 2 ^ 31
+IsSmall (SemP id) = node_in id < 256
+IsSmall (SemV id) = node_in id < 256
 IsSmall (Isomalloc len) = (0 < len) × (len ≤ block_limit)
 IsSmall (MigrateSelf to) = to < 256
+IsSmall (Migrate name to) = to < 256
 IsSmall _ = ⊤
 
 -- and a block that is there
@@ -32,6 +42,17 @@ HasBlock address (Some x) = starts_at x.guest.solo.live address ≡ true
 abbrev pub NamesBlockAt : Call → Option Thread → Type 0
 NamesBlockAt c None = ⊤
 NamesBlockAt c (Some x) = NamesBlock c x.guest.solo
+
+-- the checks of the call look at its numbers alone, and not at the thread's memory or blocks
+abbrev pub IsOfNumbers : Call → Type 0
+IsOfNumbers (Print address len) = ⊥
+IsOfNumbers (Isofree address) = ⊥
+IsOfNumbers _ = ⊤
+
+-- the thread is here
+abbrev pub IsHere : Option Thread → Type 0
+IsHere None = ⊥
+IsHere (Some x) = ⊤
 
 abbrev pub IsPrint : Call → Type 0
 IsPrint (Print address len) = ⊤
@@ -71,4 +92,12 @@ IsChecked p t x c Passed = HasPassed p t x c
 abbrev pub CanBeDone : Call → Option Thread → Checked → Type 0
 CanBeDone c o (Refused reply) = ⊤
 CanBeDone c o (Shows bytes) = IsPrint c
-CanBeDone c o Passed = IsSmall c × NamesBlockAt c o
+CanBeDone c o Passed = IsSmall c × NamesBlockAt c o × IsHere o
+
+-- the thread asks another node, by this packet, and waits for the answer
+unfoldable pub asks_by_link : Tid → Call → (to : ℕ) → Body → Thread → EventSoFar → EventSoFar
+asks_by_link t c to body x d = put to body (asks t c (keep t (waits wait.ForAnswer x.guest) d))
+
+-- the thread waits for a semaphore of its node
+unfoldable pub waits_here : Tid → Thread → EventSoFar → EventSoFar
+waits_here t x d = keep t (waits wait.ForSemaphore x.guest) d

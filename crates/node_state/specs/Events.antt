@@ -25,6 +25,7 @@ fresh_in setup n = record {
   threads = [];
   run_lists = record { rows = []; next = 0 };
   births = [];
+  sems = [];
   halted = false;
 }
 

@@ -1,14 +1,21 @@
--- A thread that comes, as it is once its packet is opened.
-use Rattle.std.specs.Prelude.{ℕ, Bool, ◌&&◌, is_none, nat_lt}
+-- A thread that is sent away by its name, and one that comes, as it is once its packet is opened.
+use Rattle.std.specs.Prelude.{ℕ, List, Bool, ◌&&◌, Option, Some, None, is_none, nat_lt, if◌then◌else◌}
 use Rattle.std.specs.Map.{lookup}
+use Rattle.slot_space.specs.declared.names.Tid.{Tid}
+use Rattle.run_trace.specs.declared.node.ReadyRow.{ReadyRow}
 use Rattle.run_trace.specs.declared.label.Label.TheVariants.{Came}
 use Rattle.run_trace.specs.Names.{is_tid}
+use Rattle.run_trace.specs.RunLists.{is_listed}
 use Rattle.run_trace.specs.Program.{Program, nodes_of}
 use Rattle.run_trace.specs.Guests.{guest_slots}
 use Rattle.run_trace.specs.Local.{Local, EventSoFar}
 use Rattle.run_trace.specs.Steps.{say, thread_in, arrive}
 use Rattle.run_trace.specs.Machine.{lives_yet, are_away}
 use Rattle.node_thread.specs.declared.newcomer.Newcomer.{Newcomer}
+
+-- the thread, where it is on the run list
+abbrev pub listed_name : Tid → List ReadyRow → Option Tid
+listed_name t rows = if is_listed t rows then Some t else None
 
 -- this node expects it
 abbrev pub may_enter : Program → ℕ → Local → Newcomer → Bool

@@ -4,6 +4,7 @@ use Rattle.std.specs.List.Sorted.{IsStrictlySortedBy}
 use Rattle.std.specs.Map.{keys_of}
 use Rattle.slot_space.specs.declared.names.Tid.{Tid}
 use Rattle.marcel_core.specs.declared.birth.Birth.{Birth}
+use Rattle.marcel_sync.specs.declared.sem.SemRow.{SemRow}
 use Rattle.run_trace.specs.declared.label.Label.{Label}
 use Rattle.run_trace.specs.declared.packet.Send.{Send}
 use Rattle.run_trace.specs.Names.{tid_cmp}
@@ -15,13 +16,14 @@ use Rattle.run_trace.specs.Local.{Local, EventSoFar}
 abbrev pub AreInOrder : List (Tid × Thread) → Type 0
 AreInOrder threads = IsStrictlySortedBy tid_cmp (keys_of threads)
 
-abbrev pub local_of : Bool → List ℕ → List (Tid × Thread) → RunLists → List Birth → Bool → Local
-local_of booted free threads run_lists births halted = record {
+abbrev pub local_of : Bool → List ℕ → List (Tid × Thread) → RunLists → List Birth → List SemRow → Bool → Local
+local_of booted free threads run_lists births sems halted = record {
   booted = booted;
   slots = record { free = free };
   threads = threads;
   run_lists = run_lists;
   births = births;
+  sems = sems;
   halted = halted;
 }
 

@@ -1,9 +1,10 @@
 //! What a thread asks, and what it is told.
 
 ghost use Rattle.std.specs.Prelude.{◌≡◌, IfOk};
-ghost use Rattle.run_trace.specs.Steps.{say, at_thread, asks, asks_show, asks_join, halts, judge, tell, reply_by_link};
+ghost use Rattle.run_trace.specs.Steps.{say, at_thread, asks, asks_show, asks_join, asks_detach, halts, judge, tell, reply_by_link};
 ghost use Rattle.run_trace.specs.Calls.{args_of, extra_of, number_of};
 ghost use Rattle.run_trace.specs.declared.label.Label.TheVariants as label_of;
+ghost use Rattle.node_state.specs.Asking.{asks_by_link};
 
 use crate::event_so_far::EventSoFar;
 use basics::{Items, NoMemory};
@@ -62,10 +63,16 @@ impl EventSoFar {
         self.put(NodeNo(0), Body::Show { t: *t, bytes: line })
     }
 
-    /// The thread asks to join that one: the join goes to its home.
-    #[tactic(auto, unfolding(run_trace::specs::Steps::asks_join, run_trace::specs::Steps::keep))]
-    pub(crate) fn asks_join(&mut self, t: &Tid, call: Call, other: &Tid) -> Result<(), NoMemory>
-        ensures { IfOk result (λ _. self.new ≡ at_thread t.now (asks_join t.now call other.now) self.old) }
+    /// The thread asks another node, by this packet, and waits for the answer.
+    #[tactic(auto, unfolding(crate::specs::Asking::asks_by_link, run_trace::specs::Steps::keep))]
+    pub(crate) fn asks_by_link(
+        &mut self,
+        t: &Tid,
+        call: Call,
+        to: NodeNo,
+        body: Body,
+    ) -> Result<(), NoMemory>
+        ensures { IfOk result (λ _. self.new ≡ at_thread t.now (asks_by_link t.now call to body) self.old) }
     {
         let node = &mut self.node;
         let Some(thread) = node.threads.get_mut(t) else {
@@ -73,13 +80,31 @@ impl EventSoFar {
         };
         thread.wait_for(Wait::ForAnswer);
         self.asks(t, call)?;
-        self.put(
-            other.home,
-            Body::JoinAsk {
-                by: *t,
-                seq: other.seq,
-            },
-        )
+        self.put(to, body)
+    }
+
+    /// The thread asks to join that one: the join goes to its home.
+    #[tactic(auto, unfolding(run_trace::specs::Steps::asks_join, crate::specs::Asking::asks_by_link))]
+    pub(crate) fn asks_join(&mut self, t: &Tid, call: Call, other: &Tid) -> Result<(), NoMemory>
+        ensures { IfOk result (λ _. self.new ≡ at_thread t.now (asks_join t.now call other.now) self.old) }
+    {
+        let body = Body::JoinAsk {
+            by: *t,
+            seq: other.seq,
+        };
+        self.asks_by_link(t, call, other.home, body)
+    }
+
+    /// The thread asks to detach that one: the detach goes to its home.
+    #[tactic(auto, unfolding(run_trace::specs::Steps::asks_detach, crate::specs::Asking::asks_by_link))]
+    pub(crate) fn asks_detach(&mut self, t: &Tid, call: Call, other: &Tid) -> Result<(), NoMemory>
+        ensures { IfOk result (λ _. self.new ≡ at_thread t.now (asks_detach t.now call other.now) self.old) }
+    {
+        let body = Body::DetachAsk {
+            by: *t,
+            seq: other.seq,
+        };
+        self.asks_by_link(t, call, other.home, body)
     }
 
     /// The thread has called halt.

@@ -3,7 +3,7 @@
 ghost use Rattle.std.specs.Prelude.{◌≡◌, ◌≤◌, ◌%◌, [], IfOk};
 ghost use Rattle.run_trace.specs.Steps.{at_thread, thread_at, asks};
 ghost use Rattle.run_trace.specs.Machine.{answer, creates, does, calls, stopped};
-ghost use Rattle.node_state.specs.Asking.{IsSmall, NamesBlockAt, CanBeDone, refused_by, named_by};
+ghost use Rattle.node_state.specs.Asking.{IsSmall, NamesBlockAt, IsHere, CanBeDone, refused_by, named_by};
 
 use crate::call::Checked;
 use crate::checks::check;
@@ -61,6 +61,7 @@ impl EventSoFar {
     fn does(&mut self, here: &Here<'_>, t: &Tid, call: Call) -> Result<(), NoMemory>
         requires small { IsSmall call }
         requires block { NamesBlockAt call (thread_at t.now self.old) }
+        requires here { IsHere (thread_at t.now self.old) }
         ensures { IfOk result (λ _. self.new ≡ does here.now.program.now here.now.me t.now call [] self.old) }
     {
         match call {
@@ -81,6 +82,10 @@ impl EventSoFar {
                 self.creates(here, t, entry, argument, priority as u8)
             }
             Call::Join(name) => self.asks_join(t, call, &tid_of(name)),
+            Call::Detach(name) => self.asks_detach(t, call, &tid_of(name)),
+            Call::SemNew(value) => self.makes(here, t, call, value),
+            Call::SemP(id) => self.signals(here, t, call, id, false),
+            Call::SemV(id) => self.signals(here, t, call, id, true),
             Call::Isomalloc(len) => {
                 self.asks(t, call)?;
                 self.allocates(t, len)
@@ -93,6 +98,10 @@ impl EventSoFar {
                 self.asks(t, call)?;
                 self.answer(t, 0)?;
                 self.migrates(here, NodeNo(to as u8), t)
+            }
+            Call::Migrate { name, to } => {
+                self.asks(t, call)?;
+                self.sends(here, t, name, NodeNo(to as u8))
             }
             Call::Print { .. } => self.asks_show(t, call, Items::new(Vec::new(self.alloc))),
             Call::Halt => {

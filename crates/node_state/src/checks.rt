@@ -2,11 +2,14 @@
 
 ghost use Rattle.std.specs.Prelude.{◌≡◌, ◌%◌, ◌==◌, ◌&&◌, is_some, IfOk};
 ghost use Rattle.rv_inst.specs.Image.{image_word};
-ghost use Rattle.node_state.specs.Asking.{IsChecked};
+ghost use Rattle.run_trace.specs.declared.call.Call.TheVariants as call_of;
+ghost use Rattle.run_trace.specs.Guests.{Solo};
+ghost use Rattle.node_state.specs.Asking.{IsChecked, IsOfNumbers};
 
 use crate::call::Checked;
 use crate::names::home_of;
 use basics::NoMemory;
+use marcel_sync::VALUE_LIMIT;
 use node_thread::{PRINT_LIMIT, Thread};
 use run_trace::{Call, Program};
 use rv_inst::Image;
@@ -20,6 +23,74 @@ fn is_entry(image: &Image, entry: u64) -> bool
     entry % 4 == 0 && image.word(entry).is_some()
 }
 
+/// The checks of an isomalloc of so many bytes.
+fn check_len(program: &Program, len: u64) -> Checked
+    ensures { (t : Tid) (x : Solo) → IsChecked program.now t x (call_of.Isomalloc len) result }
+{
+    if len == 0 {
+        return Checked::Refused(Reply::BadArgument);
+    }
+    if len > SLOT_SIZE * program.setup().geometry.slots() as u64 {
+        return Checked::Refused(Reply::TooLong);
+    }
+    Checked::Passed
+}
+
+/// The checks of a join of the thread of that name.
+fn check_join(program: &Program, t: &Tid, name: u64) -> Checked
+    ensures { (x : Solo) → IsChecked program.now t.now x (call_of.Join name) result }
+{
+    if name == t.value() {
+        return Checked::Refused(Reply::BadArgument);
+    }
+    if home_of(name) >= program.nodes() as u64 {
+        return Checked::Refused(Reply::NoSuch);
+    }
+    Checked::Passed
+}
+
+/// The checks of a call of thread t, which look at its numbers alone.
+fn check_numbers(program: &Program, t: &Tid, call: Call) -> Checked
+    requires { IsOfNumbers call }
+    ensures { (x : Solo) → IsChecked program.now t.now x call result }
+{
+    match call {
+        Call::Create {
+            entry,
+            argument: _,
+            priority,
+        } => {
+            if is_entry(program.image(), entry) && priority <= 7 {
+                Checked::Passed
+            } else {
+                Checked::Refused(Reply::BadArgument)
+            }
+        }
+        Call::Join(name) => check_join(program, t, name),
+        Call::Detach(name) | Call::SemP(name) | Call::SemV(name) => {
+            if home_of(name) >= program.nodes() as u64 {
+                return Checked::Refused(Reply::NoSuch);
+            }
+            Checked::Passed
+        }
+        Call::SemNew(value) => {
+            if value > VALUE_LIMIT as u64 {
+                return Checked::Refused(Reply::BadArgument);
+            }
+            Checked::Passed
+        }
+        Call::Isomalloc(len) => check_len(program, len),
+        Call::MigrateSelf(to) | Call::Migrate { name: _, to } => {
+            if to >= program.nodes() as u64 {
+                return Checked::Refused(Reply::BadArgument);
+            }
+            Checked::Passed
+        }
+        Call::Unknown(_) => Checked::Refused(Reply::BadArgument),
+        _ => Checked::Passed,
+    }
+}
+
 /// The checks of a call of thread t.
 pub(crate) fn check(
     alloc: Global,
@@ -31,26 +102,6 @@ pub(crate) fn check(
     ensures { IfOk result (λ checked. IsChecked program.now t.now thread.now.guest.solo call checked) }
 {
     match call {
-        Call::Create {
-            entry,
-            argument: _,
-            priority,
-        } => {
-            if is_entry(program.image(), entry) && priority <= 7 {
-                Ok(Checked::Passed)
-            } else {
-                Ok(Checked::Refused(Reply::BadArgument))
-            }
-        }
-        Call::Join(name) => {
-            if name == t.value() {
-                return Ok(Checked::Refused(Reply::BadArgument));
-            }
-            if home_of(name) >= program.nodes() as u64 {
-                return Ok(Checked::Refused(Reply::NoSuch));
-            }
-            Ok(Checked::Passed)
-        }
         Call::Print { address, len } => {
             if len > PRINT_LIMIT as u64 {
                 return Ok(Checked::Refused(Reply::TooLong));
@@ -60,15 +111,6 @@ pub(crate) fn check(
                 Some(bytes) => Ok(Checked::Shows(bytes)),
             }
         }
-        Call::Isomalloc(len) => {
-            if len == 0 {
-                return Ok(Checked::Refused(Reply::BadArgument));
-            }
-            if len > SLOT_SIZE * program.setup().geometry.slots() as u64 {
-                return Ok(Checked::Refused(Reply::TooLong));
-            }
-            Ok(Checked::Passed)
-        }
         Call::Isofree(address) => {
             if thread.has_block(address) {
                 Ok(Checked::Passed)
@@ -76,13 +118,6 @@ pub(crate) fn check(
                 Ok(Checked::Refused(Reply::NoSuch))
             }
         }
-        Call::MigrateSelf(to) => {
-            if to >= program.nodes() as u64 {
-                return Ok(Checked::Refused(Reply::BadArgument));
-            }
-            Ok(Checked::Passed)
-        }
-        Call::Unknown(_) => Ok(Checked::Refused(Reply::BadArgument)),
-        _ => Ok(Checked::Passed),
+        _ => Ok(check_numbers(program, t, call)),
     }
 }

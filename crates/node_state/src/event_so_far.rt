@@ -9,6 +9,7 @@ use crate::output::EventOutput;
 use crate::state::LocalState;
 use basics::{Items, NoMemory};
 use marcel_core::{BIRTH_LIMIT, Homes};
+use marcel_sync::Sems;
 use node_thread::Thread;
 use raw_slots::Pool;
 use run_list::RunList;
@@ -53,6 +54,7 @@ impl EventSoFar {
                 threads: BTreeMap::new(alloc),
                 run_list: RunList::new(alloc),
                 homes: Homes::new(alloc, me),
+                sems: Sems::new(alloc, me, setup.geometry.nodes()),
                 halted: false,
             },
             pool: Pool::new(alloc),

@@ -17,6 +17,7 @@ mod node;
 mod output;
 mod packets;
 mod running;
+mod semaphores;
 mod state;
 
 pub use node::NodeState;

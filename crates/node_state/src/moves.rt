@@ -1,24 +1,27 @@
 //! Moves of threads between nodes.
 
-ghost use Rattle.std.specs.Prelude.{◌≡◌, ◌<◌, not, true, IfOk};
+ghost use Rattle.std.specs.Prelude.{◌≡◌, ◌<◌, ◌==◌, not, true, IfOk};
 ghost use Rattle.std.specs.List.{list_all};
 ghost use Rattle.run_trace.specs.Guests.{guest_slots};
 ghost use Rattle.run_trace.specs.Local.{nothing};
+ghost use Rattle.run_trace.specs.Names.{tid_of};
 ghost use Rattle.run_trace.specs.Steps.{at_thread, leaves};
-ghost use Rattle.run_trace.specs.Machine.{goes, migrates, moves_listed, lives_yet, are_away};
+ghost use Rattle.run_trace.specs.Machine.{goes, migrates, sends_away, sends, moves_listed, lives_yet, are_away};
 ghost use Rattle.run_trace.specs.RunLists.{is_listed};
 ghost use Rattle.slot_space.specs.Limits.{node_limit};
+ghost use Rattle.slot_space.specs.Replies.{tid_value};
 ghost use Rattle.slot_space.specs.Sets.{meets};
 ghost use Rattle.node_state.specs.Events.{Becomes};
-ghost use Rattle.node_state.specs.Moves.{may_enter, enters};
+ghost use Rattle.node_state.specs.Moves.{listed_name, may_enter, enters};
 
 use crate::event_so_far::EventSoFar;
 use crate::here::Here;
+use crate::names::{home_of, tid_of};
 use crate::state::LocalState;
 use basics::NoMemory;
 use node_thread::Newcomer;
 use run_trace::{Body, Label, Program};
-use slot_space::{NodeNo, SlotSet, Tid};
+use slot_space::{NodeNo, Reply, SlotSet, Tid};
 
 impl LocalState {
     /// No thread that is here has one of these slots.
@@ -80,6 +83,58 @@ impl EventSoFar {
             return Ok(());
         }
         self.goes(here.program, t, to)
+    }
+
+    /// The thread of that name, where it is on the run list.
+    fn listed_name(&self, name: u64) -> Option<Tid>
+        ensures { result ≡ listed_name (tid_of name) self.now.node.run_lists.rows }
+    {
+        let node = &self.node;
+        // No node's number is so great, and no thread has another home.
+        node.run_list.have_homes();
+        if home_of(name) > u8::MAX as u64 {
+            return None;
+        }
+        let other = tid_of(name);
+        if node.run_list.is_listed(&other) {
+            Some(other)
+        } else {
+            None
+        }
+    }
+
+    /// The thread sends the one of that name to another node. One that sends itself has its reply before it leaves.
+    pub(crate) fn sends(
+        &mut self,
+        here: &Here<'_>,
+        t: &Tid,
+        name: u64,
+        to: NodeNo,
+    ) -> Result<(), NoMemory>
+        ensures { IfOk result (λ _. self.new ≡ sends here.now.program.now here.now.me (tid_of name) to t.now (name == tid_value t.now) self.old) }
+    {
+        if name == t.value() {
+            self.answer(t, 0)?;
+            return self.migrates(here, to, t);
+        }
+        self.sends_away(here, t, name, to)
+    }
+
+    /// The thread sends another one away, which has to be on the run list.
+    fn sends_away(
+        &mut self,
+        here: &Here<'_>,
+        t: &Tid,
+        name: u64,
+        to: NodeNo,
+    ) -> Result<(), NoMemory>
+        ensures { IfOk result (λ _. self.new ≡ sends_away here.now.program.now here.now.me (tid_of name) to t.now (is_listed (tid_of name) self.old.node.run_lists.rows) self.old) }
+    {
+        let Some(other) = self.listed_name(name) else {
+            return self.answer(t, Reply::NotHere.code());
+        };
+        self.migrates(here, to, &other)?;
+        self.answer(t, 0)
     }
 
     /// A thread that is on the run list is sent away, false where it isn't here.

@@ -5,10 +5,10 @@ ghost use Rattle.run_trace.specs.Names.{tid_of};
 
 use slot_space::{NodeNo, Tid};
 
-/// How many numbers stand for names of one home.
-const NAMES: u64 = 0x1_0000_0000;
+/// How many numbers stand for names of one home, and of one node's semaphores.
+pub(crate) const NAMES: u64 = 0x1_0000_0000;
 
-/// The home of the name that a number stands for.
+/// The home of the name that a number stands for, or the node of a semaphore's name.
 pub(crate) fn home_of(name: u64) -> u64
     ensures { result ≡ name / 2 ^ 32 }
 {

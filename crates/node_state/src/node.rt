@@ -50,7 +50,7 @@ impl NodeState {
     }
 
     /// One event: what it has come to, or None where the act isn't possible, and then nothing has changed. Want of memory is
-    /// also where a home can't count another birth, or the run list another arrival.
+    /// also where a home can't count another birth or another semaphore, or the run list another arrival.
     pub fn event(
         &mut self,
         program: &Program,

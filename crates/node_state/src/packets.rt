@@ -1,16 +1,17 @@
 //! What a node does with a packet. One that it doesn't expect comes to nothing.
 
 ghost use Rattle.std.specs.Prelude.{◌≡◌, IfOk, true, slice_get};
-ghost use Rattle.marcel_core.specs.Homes.{verdict, joiner, is_open};
+ghost use Rattle.marcel_core.specs.Homes.{verdict, detach_verdict, joiner, is_open};
 ghost use Rattle.run_trace.specs.declared.packet.Body.TheVariants as body_of;
 ghost use Rattle.run_trace.specs.Local.{nothing};
-ghost use Rattle.run_trace.specs.Steps.{thread_at, line_of, shows, acknowledges, hears, knows};
+ghost use Rattle.run_trace.specs.Steps.{thread_at, line_of, shows, acknowledges, hears, hears_detach, knows};
 ghost use Rattle.run_trace.specs.Machine.{is_waiting, judges_join, tells_joiner, takes};
 
 use crate::event_so_far::EventSoFar;
 use crate::here::Here;
+use crate::names::home_of;
 use basics::NoMemory;
-use marcel_core::{End, Verdict};
+use marcel_core::{Detached, End, Verdict};
 use node_thread::Newcomer;
 use pack_thread::Packed;
 use run_trace::{Body, Extra, Label, Wait};
@@ -64,6 +65,17 @@ impl EventSoFar {
         Ok(node.homes.join_asked(seq, *by, at))
     }
 
+    /// The home takes a detach up, and what it is answered.
+    #[tactic(auto, unfolding(run_trace::specs::Steps::hears_detach, run_trace::specs::Steps::change_birth, run_trace::specs::Steps::say))]
+    pub(crate) fn hears_detach(&mut self, by: &Tid, seq: u32) -> Result<Detached, NoMemory>
+        ensures after { IfOk result (λ _. self.new ≡ hears_detach by.now seq self.old) }
+        ensures verdict { IfOk result (λ v. v ≡ detach_verdict (slice_get self.old.node.births seq)) }
+    {
+        self.say(Label::Heard(*by))?;
+        let node = &mut self.node;
+        Ok(node.homes.detach(seq))
+    }
+
     /// The home knows of an end, and who waits for it.
     #[tactic(auto, unfolding(run_trace::specs::Steps::knows, run_trace::specs::Steps::change_birth, run_trace::specs::Steps::say))]
     pub(crate) fn knows(
@@ -81,7 +93,7 @@ impl EventSoFar {
         Ok(node.homes.ended(seq, end))
     }
 
-    /// The thread is here, and waits for this: that its line is shown, or the answer of a home.
+    /// The thread is here, and waits for this: that its line is shown, or the answer of another node.
     fn waits(&self, t: &Tid, wait: Wait) -> bool
         ensures { result ≡ is_waiting (thread_at t.now self.now) wait }
     {
@@ -184,6 +196,43 @@ impl EventSoFar {
         self.judges_join(by, from, verdict)
     }
 
+    /// A thread detaches one that was born here.
+    fn takes_detach(
+        &mut self,
+        here: &Here<'_>,
+        from: NodeNo,
+        by: &Tid,
+        seq: u32,
+    ) -> Result<(), NoMemory>
+        requires { self.old ≡ nothing self.old.node }
+        ensures { IfOk result (λ _. self.new ≡ takes here.now.program.now here.now.me from (body_of.DetachAsk by.now seq) self.old.node) }
+    {
+        if !(by.home.0 < here.program.nodes()) {
+            return Ok(());
+        }
+        let verdict = self.hears_detach(by, seq)?;
+        self.reply_by_link(by, from, verdict.reply(), None)
+    }
+
+    /// A thread of another node lowers a semaphore of this one, or raises it.
+    fn takes_signal(
+        &mut self,
+        here: &Here<'_>,
+        from: NodeNo,
+        by: &Tid,
+        id: u64,
+        up: bool,
+    ) -> Result<(), NoMemory>
+        requires { self.old ≡ nothing self.old.node }
+        ensures { IfOk result (λ _. self.new ≡ takes here.now.program.now here.now.me from (body_of.SemAsk by.now id up) self.old.node) }
+    {
+        let me = here.me.0;
+        if !(by.home.0 < here.program.nodes() && (from.0 != me && home_of(id) == me as u64)) {
+            return Ok(());
+        }
+        self.hears_call(here, from, by, id, up)
+    }
+
     /// The thread's answer has come.
     fn takes_answer(
         &mut self,
@@ -235,6 +284,8 @@ impl EventSoFar {
             Body::Show { t, bytes } => self.takes_line(here, from, t, bytes.as_slice()),
             Body::ShowDone { t } => self.takes_shown(here, from, t),
             Body::JoinAsk { by, seq } => self.takes_join(here, from, by, *seq),
+            Body::DetachAsk { by, seq } => self.takes_detach(here, from, by, *seq),
+            Body::SemAsk { by, id, up } => self.takes_signal(here, from, by, *id, *up),
             Body::Answer { t, reply, second } => {
                 self.takes_answer(here, from, t, *reply, *second)
             }

@@ -6,6 +6,7 @@ ghost use Rattle.node_state.specs.Events.{can_act};
 
 use basics::NoMemory;
 use marcel_core::Homes;
+use marcel_sync::Sems;
 use node_thread::Thread;
 use run_list::RunList;
 use run_trace::Act;
@@ -25,6 +26,8 @@ pub(crate) struct LocalState {
     pub(crate) run_list: RunList,
     /// The threads that were born here.
     pub(crate) homes: Homes,
+    /// The semaphores that were made here.
+    pub(crate) sems: Sems,
     pub(crate) halted: bool,
 }
 
@@ -34,7 +37,7 @@ impl Model for LocalState {
 
     ghost Value = { Local };
 
-    ghost view = { λ s. local_of s.booted s.free s.threads.entries s.run_list s.homes.births s.halted };
+    ghost view = { λ s. local_of s.booted s.free s.threads.entries s.run_list s.homes.births s.sems.sems s.halted };
 }
 
 impl LocalState {

@@ -27,7 +27,7 @@ states = codes "5 busy sp \"run\" \"0.0 0.45 0.7\"\n5 idle sp \"idle\" \"0.9 0.9
 
 -- the links
 unfoldable pub links : Text
-links = codes "5 move ln \"thread\" \"0.0 0.0 0.0\"\n5 ask ln \"join\" \"0.84 0.37 0.0\"\n5 say ln \"line\" \"0.0 0.45 0.7\"\n5 answer ln \"answer\" \"0.0 0.62 0.45\"\n5 end ln \"end\" \"0.8 0.47 0.65\"\n5 remote ln \"remote call\" \"0.3 0.3 0.3\"\n"
+links = codes "5 move ln \"thread\" \"0.0 0.0 0.0\"\n5 ask ln \"ask\" \"0.84 0.37 0.0\"\n5 say ln \"line\" \"0.0 0.45 0.7\"\n5 answer ln \"answer\" \"0.0 0.62 0.45\"\n5 end ln \"end\" \"0.8 0.47 0.65\"\n5 remote ln \"remote call\" \"0.3 0.3 0.3\"\n"
 
 -- the kinds of events
 abbrev pub events : Text

@@ -29,7 +29,7 @@ of_run (stops.Fault kinds.Store) = codes "ran A.B G H store"
 -- what an arrow says
 abbrev pub of_message : Message → Text
 of_message carry.Thread = codes "left A.B E, came A.B"
-of_message carry.Join = codes "asked A.B join, heard A.B"
+of_message carry.Join = codes "asked A.B, heard A.B"
 of_message carry.Line = codes "asked A.B print, shown A.B"
 of_message carry.Answer = codes "judged A.B, told A.B"
 of_message carry.EndNote = codes "ended A.B, known A.B"
@@ -67,9 +67,14 @@ of_sign (sign.Burst bubble list) = codes "burst G H"
 of_sign (sign.Gathered bubble count) = codes "gathered G H"
 of_sign (sign.Dropped count) = codes "dropped A.B G"
 
--- what a call says that is waited for
+-- what a call says that is waited for; H and P are a thread's name, or a semaphore's: its node and its number there
 abbrev pub of_call : ℕ → Text
-of_call number = if number == 7 then codes "A.B waits, asked join H.P" else (if number == 16 then codes "A.B waits, asked print" else codes "A.B waits, asked call G")
+of_call number =
+    if number == 7 then codes "A.B waits, asked join H.P"
+    else (if number == 8 then codes "A.B waits, asked detach H.P"
+    else (if number == 10 then codes "A.B waits, asked sem_p H.P"
+    else (if number == 11 then codes "A.B waits, asked sem_v H.P"
+    else (if number == 16 then codes "A.B waits, asked print" else codes "A.B waits, asked call G"))))
 
 -- what a wait says
 abbrev pub of_wait : Reason → Text

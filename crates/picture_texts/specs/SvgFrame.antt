@@ -30,7 +30,7 @@ legend_of_waits = codes "<text x='4' y='32'>waits</text><rect class='ready' x='9
 
 -- what the lines of arrows stand for
 unfoldable pub legend_of_arrows : Text
-legend_of_arrows = codes "<text x='4' y='50'>arrows</text><line class='move' x1='90' y1='46' x2='110' y2='46' marker-end='url(#a)'/><text x='116' y='50'>thread</text><line class='ask' x1='170' y1='46' x2='190' y2='46' marker-end='url(#a)'/><text x='196' y='50'>join</text><line class='say' x1='240' y1='46' x2='260' y2='46' marker-end='url(#a)'/><text x='266' y='50'>line</text><line class='answer' x1='310' y1='46' x2='330' y2='46' marker-end='url(#a)'/><text x='336' y='50'>answer</text><line class='end' x1='390' y1='46' x2='410' y2='46' marker-end='url(#a)'/><text x='416' y='50'>end</text><line class='remote' x1='460' y1='46' x2='480' y2='46' marker-end='url(#a)'/><text x='486' y='50'>remote call</text>\n"
+legend_of_arrows = codes "<text x='4' y='50'>arrows</text><line class='move' x1='90' y1='46' x2='110' y2='46' marker-end='url(#a)'/><text x='116' y='50'>thread</text><line class='ask' x1='170' y1='46' x2='190' y2='46' marker-end='url(#a)'/><text x='196' y='50'>ask</text><line class='say' x1='240' y1='46' x2='260' y2='46' marker-end='url(#a)'/><text x='266' y='50'>line</text><line class='answer' x1='310' y1='46' x2='330' y2='46' marker-end='url(#a)'/><text x='336' y='50'>answer</text><line class='end' x1='390' y1='46' x2='410' y2='46' marker-end='url(#a)'/><text x='416' y='50'>end</text><line class='remote' x1='460' y1='46' x2='480' y2='46' marker-end='url(#a)'/><text x='486' y='50'>remote call</text>\n"
 
 -- what the letters stand for
 unfoldable pub legend_of_marks : Text

@@ -29,7 +29,7 @@ fn of_message(message: &Message) -> &'static [u8]
 {
     match message {
         Message::Thread => b"left A.B E, came A.B",
-        Message::Join => b"asked A.B join, heard A.B",
+        Message::Join => b"asked A.B, heard A.B",
         Message::Line => b"asked A.B print, shown A.B",
         Message::Answer => b"judged A.B, told A.B",
         Message::EndNote => b"ended A.B, known A.B",
@@ -103,6 +103,15 @@ fn of_call(number: u64) -> &'static [u8]
 {
     if number == 7 {
         return b"A.B waits, asked join H.P";
+    }
+    if number == 8 {
+        return b"A.B waits, asked detach H.P";
+    }
+    if number == 10 {
+        return b"A.B waits, asked sem_p H.P";
+    }
+    if number == 11 {
+        return b"A.B waits, asked sem_v H.P";
     }
     if number == 16 {
         return b"A.B waits, asked print";

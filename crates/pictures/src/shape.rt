@@ -23,7 +23,7 @@ pub enum Reason {
 pub enum Message {
     /// The thread itself.
     Thread,
-    /// Its join, to the home of the other thread.
+    /// Its join or detach, to the home of the other thread, or its call of another node's semaphore.
     Join,
     /// Its line, to the console.
     Line,

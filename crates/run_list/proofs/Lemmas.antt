@@ -1,8 +1,9 @@
 -- Lemmas of run lists. Other crates cite these alone.
-use Rattle.std.proofs.Common.{List, false, length, true, ◌∷◌, ◌≡◌}
-use Rattle.run_list.specs.Names.{names_of}
+use Rattle.std.proofs.Common.{List, false, length, true, ◌∷◌, ◌≡◌, ◌≤◌}
+use Rattle.run_list.specs.Names.{names_of, HaveHomes}
 use Rattle.run_list.specs.Sorted.{IsLeast, put}
 use Rattle.run_trace.specs.Names.{tid_cmp}
+use Rattle.run_trace.specs.RunLists.{is_listed}
 use Rattle.run_trace.specs.declared.node.ReadyRow.{ReadyRow}
 use Rattle.slot_space.specs.declared.names.Tid.{Tid}
 use Rattle.std.specs.Cmp.{IsTotalOrder}
@@ -35,3 +36,7 @@ tied = OfRows.tied
 -- there are as many names as rows
 pub names_length : (rows : List ReadyRow) → length (names_of rows) ≡ length rows
 names_length = OfRows.names_length
+
+-- a thread of a home that no row has is not on the list
+pub unlisted : (t : Tid) (rows : List ReadyRow) → HaveHomes rows → 256 ≤ t.home → is_listed t rows ≡ false
+unlisted = OfRows.unlisted

@@ -1,5 +1,5 @@
 -- The names of rows: as rows come and go.
-use Rattle.std.proofs.Common.{◌≡◌, suc, length, true, false, Bool, List, [], ◌∷◌, ◌++◌, cond, refl, sym, ap, ◌∙◌}
+use Rattle.std.proofs.Common.{◌≡◌, ◌<◌, ◌≤◌, suc, length, true, false, Bool, List, [], ◌∷◌, ◌++◌, cond, refl, sym, ap, ◌∙◌, arith}
 use Rattle.std.specs.Cmp.{IsTotalOrder}
 use Rattle.std.specs.declared.cmp.Ordering.TheVariants.{Equal}
 use Rattle.std.specs.Ordering.{is_eq}
@@ -8,7 +8,7 @@ use Rattle.slot_space.specs.declared.names.Tid.{Tid}
 use Rattle.run_trace.specs.declared.node.ReadyRow.{ReadyRow}
 use Rattle.run_trace.specs.Names.{tid_cmp, is_tid}
 use Rattle.run_trace.specs.RunLists.{is_listed, without_row}
-use Rattle.run_list.specs.Names.{names_of}
+use Rattle.run_list.specs.Names.{names_of, HaveHomes}
 use Rattle.run_list.specs.Sorted.{put, without, holds, AreUp}
 use Rattle.run_trace.proofs.Lemmas.{is-true}
 use Rattle.run_list.proofs.Sorted.{put_put, up_put, holds_put, put_length, without_put}
@@ -44,3 +44,20 @@ listed_holds t (r ∷ rows) = ap (λ v. cond (is_tid t r.tid) true v) (listed_ho
 pub names_length : (rows : List ReadyRow) → length (names_of rows) ≡ length rows
 names_length [] = refl
 names_length (r ∷ rows) = put_length tid_cmp total tied r.tid (names_of rows) ∙ ap suc (names_length rows)
+
+pub homes_pushed : (rows : List ReadyRow) (r : ReadyRow) → HaveHomes rows → r.tid.home < 256 → HaveHomes (rows ++ r ∷ [])
+homes_pushed [] r h e = (e, tt)
+homes_pushed (x ∷ xs) r h e = (h.0, homes_pushed xs r h.1 e)
+
+pub homes_without : (t : Tid) (rows : List ReadyRow) → HaveHomes rows → HaveHomes (without_row t rows)
+homes_without t [] h = tt
+homes_without t (x ∷ xs) h = elim (is_tid t x.tid) as (λ v. HaveHomes (cond v xs (x ∷ without_row t xs))) [ true ↦ h.1 | false ↦ (h.0, homes_without t xs h.1) ]
+
+-- a thread of another home isn't on the list
+pub unlisted : (t : Tid) (rows : List ReadyRow) → HaveHomes rows → 256 ≤ t.home → is_listed t rows ≡ false
+unlisted t [] h far = refl
+unlisted t (r ∷ rows) h far = by (is_tid t r.tid) refl (unlisted t rows h.1 far)
+  where
+    by : (v : Bool) → is_tid t r.tid ≡ v → is_listed t rows ≡ false → cond v true (is_listed t rows) ≡ false
+    by true e rest = absurd (omega (arith, far, h.0, ap (λ (u : Tid). u.home) (is-true t r.tid e)))
+    by false e rest = rest

@@ -5,7 +5,7 @@ ghost use Rattle.std.specs.List.{position};
 ghost use Rattle.run_trace.specs.Names.{is_tid};
 ghost use Rattle.run_trace.specs.Trees.{Tree};
 ghost use Rattle.run_trace.specs.RunLists.{arrived, without_row, taken_off, is_listed, best_on};
-ghost use Rattle.run_list.specs.Names.{names_of};
+ghost use Rattle.run_list.specs.Names.{names_of, HaveHomes};
 ghost use Rattle.run_list.specs.Tops.{greatest, first_of};
 ghost use Rattle.run_list.specs.Views.{run_lists_of};
 
@@ -31,7 +31,7 @@ pub struct RunList {
 impl Model for RunList {
     ghost use Rattle.std.specs.Prelude.{◌≡◌};
     ghost use Rattle.run_trace.specs.RunLists.{RunLists, AreOnRoot, IsRising};
-    ghost use Rattle.run_list.specs.Names.{names_of};
+    ghost use Rattle.run_list.specs.Names.{names_of, HaveHomes};
     ghost use Rattle.run_list.specs.Tops.{greatest};
     ghost use Rattle.run_list.specs.Views.{run_lists_of};
 
@@ -39,7 +39,7 @@ impl Model for RunList {
 
     ghost view = { λ p. run_lists_of p.rows.items p.next };
 
-    ghost invariant = { λ p. (p.names.items ≡ names_of p.rows.items) × AreOnRoot p.rows.items × IsRising (run_lists_of p.rows.items p.next) × (p.top ≡ greatest p.rows.items) };
+    ghost invariant = { λ p. (p.names.items ≡ names_of p.rows.items) × AreOnRoot p.rows.items × IsRising (run_lists_of p.rows.items p.next) × (p.top ≡ greatest p.rows.items) × HaveHomes p.rows.items };
 }
 
 // Where the first row of the thread stands.
@@ -145,6 +145,13 @@ impl RunList {
         ensures { result ≡ is_listed t.now self.now.rows }
     {
         searching::holds(&self.names, t)
+    }
+
+    /// The home of each thread on the list is below 256.
+    pub fn have_homes(&self)
+        ensures { HaveHomes self.now.rows }
+    {
+        let _next = self.next;
     }
 
     /// How many threads are on the list.

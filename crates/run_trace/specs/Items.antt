@@ -1,20 +1,19 @@
 -- What an entry has still to do, in the midst of it, by what the labels tell.
-use Rattle.std.specs.Prelude.{ℕ, List, [], ◌∷◌, ◌++◌, Option, Some, None, Bool, false, ◌==◌, if◌then◌else◌, slice_get}
+use Rattle.std.specs.Prelude.{ℕ, List, [], ◌∷◌, ◌++◌, Option, Some, None, Bool, false, ◌==◌, if◌then◌else◌}
 use Rattle.slot_space.specs.declared.names.Tid.{Tid}
-use Rattle.marcel_core.specs.Homes.{joiner}
 use Rattle.run_trace.specs.declared.entry.Act.{Act}
 use Rattle.run_trace.specs.declared.label.Label.{Label}
 use Rattle.run_trace.specs.declared.label.Label.TheVariants.{Born, Ran, Asked, Heard, Judged, Told, Took, Gave, Ended, Known, Left, Came, Shown, Halted}
 use Rattle.run_trace.specs.declared.label.Why.TheVariants as why
 use Rattle.run_trace.specs.declared.packet.Body.{Body}
-use Rattle.run_trace.specs.declared.packet.Body.TheVariants.{Mover, Show, ShowDone, JoinAsk, Answer, EndNote}
+use Rattle.run_trace.specs.declared.packet.Body.TheVariants.{Mover, Show, ShowDone, JoinAsk, DetachAsk, SemAsk, Answer, EndNote}
 use Rattle.run_trace.specs.declared.packet.Packet.{Packet}
 use Rattle.run_trace.specs.declared.packet.Send.{Send}
 use Rattle.run_trace.specs.Names.{tid, is_tid}
 use Rattle.run_trace.specs.Program.{Program}
 use Rattle.run_trace.specs.Links.{taken_packet}
 use Rattle.run_trace.specs.Causes.{send_to, causes}
-use Rattle.run_trace.specs.Spots.{Running, Due, Served, Told_next, Told_then, Departs, Ends, Leaves, Halts, Showing, Answers, Life, On, Spots, after_label}
+use Rattle.run_trace.specs.Spots.{Running, Due, Served, Told_next, Told_then, Departs, Ends, Leaves, Halts, Showing, Answers, Life, On, Going, Spots, sets_going, after_label}
 
 -- ## Whom an entry is busy with
 
@@ -71,14 +70,13 @@ abbrev pub as_list : Option Subject → List Subject
 as_list None = []
 as_list (Some s) = s ∷ []
 
-abbrev pub joiner_in : Option (Tid × ℕ) → Option Subject
-joiner_in None = None
-joiner_in (Some by) = Some (Thread by.0)
+abbrev pub one_going : Going → Option Subject
+one_going None = None
+one_going (Some going) = Some (Thread going.0)
 
--- with whom the entry may go on after a label, in their order: after a known end with the joiner, else with the doer
-abbrev pub goes_on_with : Label → Spots → List Subject
-goes_on_with (Known t) w = as_list (joiner_in (joiner (slice_get (w.births t.home) t.seq)))
-goes_on_with l w = as_list (doer l)
+-- with whom the entry may go on after a label, in their order: with whom it sets going, then with the doer
+abbrev pub goes_on_with : Program → ℕ → Label → Spots → List Subject
+goes_on_with p n l w = as_list (one_going (sets_going p n l w)) ++ as_list (doer l)
 
 -- ## What there is to do
 
@@ -112,7 +110,7 @@ busy_among n (s ∷ ss) w = if is_busy_with n s w then Does s ∷ busy_among n s
 
 -- what there is to do after a label, the next first
 abbrev pub to_do_after : Program → ℕ → Label → Spots → List Item → List Item
-to_do_after p n l w to_do = busy_among n (goes_on_with l w) (after_label p n l w) ++ all_but_first to_do
+to_do_after p n l w to_do = busy_among n (goes_on_with p n l w) (after_label p n l w) ++ all_but_first to_do
 
 -- ## How an act begins, where it takes a packet, and all that it sends
 
@@ -121,6 +119,8 @@ for_packet n (Mover x) = Says (Came x.tid) ∷ []
 for_packet n (Show t bytes) = Says (Shown t) ∷ []
 for_packet n (ShowDone t) = Says (Told t) ∷ []
 for_packet n (JoinAsk by seq) = Says (Heard by) ∷ []
+for_packet n (DetachAsk by seq) = Says (Heard by) ∷ []
+for_packet n (SemAsk by id up) = Says (Heard by) ∷ []
 for_packet n (Answer t reply second) = Says (Told t) ∷ []
 for_packet n (EndNote seq end) = Says (Known (tid n seq)) ∷ []
 

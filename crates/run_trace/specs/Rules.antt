@@ -8,6 +8,7 @@ use Rattle.slot_space.specs.declared.names.Tid.{Tid}
 use Rattle.slot_space.specs.declared.names.Reply.TheVariants as replies
 use Rattle.rv_step.specs.Run.{after, StopsBy}
 use Rattle.marcel_core.specs.Homes.{joiner}
+use Rattle.marcel_sync.specs.Semaphores.{node_in}
 use Rattle.rv_step.specs.Step.{HartState}
 use Rattle.run_trace.specs.declared.entry.Act.{Act}
 use Rattle.run_trace.specs.declared.entry.Act.TheVariants.{Run}
@@ -25,7 +26,7 @@ use Rattle.run_trace.specs.declared.call.Call.{Call}
 use Rattle.run_trace.specs.declared.call.Call.TheVariants.{Create, Isomalloc, Isofree, MigrateSelf}
 use Rattle.run_trace.specs.Calls.{extra_of, place_code, call_of, number_of, args_of, refusal, said_bytes}
 use Rattle.run_trace.specs.World.{World}
-use Rattle.run_trace.specs.Spots.{Ready, Running, Due, Served, Told_next, Told_then, Departs, Ends, Leaves, Halts, Shows, Showing, Shown_there, Asks, Awaits, Answers, Answered, Life, Unborn, On, Moving, Noting, Spots, Holder, Of_node, Of_thread, stack_bytes, stepped, after_labels}
+use Rattle.run_trace.specs.Spots.{Ready, Running, Due, Served, Told_next, Told_then, Departs, Ends, Leaves, Halts, Shows, Showing, Shown_there, Asks, Awaits, Answers, Answered, Detaches, Signals, Life, Unborn, On, Moving, Noting, Spots, Holder, Of_node, Of_thread, stack_bytes, stepped, after_labels}
 
 abbrev pub quantum_in : Act → ℕ
 quantum_in (Run vp quantum) = quantum
@@ -91,6 +92,8 @@ MayTell n _ = ⊥
 
 abbrev pub MayHear : ℕ → Life → Type 0
 MayHear n (On m (Asks u)) = u.home ≡ n
+MayHear n (On m (Detaches u)) = u.home ≡ n
+MayHear n (On m (Signals id up)) = node_in id ≡ n
 MayHear n _ = ⊥
 
 abbrev pub MayTake : ℕ → Life → Type 0

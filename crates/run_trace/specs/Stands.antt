@@ -1,5 +1,5 @@
 -- What it means that nodes and links stand for what the labels tell: each list has exactly its part of it.
-use Rattle.std.specs.Prelude.{◌≡◌, ℕ, List, [], ◌∷◌, map, Option, Some, None, true, Bool, false, ◌==◌, ◌&&◌, nat_lt, if◌then◌else◌, slice_get, ⊤}
+use Rattle.std.specs.Prelude.{◌≡◌, ℕ, List, [], ◌∷◌, All, map, Option, Some, None, true, Bool, false, ◌==◌, ◌&&◌, nat_lt, if◌then◌else◌, slice_get, ⊤}
 use Rattle.slot_space.specs.Replies.{reply_code}
 use Rattle.slot_space.specs.Sets.{has, minus}
 use Rattle.iso_blocks.specs.Bytes.{in_blocks, in_slots}
@@ -8,11 +8,12 @@ use Rattle.slot_space.specs.declared.names.Tid.{Tid}
 use Rattle.marcel_core.specs.declared.end.End.{End}
 use Rattle.marcel_core.specs.declared.birth.Birth.{Birth}
 use Rattle.marcel_core.specs.declared.birth.Birth.TheVariants.{Lives, Awaited, Detached, Ended, Over}
+use Rattle.marcel_sync.specs.Semaphores.{IsSemaphore, node_in, number_in, waiters_at}
 use Rattle.pack_thread.specs.Threads.{PackedThread as Packed}
 use Rattle.run_trace.specs.declared.label.Extra.{Extra}
 use Rattle.run_trace.specs.declared.label.Extra.TheVariants.{Nothing}
 use Rattle.run_trace.specs.declared.packet.Body.{Body}
-use Rattle.run_trace.specs.declared.packet.Body.TheVariants.{Mover, Show, ShowDone, JoinAsk, Answer, EndNote}
+use Rattle.run_trace.specs.declared.packet.Body.TheVariants.{Mover, Show, ShowDone, JoinAsk, DetachAsk, SemAsk, Answer, EndNote}
 use Rattle.run_trace.specs.declared.packet.Packet.{Packet}
 use Rattle.run_trace.specs.declared.node.ReadyRow.{ReadyRow}
 use Rattle.run_trace.specs.declared.node.Wait.{Wait}
@@ -28,29 +29,33 @@ use Rattle.run_trace.specs.Keyed.{about, StandsFor, MapStandsFor}
 use Rattle.run_trace.specs.Rules.{is_free}
 use Rattle.run_trace.specs.declared.call.Call.{Call}
 use Rattle.run_trace.specs.declared.call.Call.TheVariants.{Isofree}
-use Rattle.run_trace.specs.Spots.{Stage, Ready, Served, Departs, Leaves, Stays, Shows, Showing, Shown_there, Asks, Awaits, Answers, Answered, Life, Unborn, On, Moving, Noting, Gone, Response, Spot, Spots, Holder, Of_thread}
+use Rattle.run_trace.specs.Spots.{Stage, Ready, Served, Departs, Leaves, Stays, Shows, Showing, Shown_there, Asks, Awaits, Answers, Answered, Detaches, Signals, Queues, Life, Unborn, On, Moving, Noting, Gone, Response, Spot, Spots, Holder, Of_thread}
 use Rattle.run_trace.specs.World.{Listed}
 use Rattle.run_trace.specs.Items.{is_busy, Subject, Thread as Thread_of, same_subject}
 
 -- ## The threads of a node: those that are there, but one that has given its slots
 
-abbrev pub wait_of : Stage → Wait
-wait_of (Shows bytes) = wait.ForShow
-wait_of Showing = wait.ForShow
-wait_of Shown_there = wait.ForShow
-wait_of (Asks u) = wait.ForAnswer
-wait_of (Awaits u) = wait.ForAnswer
-wait_of (Answers h reply second) = wait.ForAnswer
-wait_of (Answered h) = wait.ForAnswer
-wait_of Stays = wait.Halted
-wait_of _ = wait.No
+-- for what it waits on node n: for the answer of another node, where it has asked there
+abbrev pub wait_of : ℕ → Stage → Wait
+wait_of n (Shows bytes) = wait.ForShow
+wait_of n Showing = wait.ForShow
+wait_of n Shown_there = wait.ForShow
+wait_of n (Asks u) = wait.ForAnswer
+wait_of n (Awaits u) = wait.ForAnswer
+wait_of n (Answers h reply second) = wait.ForAnswer
+wait_of n (Answered h) = wait.ForAnswer
+wait_of n (Detaches u) = wait.ForAnswer
+wait_of n (Signals id up) = wait.ForAnswer
+wait_of n (Queues id) = if node_in id == n then wait.ForSemaphore else wait.ForAnswer
+wait_of n Stays = wait.Halted
+wait_of n _ = wait.No
 
-abbrev pub thread_in_stage : Stage → Guest → Option Thread
-thread_in_stage (Leaves end) g = None
-thread_in_stage stage g = Some (waits (wait_of stage) g)
+abbrev pub thread_in_stage : ℕ → Stage → Guest → Option Thread
+thread_in_stage n (Leaves end) g = None
+thread_in_stage n stage g = Some (waits (wait_of n stage) g)
 
 abbrev pub thread_in_life : ℕ → Life → Guest → Option Thread
-thread_in_life n (On m stage) g = if m == n then thread_in_stage stage g else None
+thread_in_life n (On m stage) g = if m == n then thread_in_stage n stage g else None
 thread_in_life n _ g = None
 
 abbrev pub thread_part : ℕ → Tid → Spot → Option Thread
@@ -99,6 +104,8 @@ pub data Word : Type 0 where
   Line : (t : Tid) (bytes : List ℕ) → Word
   Line_shown : (t : Tid) (code : ℕ) (extra : Extra) → Word
   Joins : (t u : Tid) → Word
+  Detaching : (t u : Tid) → Word
+  Signalling : (t : Tid) (id : ℕ) (up : Bool) → Word
   Reply : (t : Tid) (code : ℕ) (extra : Extra) → Word
   Ended_word : (t : Tid) (end : End) → Word
 
@@ -107,6 +114,8 @@ word_subject (Travels x) = Thread_of x.tid
 word_subject (Line t bytes) = Thread_of t
 word_subject (Line_shown t code extra) = Thread_of t
 word_subject (Joins t u) = Thread_of t
+word_subject (Detaching t u) = Thread_of t
+word_subject (Signalling t id up) = Thread_of t
 word_subject (Reply t code extra) = Thread_of t
 word_subject (Ended_word t end) = Thread_of t
 
@@ -116,6 +125,8 @@ word_of j (Mover x) = Travels x
 word_of j (Show t bytes) = Line t bytes
 word_of j (ShowDone t) = Line_shown t 0 Nothing
 word_of j (JoinAsk by seq) = Joins by (tid j seq)
+word_of j (DetachAsk by seq) = Detaching by (tid j seq)
+word_of j (SemAsk by id up) = Signalling by id up
 word_of j (Answer t reply second) = Reply t (reply_code reply) (extra_of second)
 word_of j (EndNote seq end) = Ended_word (tid j seq) end
 
@@ -138,6 +149,8 @@ ways_of t (Moving m to) v g = way m to (Travels (packed t g))
 ways_of t (On m (Shows bytes)) v g = way m 0 (Line t bytes)
 ways_of t (On m Shown_there) v g = way 0 m (Line_shown t v.code v.extra)
 ways_of t (On m (Asks u)) v g = way m u.home (Joins t u)
+ways_of t (On m (Detaches u)) v g = way m u.home (Detaching t u)
+ways_of t (On m (Signals id up)) v g = way m (node_in id) (Signalling t id up)
 ways_of t (On m (Answered h)) v g = way h m (Reply t v.code v.extra)
 ways_of t (Noting m end) v g = way m t.home (Ended_word t end)
 ways_of t _ v g = []
@@ -161,8 +174,22 @@ pub record Here (n : ℕ) (w : Spots) (s : Local) (hand : List Busy) : Type 0 wh
   pub rows : StandsFor is_tid listed_name (row_part n) (map listed s.run_lists.rows) w.threads
   pub busy : StandsFor is_tid busy_name (busy_part n) hand w.threads
   pub births : s.births ≡ w.births n
+  pub sems : s.sems ≡ w.sems n
   pub free : (x : ℕ) → has x s.slots.free ≡ is_free n (w.slots x)
   pub halted : s.halted ≡ w.halts n
+
+-- ## Queues: the threads that wait for a semaphore, with their nodes
+
+abbrev pub waiter_name : Tid × ℕ → Tid
+waiter_name x = x.0
+
+-- of semaphore k of node h
+abbrev pub waiter_in_life : (h k : ℕ) → Tid → Life → Option (Tid × ℕ)
+waiter_in_life h k t (On m (Queues id)) = if node_in id == h && number_in id == k then Some (t, m) else None
+waiter_in_life h k t _ = None
+
+abbrev pub waiter_part : (h k : ℕ) → Tid → Spot → Option (Tid × ℕ)
+waiter_part h k t s = waiter_in_life h k t s.life
 
 -- what a home knows of a life
 pub data Phase : Type 0 where
@@ -227,12 +254,15 @@ abbrev pub IsWellHeld : Option Holding → Type 0
 IsWellHeld None = ⊤
 IsWellHeld (Some h) = IsWell h
 
--- homes, births, joiners, halts, slots and blocks agree
+-- homes, births, joiners, semaphores, halts, slots and blocks agree
 pub record Agrees (p : Program) (w : Spots) : Type 0 where
   pub homes : (t : Tid) → nat_lt t.home (nodes_of p) ≡ false → (w.threads t).life ≡ Unborn
   pub named : (t : Tid) → phase_at (slice_get (w.births t.home) t.seq) ≡ phase_of (w.threads t).life
   pub awaits : (t by : Tid) (at : ℕ) → slice_get (w.births t.home) t.seq ≡ Some (Awaited by at) → (w.threads by).life ≡ On at (Awaits t)
   pub waits : (t by : Tid) (at : ℕ) → (w.threads by).life ≡ On at (Awaits t) → slice_get (w.births t.home) t.seq ≡ Some (Awaited by at)
+  pub sems : (n : ℕ) → All IsSemaphore (w.sems n)
+  pub queues : (h k : ℕ) → StandsFor is_tid waiter_name (waiter_part h k) (waiters_at k (w.sems h)) w.threads
+  pub signals : (t : Tid) (n id : ℕ) (up : Bool) → (w.threads t).life ≡ On n (Signals id up) → (node_in id == n) ≡ false
   pub stays : (t : Tid) (n : ℕ) → (w.threads t).life ≡ On n Stays → w.halts n ≡ true
   pub slots : (t : Tid) (x : ℕ) → has x (slots_held (held (w.threads t).life (w.threads t).guest)) ≡ is_thread t (w.slots x)
   pub blocks : (t : Tid) → IsWellHeld (held (w.threads t).life (w.threads t).guest)

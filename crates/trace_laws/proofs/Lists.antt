@@ -1,6 +1,7 @@
 -- What the lists of the machine and the labels tell of threads.
 pub mod KeyedLemmas
 pub mod Births
+pub mod Queues
 pub mod Subjects
 pub mod Stages
 pub mod Parts

@@ -4,5 +4,7 @@ pub mod Heaps
 pub mod OwnLives
 pub mod Tales
 pub mod OwnReplies
+pub mod Goings
+pub mod Signals
 pub mod OwnLabels
 pub mod SameLives

@@ -7,6 +7,13 @@ pub mod CallSteps
 pub mod Lifetimes
 pub mod HeapSteps
 pub mod Takes
+pub mod Homes
 pub mod Joins
+pub mod Ends
+pub mod Semaphores
+pub mod SemaphoreSteps
+pub mod SemaphoreCalls
+pub mod SemaphoreTakes
+pub mod Sendings
 pub mod Events
 pub mod Simulate

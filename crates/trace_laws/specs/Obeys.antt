@@ -15,7 +15,7 @@ use Rattle.run_trace.specs.Cluster.{Net}
 use Rattle.run_trace.specs.Trace.{net_after_trace, sends_or, done_for}
 use Rattle.run_trace.specs.Spots.{Life, Spots, after_label}
 use Rattle.run_trace.specs.Items.{is_busy}
-use Rattle.run_trace.specs.Stands.{listed}
+use Rattle.run_trace.specs.Stands.{Agrees, listed}
 use Rattle.run_trace.specs.World.{World, world_after}
 use Rattle.run_trace.specs.Causes.{causes}
 use Rattle.run_trace.specs.Obeying.{occasion}
@@ -67,6 +67,10 @@ IsSettled life = (n : ℕ) → is_busy n life ≡ false
 abbrev pub EachSettled : Program → Spots → List Entry → Type 0
 EachSettled p old [] = ⊤
 EachSettled p old (x ∷ xs) = EachSettled p old xs × ((t : Tid) → IsSettled ((spots_of p old (x ∷ xs)).threads t).life)
+
+-- before each label homes, births, joiners, semaphores, halts, slots and blocks agree
+abbrev pub AgreesRule : Rule
+AgreesRule p o n l w = Agrees p w.spots
 
 -- each label obeys the rule
 abbrev pub ObeyEach : Rule → Program → Occasion → (n : ℕ) → List Label → World → Type 0

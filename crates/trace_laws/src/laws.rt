@@ -145,7 +145,7 @@ pub fn expected()
 
 /// A packet that a node doesn't expect, or whose stamp no trace reaches, changes nothing, says nothing and sends nothing.
 pub fn ignored()
-    ensures stray { (p : Program) (me from : ℕ) (s : Local) (packet : Packet) → is_range p me s (Take from) ≡ true → is_stray p me s packet.body ≡ true → local_event p me s (Take from) (Some packet) ≡ Some (nothing s) }
+    ensures stray { (p : Program) (me from : ℕ) (s : Local) (packet : Packet) → is_range p me s (Take from) ≡ true → is_stray p me from s packet.body ≡ true → local_event p me s (Take from) (Some packet) ≡ Some (nothing s) }
     ensures beyond { (p : Program) (me : ℕ) (s : Local) (act : Act) (packet : Packet) → stamp_limit ≤ packet.stamp → turn_event p me s act (Some packet) ≡ Some (nothing s) }
 {}
 
@@ -156,8 +156,8 @@ pub fn unforged()
 {}
 
 /// Where no thread is on a run list, nothing is under way and no node has halted, a thread that lives makes the trace stuck:
-/// each that lives joins one that hasn't ended. A thread that is on a node lives, and where nothing is under
-/// way each that lives is on one.
+/// each that lives joins one that hasn't ended, or waits for a semaphore of value 0. A thread that is on a node lives, and where
+/// nothing is under way each that lives is on one.
 pub fn quiet()
     ensures stuck { (p : Program) (w : Spots) (net : Net) → Stands p w net → ((n : ℕ) → (net.nodes n).run_lists.rows ≡ []) → AllLinksEmpty net → ((n : ℕ) → (net.nodes n).halted ≡ false) → (t : Tid) → Lives (w.threads t).life → IsStuck w net }
     ensures somewhere { (p : Program) (w : Spots) (net : Net) → Stands p w net → AllLinksEmpty net → (t : Tid) → Lives (w.threads t).life → (n : ℕ) × (x : Thread) × IsOn net n t x }

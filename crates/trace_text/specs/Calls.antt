@@ -27,9 +27,14 @@ calls =
     ∷ row (codes "yield") 5 0 false
     ∷ row (codes "create") 6 3 false
     ∷ row (codes "join") 7 1 false
+    ∷ row (codes "detach") 8 1 false
+    ∷ row (codes "sem_new") 9 1 false
+    ∷ row (codes "sem_p") 10 1 false
+    ∷ row (codes "sem_v") 11 1 false
     ∷ row (codes "isomalloc") 12 1 false
     ∷ row (codes "isofree") 13 1 false
     ∷ row (codes "migrate_self") 14 1 false
+    ∷ row (codes "migrate") 15 2 false
     ∷ row (codes "print") 16 2 true
     ∷ row (codes "halt") 25 0 false
     ∷ []

@@ -24,7 +24,7 @@ macro_rules! row {
     };
 }
 
-static ROWS: [Row; 12] = [
+static ROWS: [Row; 17] = [
     row!(b"exit", 1, 1, false),
     row!(b"self", 2, 0, false),
     row!(b"node", 3, 0, false),
@@ -32,9 +32,14 @@ static ROWS: [Row; 12] = [
     row!(b"yield", 5, 0, false),
     row!(b"create", 6, 3, false),
     row!(b"join", 7, 1, false),
+    row!(b"detach", 8, 1, false),
+    row!(b"sem_new", 9, 1, false),
+    row!(b"sem_p", 10, 1, false),
+    row!(b"sem_v", 11, 1, false),
     row!(b"isomalloc", 12, 1, false),
     row!(b"isofree", 13, 1, false),
     row!(b"migrate_self", 14, 1, false),
+    row!(b"migrate", 15, 2, false),
     row!(b"print", 16, 2, true),
     row!(b"halt", 25, 0, false),
 ];

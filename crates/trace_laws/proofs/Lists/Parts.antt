@@ -4,14 +4,15 @@ use Rattle.std.specs.Prelude.{is_some}
 use Rattle.std.proofs.lemmas.Bool.{eq-eqb, eqb-true}
 use Rattle.std.proofs.lemmas.List.{map-append}
 use Rattle.slot_space.specs.declared.names.Tid.{Tid}
+use Rattle.marcel_sync.specs.Semaphores.{node_in}
 use Rattle.run_trace.specs.declared.node.ReadyRow.{ReadyRow}
 use Rattle.run_trace.specs.Names.{is_tid}
 use Rattle.run_trace.specs.Rules.{is_free}
 use Rattle.run_trace.specs.Guests.{Guest, packed}
 use Rattle.run_trace.specs.RunLists.{RunLists, arrived, without_row, is_listed, IsIn}
 use Rattle.run_trace.specs.Keyed.{AreApart, StandsFor, item_of}
-use Rattle.run_trace.specs.Spots.{Stage, Ready, Departs, Shows, Shown_there, Asks, Answered, Life, Unborn, On, Moving, Noting, Gone, Response, Spot, update, Holder, Of_node, Of_thread}
-use Rattle.run_trace.specs.Stands.{listed, listed_name, Busy, busy, busy_part, thread_part, thread_in_life, thread_in_stage, row_part, row_in_life, row_in_stage, Word, Travels, Line, Line_shown, Joins, Reply, Ended_word, Way, ways_of, is_thread}
+use Rattle.run_trace.specs.Spots.{Stage, Ready, Departs, Shows, Shown_there, Asks, Detaches, Signals, Answered, Life, Unborn, On, Moving, Noting, Gone, Response, Spot, update, Holder, Of_node, Of_thread}
+use Rattle.run_trace.specs.Stands.{listed, listed_name, Busy, busy, busy_part, thread_part, thread_in_life, thread_in_stage, row_part, row_in_life, row_in_stage, Word, Travels, Line, Line_shown, Joins, Detaching, Signalling, Reply, Ended_word, Way, ways_of, is_thread}
 use Rattle.run_trace.proofs.Lemmas.{is-true, is-refl}
 use Rattle.trace_laws.proofs.Lists.KeyedLemmas.{without, added, removed}
 use Rattle.trace_laws.proofs.Lists.Subjects.{IsOneOf}
@@ -114,6 +115,8 @@ Tells t i j (Travels x) life v g = (life ≡ Moving i j) × (x ≡ packed t g)
 Tells t i j (Line u bytes) life v g = (u ≡ t) × (life ≡ On i (Shows bytes)) × (j ≡ 0)
 Tells t i j (Line_shown u code extra) life v g = (u ≡ t) × (life ≡ On j Shown_there) × (i ≡ 0) × (v.code ≡ code) × (v.extra ≡ extra)
 Tells t i j (Joins u target) life v g = (u ≡ t) × (life ≡ On i (Asks target)) × (j ≡ target.home)
+Tells t i j (Detaching u target) life v g = (u ≡ t) × (life ≡ On i (Detaches target)) × (j ≡ target.home)
+Tells t i j (Signalling u id up) life v g = (u ≡ t) × (life ≡ On i (Signals id up)) × (j ≡ node_in id)
 Tells t i j (Reply u code extra) life v g = (u ≡ t) × (life ≡ On j (Answered i)) × (v.code ≡ code) × (v.extra ≡ extra)
 Tells t i j (Ended_word u end) life v g = (u ≡ t) × (life ≡ Noting i end) × (j ≡ t.home)
 
@@ -128,6 +131,10 @@ at_way t (On m Shown_there) v g x (inl e) = subst (λ (y : Way). Tells t y.from 
 at_way t (On m Shown_there) v g x (inr none) = absurd none
 at_way t (On m (Asks u)) v g x (inl e) = subst (λ (y : Way). Tells t y.from y.to y.word (On m (Asks u)) v g) e (refl, refl, refl)
 at_way t (On m (Asks u)) v g x (inr none) = absurd none
+at_way t (On m (Detaches u)) v g x (inl e) = subst (λ (y : Way). Tells t y.from y.to y.word (On m (Detaches u)) v g) e (refl, refl, refl)
+at_way t (On m (Detaches u)) v g x (inr none) = absurd none
+at_way t (On m (Signals id up)) v g x (inl e) = subst (λ (y : Way). Tells t y.from y.to y.word (On m (Signals id up)) v g) e (refl, refl, refl)
+at_way t (On m (Signals id up)) v g x (inr none) = absurd none
 at_way t (On m (Answered k)) v g x (inl e) = subst (λ (y : Way). Tells t y.from y.to y.word (On m (Answered k)) v g) e (refl, refl, refl, refl)
 at_way t (On m (Answered k)) v g x (inr none) = absurd none
 at_way t life v g x h = grind (arith, h)
@@ -135,7 +142,7 @@ at_way t life v g x h = grind (arith, h)
 -- ## A life, as it shows on a node's lists
 
 -- a life on node n shows on its lists as its stage does
-pub thread_was : (n : ℕ) (t : Tid) (s : Spot) (stage : Stage) → s.life ≡ On n stage → thread_part n t s ≡ thread_in_stage stage s.guest
+pub thread_was : (n : ℕ) (t : Tid) (s : Spot) (stage : Stage) → s.life ≡ On n stage → thread_part n t s ≡ thread_in_stage n stage s.guest
 thread_was n t s stage p = ap (λ l. thread_in_life n l s.guest) p ∙ (rw (eq-eqb n n refl) refl)
 
 pub row_was : (n : ℕ) (t : Tid) (s : Spot) (stage : Stage) → s.life ≡ On n stage → row_part n t s ≡ row_in_stage t stage s.guest.priority

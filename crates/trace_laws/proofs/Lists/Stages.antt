@@ -1,16 +1,17 @@
 -- Stages, by what the lists have of a thread in them: at home, at rest between events, in hand, waiting, leaving, and after a reply.
-use Rattle.std.proofs.Common.{arith, ◌≡◌, ℕ, [], Some, None, Bool, true, false, eqb, refl, ap}
+use Rattle.std.proofs.Common.{arith, ◌≡◌, ℕ, [], Some, None, Bool, true, false, eqb, cond, refl}
 use Rattle.std.specs.Prelude.{is_some}
 use Rattle.std.proofs.lemmas.Bool.{eq-eqb}
 use Rattle.slot_space.specs.declared.names.Tid.{Tid}
+use Rattle.marcel_sync.specs.Semaphores.{node_in}
 use Rattle.run_trace.specs.declared.node.Wait.{Wait}
 use Rattle.run_trace.specs.declared.node.Wait.TheVariants as wait
 use Rattle.run_trace.specs.Rules.{MayLeave}
 use Rattle.trace_laws.specs.Obeys.{IsSettled}
 use Rattle.run_trace.specs.Guests.{Guest, waits, is_unwaiting}
-use Rattle.run_trace.specs.Spots.{Stage, Ready, Running, Due, Served, Told_next, Told_then, Departs, Ends, Leaves, Halts, Stays, Shows, Shown_there, Asks, Awaits, Answered, Life, On, Response, told_stage, Showing, Answers}
+use Rattle.run_trace.specs.Spots.{Stage, Ready, Running, Due, Served, Told_next, Told_then, Departs, Ends, Leaves, Halts, Stays, Shows, Shown_there, Asks, Awaits, Answered, Detaches, Signals, Queues, Life, On, Response, told_stage, Showing, Answers}
 use Rattle.run_trace.specs.Stands.{thread_in_stage, row_in_stage, ways_of, held_in_stage, holding_of, wait_of}
-use Rattle.trace_laws.proofs.Underway.Midst.{Plain, is_plain}
+use Rattle.trace_laws.proofs.Underway.Midst.{Quiet, quiet, Plain, plain, is_plain}
 use Rattle.run_trace.specs.Items.{is_busy}
 
 -- ## Stages that show on the thread's own node alone
@@ -31,14 +32,11 @@ is_home _ = false
 pub home_way : (t : Tid) (n : ℕ) (stage : Stage) (v : Response) (g : Guest) → is_home stage ≡ true → ways_of t (On n stage) v g ≡ []
 home_way t n stage v g h = grind (arith, h)
 
-pub home_quiet : (n : ℕ) (stage : Stage) → is_home stage ≡ true → (u : Tid) (m : ℕ) → On n stage ≡ On m (Awaits u) → ⊥
-home_quiet n stage h u m e = let same : stage ≡ Awaits u = cc e in absurd (cc (ap is_home same, h))
+pub home_quiet : (n : ℕ) (stage : Stage) (life : Life) → life ≡ On n stage → is_home stage ≡ true → Quiet life
+home_quiet n stage life x h = quiet x (grind (arith, h))
 
 pub home_plain : (n : ℕ) (stage : Stage) → is_home stage ≡ true → Plain (On n stage)
-home_plain n stage h = record {
-  waits = λ u m e. home_quiet n stage h u m e;
-  stays = λ m e. (let same : stage ≡ Stays = cc e in absurd (cc (ap is_home same, h)));
-}
+home_plain n stage h = plain (On n stage) (grind (arith, h))
 
 pub home_busy : (n k : ℕ) (stage : Stage) → is_home stage ≡ true → eqb n k ≡ false → is_busy k (On n stage) ≡ false
 home_busy n k stage h e = grind (arith, h, e)
@@ -53,6 +51,9 @@ is_resting Shown_there = true
 is_resting (Asks u) = true
 is_resting (Awaits u) = true
 is_resting (Answered h) = true
+is_resting (Detaches u) = true
+is_resting (Signals id up) = true
+is_resting (Queues id) = true
 is_resting _ = false
 
 pub resting : (n : ℕ) (stage : Stage) → IsSettled (On n stage) → is_resting stage ≡ true
@@ -63,16 +64,20 @@ resting n Shown_there k = refl
 resting n (Asks u) k = refl
 resting n (Awaits u) k = refl
 resting n (Answered h) k = refl
+resting n (Detaches u) k = refl
+resting n (Signals id up) k = refl
+resting n (Queues id) k = refl
 resting n Showing k = absurd (cc (k 0))
 resting n (Answers h reply second) k = absurd (cc (k h, eq-eqb h h refl))
 resting n stage k = absurd (cc (k n, eq-eqb n n refl))
 
 -- it shows on its node, and is on the run list exactly where it waits for nothing
-pub rest_thread : (stage : Stage) (g : Guest) → is_resting stage ≡ true → thread_in_stage stage g ≡ Some (waits (wait_of stage) g)
-rest_thread stage g h = grind (arith, h)
+pub rest_thread : (n : ℕ) (stage : Stage) (g : Guest) → is_resting stage ≡ true → thread_in_stage n stage g ≡ Some (waits (wait_of n stage) g)
+rest_thread n stage g h = grind (arith, h)
 
-pub rest_row : (t : Tid) (stage : Stage) (g : Guest) → is_resting stage ≡ true → is_some (row_in_stage t stage g.priority) ≡ is_unwaiting (waits (wait_of stage) g)
-rest_row t stage g h = grind (arith, h)
+pub rest_row : (n : ℕ) (t : Tid) (stage : Stage) (g : Guest) → is_resting stage ≡ true → is_some (row_in_stage t stage g.priority) ≡ is_unwaiting (waits (wait_of n stage) g)
+rest_row n t (Queues id) g h = elim (eqb (node_in id) n) as (λ v. false ≡ is_unwaiting (waits (cond v wait.ForSemaphore wait.ForAnswer) g)) [ true ↦ refl | false ↦ refl ]
+rest_row n t stage g h = grind (arith, h)
 
 -- ## Stages in which an event has its thread in hand: it is on its node alone, off the run list, and waits for nothing
 
@@ -92,8 +97,8 @@ hand_home stage h = grind (arith, h)
 pub hand_busy : (n : ℕ) (stage : Stage) → is_in_hand stage ≡ true → is_busy n (On n stage) ≡ true
 hand_busy n stage h = grind (arith, h, eq-eqb n n refl)
 
-pub hand_thread : (stage : Stage) (g : Guest) → is_in_hand stage ≡ true → thread_in_stage stage g ≡ Some (waits wait.No g)
-hand_thread stage g h = grind (arith, h)
+pub hand_thread : (n : ℕ) (stage : Stage) (g : Guest) → is_in_hand stage ≡ true → thread_in_stage n stage g ≡ Some (waits wait.No g)
+hand_thread n stage g h = grind (arith, h)
 
 pub hand_row : (t : Tid) (stage : Stage) (priority : ℕ) → is_in_hand stage ≡ true → row_in_stage t stage priority ≡ None
 hand_row t stage priority h = grind (arith, h)
@@ -101,7 +106,7 @@ hand_row t stage priority h = grind (arith, h)
 -- ## A stage in which a thread waits on its node: it shows there, off the run list, and no event is busy with it
 
 pub record StandsWaiting (n : ℕ) (t : Tid) (stage : Stage) (waiting : Wait) (g : Guest) : Type 0 where
-  pub thread : thread_in_stage stage g ≡ Some (waits waiting g)
+  pub thread : thread_in_stage n stage g ≡ Some (waits waiting g)
   pub row : row_in_stage t stage g.priority ≡ None
   pub idle : (k : ℕ) → is_busy k (On n stage) ≡ false
   pub held : held_in_stage stage g ≡ Some (holding_of g)
@@ -125,9 +130,9 @@ pub told_home : (life : Life) → is_home (told_stage life) ≡ true
 told_home (On m (Told_then to)) = refl
 told_home life = grind arith
 
-pub told_thread : (life : Life) (g : Guest) → thread_in_stage (told_stage life) g ≡ Some (waits wait.No g)
-told_thread (On m (Told_then to)) g = refl
-told_thread life g = grind arith
+pub told_thread : (n : ℕ) (life : Life) (g : Guest) → thread_in_stage n (told_stage life) g ≡ Some (waits wait.No g)
+told_thread n (On m (Told_then to)) g = refl
+told_thread n life g = grind arith
 
 pub told_row : (t : Tid) (life : Life) (priority : ℕ) → row_in_stage t (told_stage life) priority ≡ Some (record { tid = t; list = 0; priority = priority })
 told_row t (On m (Told_then to)) priority = refl

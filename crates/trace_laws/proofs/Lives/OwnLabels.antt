@@ -1,5 +1,5 @@
 -- What the labels tell of a thread is what it comes to by what it has lived through: each label keeps it.
-use Rattle.std.proofs.Common.{◌≡◌, ℕ, ◌+◌, ◌⊎◌, List, [], ◌∷◌, ◌++◌, Option, Some, None, true, false, cond, refl, sym, ap, ◌∙◌, subst, arith, inl, inr}
+use Rattle.std.proofs.Common.{◌≡◌, ℕ, ◌+◌, ◌⊎◌, List, [], ◌∷◌, ◌++◌, Option, Some, None, Bool, true, false, eqb, cond, refl, sym, ap, ◌∙◌, subst, arith, inl, inr}
 use Rattle.std.specs.Prelude.{length, slice_get}
 use Rattle.rv_step.specs.Memory.{Memory}
 use Rattle.rv_step.specs.Step.{HartState}
@@ -9,21 +9,23 @@ use Rattle.rv_step.specs.declared.hart.Stop.TheVariants as stops
 use Rattle.marcel_core.specs.declared.birth.Birth.{Birth}
 use Rattle.marcel_core.specs.declared.birth.Verdict.{Verdict}
 use Rattle.marcel_core.specs.declared.birth.Verdict.TheVariants as verdicts
-use Rattle.marcel_core.specs.declared.end.End.{End}
 use Rattle.marcel_core.specs.declared.end.End.TheVariants as end_of
-use Rattle.marcel_core.specs.Homes.{verdict, joiner}
+use Rattle.marcel_core.specs.Homes.{verdict}
+use Rattle.marcel_sync.specs.declared.sem.SemRow.{SemRow}
+use Rattle.marcel_sync.specs.Semaphores.{node_in}
 use Rattle.slot_space.specs.Sets.{run}
 use Rattle.slot_space.specs.Replies.{reply_code, tid_value}
 use Rattle.slot_space.specs.declared.names.Tid.{Tid}
 use Rattle.slot_space.specs.declared.names.Reply.{Reply}
+use Rattle.slot_space.specs.declared.names.Reply.TheVariants as replies
 use Rattle.iso_blocks.specs.Heap.{emptied}
 use Rattle.run_trace.specs.declared.call.Call.{Call}
-use Rattle.run_trace.specs.declared.call.Call.TheVariants.{Exit, Name, Node, Nodes, Yield, Create, Join, Isomalloc, Isofree, MigrateSelf, Print, Halt, Unknown}
+use Rattle.run_trace.specs.declared.call.Call.TheVariants.{Exit, Name, Node, Nodes, Yield, Create, Join, Detach, SemNew, SemP, SemV, Isomalloc, Isofree, MigrateSelf, Migrate, Print, Halt, Unknown}
 use Rattle.run_trace.specs.declared.label.Label.{Label}
 use Rattle.run_trace.specs.declared.label.Label.TheVariants.{Born, Ran, Asked, Heard, Judged, Told, Took, Gave, Ended, Known, Left, Came, Shown, Halted}
 use Rattle.run_trace.specs.declared.label.Why.{Why}
 use Rattle.run_trace.specs.declared.label.Why.TheVariants as why
-use Rattle.run_trace.specs.Names.{is_tid}
+use Rattle.run_trace.specs.Names.{is_tid, tid_of}
 use Rattle.run_trace.specs.Program.{Program, code_of}
 use Rattle.run_trace.specs.Guests.{Solo, Guest, newborn, stack_start, with_bytes, with_zero_slots, takes_slots, gives_slots, heap_of}
 use Rattle.run_trace.specs.Calls.{call_of, refusal}
@@ -32,13 +34,15 @@ use Rattle.run_trace.specs.Same.{Start, Lived, unlived, lived_then, written_then
 use Rattle.run_trace.specs.Items.{subject}
 use Rattle.run_trace.specs.Alone.{is_about}
 use Rattle.run_trace.specs.World.{World}
-use Rattle.run_trace.specs.Rules.{IsBorn, MayHear, MayTake, MayGive, MayLeave, MayCome, MayShow, MayKnow, JoinerAwaits, SoloRule, LifeRule, RepliesRule, Occasion, quantum_in}
-use Rattle.run_trace.specs.Spots.{Ready, Running, Served, Departs, Ends, Shows, Asks, Life, Unborn, On, Moving, Noting, Gone, Response, Spot, Spots, stack_bytes, creator_served, priority_by, joiner_served, born_spot, ran_spot, ran_stage, stepped, passed_stage, asked_stage, stage_of_call, heard_life, heard_at, gave_life, shown_life, end_in, after_label}
+use Rattle.run_trace.specs.Rules.{IsBorn, MayHear, MayTake, MayGive, MayLeave, MayCome, MayShow, MayKnow, SoloRule, LifeRule, RepliesRule, Occasion, quantum_in}
+use Rattle.run_trace.specs.Spots.{Ready, Running, Served, Departs, Ends, Shows, Asks, Detaches, Signals, Life, Unborn, On, Moving, Noting, Gone, Response, Spot, Spots, stack_bytes, creator_served, priority_by, born_spot, ran_spot, ran_stage, stepped, signal_asked, sent_stage, passed_stage, asked_stage, stage_of_call, Going, going_by_call, wakes_heard, sets_going, set_going, heard_life, heard_at, gave_life, shown_life, end_in, after_label}
 use Rattle.run_trace.proofs.Lemmas.{is-true}
 use Rattle.trace_laws.proofs.Lives.Heaps.{gave_all}
 use Rattle.trace_laws.proofs.Lives.OwnLives.{exit_value, ends_as, began, with_slots, free_of, given_to, solo_after, printed_by}
-use Rattle.trace_laws.proofs.Lives.Tales.{after_sum, after_nothing, Reached, Calling, IsReady, IsWaiting, IsDue, InService, IsServed, StageTale, LifeTale, Tale, with_life}
+use Rattle.trace_laws.proofs.Lives.Tales.{after_sum, after_nothing, Reached, Calling, IsReady, IsWaiting, IsAsking, IsDue, InService, ServesAs, IsServed, StageTale, LifeTale, Tale, with_life}
 use Rattle.trace_laws.proofs.Lives.OwnReplies.{own_judged, own_told}
+use Rattle.trace_laws.proofs.Lives.Signals.{OfSignals, answered_by, signal_by, signal_asked_by}
+use Rattle.trace_laws.proofs.Lives.Goings.{MayGo, Wakes, IsSent, Joins, GoesRightly}
 
 -- ## Each of its labels
 
@@ -93,10 +97,29 @@ refused_same p t x c reply h = grind (arith, h)
 refused_silent : (p : Program) (t : Tid) (x : Solo) (c : Call) (reply : Reply) → refusal p t x c ≡ Some reply → printed_by (code_of p) c (reply_code reply) x.state ≡ []
 refused_silent p t x c reply h = grind (arith, h)
 
-own_asked : (p : Program) (n : ℕ) (t : Tid) (s : Spot) (lines : List (List ℕ)) (a : Lived) → s.life ≡ On n Running
-    → Tale (code_of p) s lines a → Tale (code_of p) (record s { life = On n (stage_of_call p n t s.guest.solo) }) lines a
-own_asked p n t s lines a e k = record { calls = k.calls; life = by (refusal p t x (call_of x.state)) refl }
+-- a call that gives nothing has the same tale wherever its answer comes from
+asking_tale : (image : List ℕ) (h id : ℕ) (x : Solo) (v : Response) (lines : List (List ℕ)) (a : Lived) → IsAsking image a x lines → OfSignals (λ stage. StageTale image stage x v lines a) h id
+asking_tale image h id x v lines a k = record {
+  due = λ code. record { waits = k.waits; same = k.same code; silent = k.silent code };
+  answers = λ reply. k;
+  queues = k;
+}
+
+-- what it has come to, c, gives and prints what d does
+as_called : (image : List ℕ) (x : Solo) (c d : Call) → call_of x.state ≡ c → ((slots : List ℕ) (code : ℕ) → given_to c slots code x ≡ given_to d slots code x)
+    → ((code : ℕ) → printed_by image c code x.state ≡ printed_by image d code x.state) → ServesAs image d x
+as_called image x c d f gives prints = record {
+  gives = λ slots code. ap (λ z. given_to z slots code x) f ∙ gives slots code;
+  prints = λ code. ap (λ z. printed_by image z code x.state) f ∙ prints code;
+}
+
+own_asked : (p : Program) (n : ℕ) (t : Tid) (w : Spots) (lines : List (List ℕ)) (a : Lived) → (w.threads t).life ≡ On n Running
+    → Tale (code_of p) (w.threads t) lines a → Tale (code_of p) (record (w.threads t) { life = On n (stage_of_call p n t w) }) lines a
+own_asked p n t w lines a e k = record { calls = k.calls; life = by (refusal p t x (call_of x.state)) refl }
   where
+    s : Spot
+    s = w.threads t
+
     x : Solo
     x = s.guest.solo
 
@@ -107,9 +130,21 @@ own_asked p n t s lines a e k = record { calls = k.calls; life = by (refusal p t
     due c code f same silent = record { waits = was; same = ap (λ z. given_to z [] code x) f ∙ same; silent = ap (λ z. printed_by (code_of p) z code x.state) f ∙ silent }
 
     serves : (c : Call) → call_of x.state ≡ c → InService c a.coming.slots x x → IsServed (code_of p) c a x lines
-    serves c f midst = record { was = x; at = was.at; is = sym f; midst = midst; lines_are = was.lines_are }
+    serves c f midst = record { was = x; at = was.at; serves = as_called (code_of p) x c c f (λ slots code. refl) (λ code. refl); midst = midst; lines_are = was.lines_are }
 
-    passed : (c : Call) → call_of x.state ≡ c → StageTale (code_of p) (passed_stage p n t x c) x s.verdict lines a
+    asks : (c : Call) → call_of x.state ≡ c → ((code : ℕ) → given_to c [] code x ≡ x) → ((code : ℕ) → printed_by (code_of p) c code x.state ≡ []) → IsAsking (code_of p) a x lines
+    asks c f same silent = record { waits = was; same = λ code. ap (λ z. given_to z [] code x) f ∙ same code; silent = λ code. ap (λ z. printed_by (code_of p) z code x.state) f ∙ silent code }
+
+    signals : (id : ℕ) (up : Bool) → IsAsking (code_of p) a x lines → StageTale (code_of p) (signal_asked n id up (w.sems n)) x s.verdict lines a
+    signals id up k = signal_asked_by (λ stage. StageTale (code_of p) stage x s.verdict lines a) n id up (w.sems n) (asking_tale (code_of p) n id x s.verdict lines a k) k
+
+    sends : (name to : ℕ) (life : Life) → call_of x.state ≡ Migrate name to → StageTale (code_of p) (sent_stage n (eqb name (tid_value t)) to life) x s.verdict lines a
+    sends name to life f = elim (eqb name (tid_value t)) as (λ b. StageTale (code_of p) (sent_stage n b to life) x s.verdict lines a) [
+      | true ↦ record { was = x; at = was.at; serves = as_called (code_of p) x (Migrate name to) (MigrateSelf to) f (λ slots code. refl) (λ code. refl); midst = (was.empty, refl); lines_are = was.lines_are }
+      | false ↦ due (Migrate name to) _ f refl refl
+    ]
+
+    passed : (c : Call) → call_of x.state ≡ c → StageTale (code_of p) (passed_stage p n t w c) x s.verdict lines a
     passed (Exit value) f = record {
       was = x;
       reached = was.at.reached;
@@ -121,7 +156,12 @@ own_asked p n t s lines a e k = record { calls = k.calls; life = by (refusal p t
     passed Nodes f = due Nodes _ f refl refl
     passed Yield f = due Yield _ f refl refl
     passed (Create entry argument priority) f = serves (Create entry argument priority) f (was.empty, refl)
-    passed (Join name) f = record { waits = was; name = name; is = f }
+    passed (Join name) f = asks (Join name) f (λ code. refl) (λ code. refl)
+    passed (Detach name) f = asks (Detach name) f (λ code. refl) (λ code. refl)
+    passed (SemNew value) f = due (SemNew value) _ f refl refl
+    passed (SemP id) f = signals id false (asks (SemP id) f (λ code. refl) (λ code. refl))
+    passed (SemV id) f = signals id true (asks (SemV id) f (λ code. refl) (λ code. refl))
+    passed (Migrate name to) f = sends name to (w.threads (tid_of name)).life f
     passed (Isomalloc len) f = serves (Isomalloc len) f (ap (λ z. with_slots z x) (sym was.empty))
     passed (Isofree address) f = serves (Isofree address) f (was.empty, inl refl)
     passed (MigrateSelf to) f = serves (MigrateSelf to) f (was.empty, refl)
@@ -129,20 +169,23 @@ own_asked p n t s lines a e k = record { calls = k.calls; life = by (refusal p t
     passed Halt f = was
     passed (Unknown number) f = due (Unknown number) _ f refl refl
 
-    by : (o : Option Reply) → refusal p t x (call_of x.state) ≡ o → StageTale (code_of p) (asked_stage p n t x (call_of x.state) o) x s.verdict lines a
+    by : (o : Option Reply) → refusal p t x (call_of x.state) ≡ o → StageTale (code_of p) (asked_stage p n t w (call_of x.state) o) x s.verdict lines a
     by (Some reply) f = due (call_of x.state) (reply_code reply) refl (refused_same p t x (call_of x.state) reply f) (refused_silent p t x (call_of x.state) reply f)
     by None f = passed (call_of x.state) refl
 
-own_heard : (image : List ℕ) (n : ℕ) (births : ℕ → List Birth) (life : Life) (x : Solo) (v : Response) (lines : List (List ℕ)) (a : Lived)
-    → MayHear n life → LifeTale image life x v lines a → LifeTale image (heard_at births life) x v lines a
-own_heard image n births (On m (Asks u)) x v lines a h k = by (verdict (slice_get (births u.home) u.seq))
+own_heard : (image : List ℕ) (n : ℕ) (births : ℕ → List Birth) (sems : ℕ → List SemRow) (life : Life) (x : Solo) (v : Response) (lines : List (List ℕ)) (a : Lived)
+    → MayHear n life → LifeTale image life x v lines a → LifeTale image (heard_at births sems life) x v lines a
+own_heard image n births sems (On m (Asks u)) x v lines a h k = by (verdict (slice_get (births u.home) u.seq))
   where
     by : (o : Verdict) → LifeTale image (heard_life m u o) x v lines a
     by (verdicts.Now end) = k
     by verdicts.Later = k
     by verdicts.NoSuch = k
     by verdicts.Taken = k
-own_heard image n births life x v lines a h k = grind (arith, h)
+own_heard image n births sems (On m (Detaches u)) x v lines a h k = k
+own_heard image n births sems (On m (Signals id up)) x v lines a h k =
+    signal_by (λ stage. StageTale image stage x v lines a) (node_in id) m id up (sems (node_in id)) (asking_tale image (node_in id) id x v lines a k)
+own_heard image n births sems life x v lines a h k = grind (arith, h)
 
 -- ## Slots
 
@@ -155,7 +198,7 @@ own_took : (image : List ℕ) (n first count : ℕ) (life : Life) (g : Guest) (v
 own_took image n first count (On m (Served (Isomalloc len))) g v lines a may k = record {
   was = k.was;
   at = k.at;
-  is = k.is;
+  serves = k.serves;
   midst = ap (λ (z : Solo). with_slots (run first count) z) k.midst ∙ ap (λ (m : Memory). record k.was { state = record k.was.state { memory = m } }) (sym (more_slots a.coming.slots (run first count) k.was.state.memory));
   lines_are = k.lines_are;
 }
@@ -164,7 +207,7 @@ own_took image n first count life g v lines a may k = grind (arith, may)
 own_gave : (image : List ℕ) (n : ℕ) (slots : List ℕ) (life : Life) (g : Guest) (v : Response) (lines : List (List ℕ)) (a : Lived) → MayGive n life g slots → LifeTale image life g.solo v lines a
     → LifeTale image (gave_life life) (gives_slots slots g).solo v lines a
 own_gave image n slots (On m (Ends end)) g v lines a may k = k
-own_gave image n slots (On m (Served (Isofree address))) g v lines a may k = record { was = k.was; at = k.at; is = k.is; midst = (k.midst.0, inr (by k.midst.1)); lines_are = k.lines_are }
+own_gave image n slots (On m (Served (Isofree address))) g v lines a may k = record { was = k.was; at = k.at; serves = k.serves; midst = (k.midst.0, inr (by k.midst.1)); lines_are = k.lines_are }
   where
     by : ((g.solo ≡ k.was) ⊎ (g.solo ≡ free_of (emptied (heap_of k.was) address) k.was)) → (gives_slots slots g).solo ≡ free_of (emptied (heap_of k.was) address) k.was
     by (inl same) = ap (λ (z : List ℕ). free_of z g.solo) may.1 ∙ ap (λ (z : Solo). free_of (emptied (heap_of z) address) z) same
@@ -192,6 +235,13 @@ own_shown : (image : List ℕ) (n : ℕ) (life : Life) (x : Solo) (v : Response)
     → LifeTale image (shown_life life) x v (lines ++ asked_bytes life ∷ []) a
 own_shown image n (On m (Shows bytes)) x v lines a may k = (bytes, k.0, ap (λ z. z ++ bytes ∷ []) k.1)
 own_shown image n life x v lines a may k = grind (arith, may)
+
+-- whoever is set going waited for the reply of a call that gives nothing, or was ready
+going_tale : (image : List ℕ) (life new : Life) (x : Solo) (v : Response) (lines : List (List ℕ)) (a : Lived) → MayGo life new → LifeTale image life x v lines a → LifeTale image new x v lines a
+going_tale image life new x v lines a (Wakes h m id e f) k = subst (λ z. LifeTale image z x v lines a) (sym f)
+    (answered_by (λ stage. StageTale image stage x v lines a) h m id (replies.Value 0) (asking_tale image h id x v lines a (subst (λ z. LifeTale image z x v lines a) e k)))
+going_tale image life new x v lines a (IsSent m to e f) k = subst (λ z. LifeTale image z x v lines a) (sym f) (subst (λ z. LifeTale image z x v lines a) e k)
+going_tale image life new x v lines a (Joins m u reply second e f) k = subst (λ z. LifeTale image z x v lines a) (sym f) (subst (λ z. LifeTale image z x v lines a) e k)
 
 -- ## A label
 
@@ -229,55 +279,62 @@ module _ (p : Program) (t : Tid) where
     where
       due : IsServed (code_of p) (Create entry a0 h.0) a (w.threads by).guest.solo lines → IsDue (code_of p) (tid_value u) a (w.threads by).guest.solo lines
       due z =
-          let is : call_of (w.threads by).guest.solo.state ≡ Create entry a0 h.0 = ap (λ (y : Solo). call_of y.state) z.midst.1 ∙ sym z.is in
+          let serves : ServesAs (code_of p) (Create entry a0 h.0) (w.threads by).guest.solo = subst (λ (y : Solo). ServesAs (code_of p) (Create entry a0 h.0) y) (sym z.midst.1) z.serves in
           record {
             waits = record { at = subst (λ (y : Solo). Calling (code_of p) a y) (sym z.midst.1) z.at; empty = z.midst.0; lines_are = z.lines_are };
-            same = ap (λ c. given_to c [] (tid_value u) (w.threads by).guest.solo) is;
-            silent = ap (λ c. printed_by (code_of p) c (tid_value u) (w.threads by).guest.solo.state) is;
+            same = serves.gives [] (tid_value u);
+            silent = serves.prints (tid_value u);
           }
   creator n u (why.Inside by bubble) entry a0 w lines a h k = k
   creator n u (why.Service by count) entry a0 w lines a h k = k
 
-  -- a joiner is to be answered
-  joined_by : (u : Tid) (end : End) (o : Option (Tid × ℕ)) (w : Spots) (lines : List (List ℕ)) (a : Lived) → JoinerAwaits u o w → Told_of (w.threads t) lines a → Told_of (joiner_served u end o w.threads t) lines a
-  joined_by u end None w lines a h k = k
-  joined_by u end (Some by) w lines a h k = beside w.threads by.0 _ lines a (λ z. record { calls = z.calls; life = subst (λ life. LifeTale (code_of p) life (w.threads by.0).guest.solo (w.threads by.0).verdict lines a) h z.life }) k
+  -- whoever is set going
+  set_tale : (going : Going) (w : Tid → Spot) (lines : List (List ℕ)) (a : Lived) → GoesRightly going w → Told_of (w t) lines a → Told_of (set_going going w t) lines a
+  set_tale None w lines a h k = k
+  set_tale (Some going) w lines a h k =
+      let u : Tid = going.0 in
+      beside w u _ lines a (λ z. with_life (code_of p) (w u) going.1 lines lines a z (λ y. going_tale (code_of p) (w u).life going.1 (w u).guest.solo (w u).verdict lines a h y)) k
+
+  -- a label of u that sets another thread going, as t sees it
+  setting : (going : Going) (w : Tid → Spot) (u : Tid) (s : Spot) (lines : List (List ℕ)) (a : Lived) → GoesRightly going w → (Told_of (w u) lines a → Told_of s lines a) → Told_of (w t) lines a
+      → Told_of (cond (is_tid u t) s (set_going going w t)) lines (cond (is_tid u t) a a)
+  setting going w u s lines a h f k = elim (is_tid u t) as (λ v. is_tid u t ≡ v → Told_of (cond v s (set_going going w t)) lines (cond v a a)) [
+    | true ↦ λ e. f (subst (λ z. Told_of (w z) lines a) (sym (is-true u t e)) k)
+    | false ↦ λ e. set_tale going w lines a h k
+  ] refl
 
   -- each label keeps it
-  pub label_tale : (on : Occasion) (n : ℕ) (l : Label) (w : World) (lines : List (List ℕ)) (a : Lived) → SoloRule p on n l w → LifeRule p on n l w → RepliesRule p on n l w
+  pub label_tale : (on : Occasion) (n : ℕ) (l : Label) (w : World) (lines : List (List ℕ)) (a : Lived) → SoloRule p on n l w → LifeRule p on n l w → RepliesRule p on n l w → GoesRightly (sets_going p n l w.spots) w.spots.threads
       → Told_of (w.spots.threads t) lines a
       → Told_of ((after_label p n l w.spots).threads t) (written_then t l w.spots lines) (cond (is_about t (subject l)) (lived_then w.spots.remote l a) a)
-  label_tale on n (Born u why entry a0 a1 sp slot) w lines a solo life replies k =
+  label_tale on n (Born u why entry a0 a1 sp slot) w lines a solo life replies going k =
       elim (is_tid u t) as (λ v. is_tid u t ≡ v → Told_of (cond v (born_spot n (stack_bytes why w.spots.remote) entry a0 a1 sp slot (priority_by w.spots.threads why)) (creator_served n u why w.spots.threads t)) lines (cond v (lived_then w.spots.remote (Born u why entry a0 a1 sp slot) a) a)) [
         | true ↦ λ e. own_born (code_of p) n (record { entry = entry; argument = a0; stack = slot; bytes = stack_bytes why w.spots.remote }) a1 sp (priority_by w.spots.threads why) (w.spots.threads t) lines a (subst (λ z. (w.spots.threads z).life ≡ Unborn) (is-true u t e) life.0) solo.1 solo.2 k
         | false ↦ λ e. creator n u why entry a0 w.spots lines a solo.0 k
       ] refl
-  label_tale on n (Ran u vp count stop) w lines a solo life replies k = quietly w.spots.threads u _ lines a _ (λ z. own_ran p n count (quantum_in on.act) stop (w.spots.threads u) lines a life solo.0 solo.1 z) k
-  label_tale on n (Asked u call args bytes) w lines a solo life replies k = quietly w.spots.threads u _ lines a a (λ z. own_asked p n u (w.spots.threads u) lines a life z) k
-  label_tale on n (Heard u) w lines a solo life replies k =
-      quietly w.spots.threads u _ lines a a (λ z. with_life (code_of p) (w.spots.threads u) _ lines lines a z (λ y. own_heard (code_of p) n w.spots.births (w.spots.threads u).life _ _ lines a life y)) k
-  label_tale on n (Judged u reply extra) w lines a solo life replies k =
+  label_tale on n (Ran u vp count stop) w lines a solo life replies going k = quietly w.spots.threads u _ lines a _ (λ z. own_ran p n count (quantum_in on.act) stop (w.spots.threads u) lines a life solo.0 solo.1 z) k
+  label_tale on n (Asked u call args bytes) w lines a solo life replies going k = setting (going_by_call p n u w.spots) w.spots.threads u _ lines a going (λ z. own_asked p n u w.spots lines a life z) k
+  label_tale on n (Heard u) w lines a solo life replies going k =
+      setting (wakes_heard w.spots.sems (w.spots.threads u).life) w.spots.threads u _ lines a going
+      (λ z. with_life (code_of p) (w.spots.threads u) _ lines lines a z (λ y. own_heard (code_of p) n w.spots.births w.spots.sems (w.spots.threads u).life _ _ lines a life y)) k
+  label_tale on n (Judged u reply extra) w lines a solo life replies going k =
       quietly w.spots.threads u _ lines a _ (λ z. record { calls = z.calls; life = own_judged (code_of p) n (w.spots.threads u).life (w.spots.threads u).guest (w.spots.threads u).verdict lines a reply extra life replies z.life }) k
-  label_tale on n (Told u) w lines a solo life replies k = quietly w.spots.threads u _ lines a _ (λ z. own_told (code_of p) n (w.spots.threads u) lines a life z) k
-  label_tale on n (Took u first count) w lines a solo life replies k =
+  label_tale on n (Told u) w lines a solo life replies going k = quietly w.spots.threads u _ lines a _ (λ z. own_told (code_of p) n (w.spots.threads u) lines a life z) k
+  label_tale on n (Took u first count) w lines a solo life replies going k =
       quietly w.spots.threads u _ lines a _ (λ z. record { calls = z.calls; life = own_took (code_of p) n first count (w.spots.threads u).life (w.spots.threads u).guest (w.spots.threads u).verdict lines a life z.life }) k
-  label_tale on n (Gave u slots) w lines a solo life replies k =
+  label_tale on n (Gave u slots) w lines a solo life replies going k =
       quietly w.spots.threads u _ lines a a (λ z. record { calls = z.calls; life = own_gave (code_of p) n slots (w.spots.threads u).life (w.spots.threads u).guest (w.spots.threads u).verdict lines a life z.life }) k
-  label_tale on n (Ended u end) w lines a solo life replies k =
+  label_tale on n (Ended u end) w lines a solo life replies going k =
       quietly w.spots.threads u _ lines a a (λ z. with_life (code_of p) (w.spots.threads u) _ lines lines a z (λ y. subst (λ h. LifeTale (code_of p) h (w.spots.threads u).guest.solo (w.spots.threads u).verdict lines a) life y)) k
-  label_tale on n (Known u) w lines a solo life replies k =
-      let end : End = end_in (w.spots.threads u).life in
-      let o : Option (Tid × ℕ) = joiner (slice_get (w.spots.births u.home) u.seq) in
-      elim (is_tid u t) as (λ v. is_tid u t ≡ v → Told_of (cond v (record (w.spots.threads u) { life = Gone end }) (joiner_served u end o w.spots.threads t)) lines (cond v a a)) [
-        | true ↦ λ e. with_life (code_of p) (w.spots.threads u) (Gone end) lines lines a (subst (λ z. Told_of (w.spots.threads z) lines a) (sym (is-true u t e)) k) (λ y. own_known (code_of p) (w.spots.threads u).life _ _ lines a life.0 y)
-        | false ↦ λ e. joined_by u end o w.spots lines a life.2 k
-      ] refl
-  label_tale on n (Shown u) w lines a solo life replies k =
+  label_tale on n (Known u) w lines a solo life replies going k =
+      setting (sets_going p n (Known u) w.spots) w.spots.threads u _ lines a going
+      (λ z. with_life (code_of p) (w.spots.threads u) _ lines lines a z (λ y. own_known (code_of p) (w.spots.threads u).life _ _ lines a life.0 y)) k
+  label_tale on n (Shown u) w lines a solo life replies going k =
       mine w.spots.threads u _ lines _ a a (λ z. with_life (code_of p) (w.spots.threads u) _ lines _ a z (λ y. own_shown (code_of p) n (w.spots.threads u).life _ _ lines a life y)) k
-  label_tale on n (Halted u) w lines a solo life replies k =
+  label_tale on n (Halted u) w lines a solo life replies going k =
       quietly w.spots.threads u _ lines a a (λ z. with_life (code_of p) (w.spots.threads u) _ lines lines a z (λ y. subst (λ h. LifeTale (code_of p) h (w.spots.threads u).guest.solo (w.spots.threads u).verdict lines a) life y)) k
-  label_tale on n (Left u to) w lines a solo life replies k =
+  label_tale on n (Left u to) w lines a solo life replies going k =
       quietly w.spots.threads u _ lines a a (λ z. with_life (code_of p) (w.spots.threads u) _ lines lines a z (λ y. own_left (code_of p) n to (w.spots.threads u).life _ _ lines a life.0 y)) k
-  label_tale on n (Came u) w lines a solo life replies k =
+  label_tale on n (Came u) w lines a solo life replies going k =
       quietly w.spots.threads u _ lines a a (λ z. with_life (code_of p) (w.spots.threads u) _ lines lines a z (λ y. own_came (code_of p) n (w.spots.threads u).life _ _ lines a life y)) k
-  label_tale on n l w lines a solo life replies k = absurd life
+  label_tale on n l w lines a solo life replies going k = absurd life

@@ -20,7 +20,7 @@ use Rattle.run_trace.specs.Same.{Lived}
 use Rattle.run_trace.specs.Rules.{MayJudge, MayTell, IsReply}
 use Rattle.run_trace.specs.Spots.{Due, Served, Told_next, Told_then, Showing, Shown_there, Answers, Answered, Life, On, Response, Spot, judged_life, judged_guest, told_stage, told_guest}
 use Rattle.trace_laws.proofs.Lives.OwnLives.{with_slots, free_of, is_address, allotted, given_to, goes_on, ran_on, answered_with, solo_after, printed_by, printed_at, named_line, EachCalls}
-use Rattle.trace_laws.proofs.Lives.Tales.{after_nothing, Comes, Calling, lines_before, IsReady, IsWaiting, IsPrinting, IsJudged, StageTale, LifeTale, Tale}
+use Rattle.trace_laws.proofs.Lives.Tales.{after_nothing, Comes, Calling, lines_before, IsReady, IsWaiting, IsPrinting, IsJudged, ServesAs, StageTale, LifeTale, Tale}
 
 -- ## Memory and places
 
@@ -65,14 +65,14 @@ judged_plainly image a x lines reply extra k same silent = record {
 
 -- the reply of a call that its node serves
 judged_served : (image : List ℕ) (a : Lived) (x y : Solo) (lines : List (List ℕ)) (reply : ℕ) (extra : Extra) (c : Call)
-    → Calling image a y → c ≡ call_of y.state → lines ≡ lines_before image a → x ≡ given_to c a.coming.slots reply y → printed_by image c reply y.state ≡ []
+    → Calling image a y → ServesAs image c y → lines ≡ lines_before image a → x ≡ given_to c a.coming.slots reply y → printed_by image c reply y.state ≡ []
     → IsJudged image (record { code = reply; extra = extra }) (with_reply reply extra a) x lines
-judged_served image a x y lines reply extra c at is lines_are same silent = record {
+judged_served image a x y lines reply extra c at serves lines_are same silent = record {
   was = y;
   at = at;
-  same = same ∙ ap (λ z. given_to z a.coming.slots reply y) is;
+  same = same ∙ sym (serves.gives a.coming.slots reply);
   verdict = refl;
-  lines_are = lines_are ∙ sym (append-nil (lines_before image a)) ∙ ap (λ z. lines_before image a ++ z) (sym silent ∙ ap (λ z. printed_by image z reply y.state) is);
+  lines_are = lines_are ∙ sym (append-nil (lines_before image a)) ∙ ap (λ z. lines_before image a ++ z) (sym (serves.prints reply ∙ silent));
 }
 
 -- a block is placed where the reply is an address
@@ -114,23 +114,23 @@ own_judged image n (On m Showing) g v lines a reply extra may is k =
       lines_are = now ∙ ap (λ z. lines_before image a ++ z ∷ []) (sym (ap (λ z. named_line image z g.solo.state) k1.is));
     }
 own_judged image n (On m (Answers h answer second)) g v lines a reply extra may is k = record {
-  judged = judged_plainly image a g.solo lines reply extra k.waits (ap (λ z. given_to z [] reply g.solo) k.is) (ap (λ z. printed_by image z reply g.solo.state) k.is);
+  judged = judged_plainly image a g.solo lines reply extra k.waits (k.same reply) (k.silent reply);
   at = k.waits.at;
   lines_are = k.waits.lines_are;
 }
 own_judged image n (On m (Served (Create entry argument priority))) g v lines a reply extra may is k =
-    judged_served image a g.solo k.was lines reply extra (Create entry argument priority) k.at k.is k.lines_are k.midst.1 refl
+    judged_served image a g.solo k.was lines reply extra (Create entry argument priority) k.at k.serves k.lines_are k.midst.1 refl
 own_judged image n (On m (Served (Isomalloc len))) g v lines a reply extra may is k =
-    judged_served image a _ k.was lines reply extra (Isomalloc len) k.at k.is k.lines_are
+    judged_served image a _ k.was lines reply extra (Isomalloc len) k.at k.serves k.lines_are
     (placed_so g.solo k.was a.coming.slots len reply (place (heap_of g.solo) (rounded len)) refl k.midst is.0) refl
 own_judged image n (On m (Served (Isofree address))) g v lines a reply extra may is k =
-    judged_served image a _ k.was lines reply extra (Isofree address) k.at k.is k.lines_are
+    judged_served image a _ k.was lines reply extra (Isofree address) k.at k.serves k.lines_are
     (freed_so g.solo k.was address k.midst.1 is.0.1
     ∙ sym (ap (λ z. given_to (Isofree address) a.coming.slots z k.was) is.0.0)) refl
 own_judged image n (On m (Served (MigrateSelf to))) g v lines a reply extra may is k = by (eqb to m)
   where
     judged : IsJudged image (record { code = reply; extra = extra }) (with_reply reply extra a) g.solo lines
-    judged = judged_served image a g.solo k.was lines reply extra (MigrateSelf to) k.at k.is k.lines_are k.midst.1 refl
+    judged = judged_served image a g.solo k.was lines reply extra (MigrateSelf to) k.at k.serves k.lines_are k.midst.1 refl
 
     by : (b : Bool) → StageTale image (cond b Told_next (Told_then to)) g.solo (record { code = reply; extra = extra }) lines (with_reply reply extra a)
     by true = judged

@@ -13,13 +13,13 @@ use Rattle.std.proofs.lemmas.Bool.{eq-eqb}
 use Rattle.std.specs.Prelude.{⊤}
 use Rattle.run_trace.specs.Alone.{is_about}
 use Rattle.run_trace.specs.World.{World, world_after}
-use Rattle.trace_laws.specs.Obeys.{ObeyEach, Obey, world_at}
+use Rattle.trace_laws.specs.Obeys.{ObeyEach, Obey, AgreesRule, world_at}
 use Rattle.run_trace.specs.Cluster.{Net, fresh_net}
 use Rattle.run_trace.specs.Holding.{Location, On_node, On_link, IsAt}
 use Rattle.run_trace.specs.Legality.{Legal}
 use Rattle.run_trace.specs.Rules.{spots_of, SoloRule, LifeRule, RepliesRule, Occasion, saying}
 use Rattle.run_trace.specs.Same.{Start, Stretch, Lived, lived_then, lived_in, lived, written_then, written_in, written, IsUpTo, HasLivedLike, HasWritten, HasEnded}
-use Rattle.run_trace.specs.Spots.{Ready, Stays, Shows, Showing, Shown_there, Asks, Awaits, Answers, Answered, Life, Unborn, On, Moving, Noting, Gone, Response, Spot, Spots, at_first, after_labels}
+use Rattle.run_trace.specs.Spots.{Ready, Stays, Shows, Showing, Shown_there, Asks, Awaits, Answers, Answered, Detaches, Signals, Queues, Life, Unborn, On, Moving, Noting, Gone, Response, Spot, Spots, at_first, after_labels}
 use Rattle.run_trace.specs.Stands.{Stands, busy}
 use Rattle.run_trace.specs.Trace.{net_after_trace}
 use Rattle.trace_laws.proofs.Outcomes.Consequences.{Found, found, LivesAt, remote_are}
@@ -27,30 +27,31 @@ use Rattle.trace_laws.proofs.Lives.OwnLives.{end_at, ran_on, solo_after, named_l
 use Rattle.trace_laws.proofs.Lives.Tales.{Comes, lines_before, LifeTale, Tale}
 use Rattle.trace_laws.proofs.Lives.OwnReplies.{came_so}
 use Rattle.trace_laws.proofs.Lives.OwnLabels.{label_tale}
+use Rattle.trace_laws.proofs.Lives.Goings.{label_goes}
 use Rattle.trace_laws.proofs.Outcomes.Wholes.{starts, run_whole, Whole}
 
 -- ## Over a trace
 
 module _ (p : Program) (t : Tid) where
-  labels_tale : (on : Occasion) (n : ℕ) (ls : List Label) (w : World) (lines : List (List ℕ)) (a : Lived) → ObeyEach SoloRule p on n ls w → ObeyEach LifeRule p on n ls w → ObeyEach RepliesRule p on n ls w
+  labels_tale : (on : Occasion) (n : ℕ) (ls : List Label) (w : World) (lines : List (List ℕ)) (a : Lived) → ObeyEach SoloRule p on n ls w → ObeyEach LifeRule p on n ls w → ObeyEach RepliesRule p on n ls w → ObeyEach AgreesRule p on n ls w
       → Tale (code_of p) (w.spots.threads t) lines a → Tale (code_of p) ((after_labels p n ls w.spots).threads t) (written_in p n t ls w.spots lines) (lived_in w.spots.remote t ls a)
-  labels_tale on n [] w lines a solo life replies k = k
-  labels_tale on n (l ∷ ls) w lines a solo life replies k =
-      labels_tale (saying l on) n ls (world_after p n l w) (written_then t l w.spots lines) (cond (is_about t (subject l)) (lived_then w.spots.remote l a) a) solo.1 life.1 replies.1
-      (label_tale p t on n l w lines a solo.0 life.0 replies.0 k)
+  labels_tale on n [] w lines a solo life replies agrees k = k
+  labels_tale on n (l ∷ ls) w lines a solo life replies agrees k =
+      labels_tale (saying l on) n ls (world_after p n l w) (written_then t l w.spots lines) (cond (is_about t (subject l)) (lived_then w.spots.remote l a) a) solo.1 life.1 replies.1 agrees.1
+      (label_tale p t on n l w lines a solo.0 life.0 replies.0 (label_goes p w.spots agrees.0 n l) k)
 
-  trace_tale : (base : Net) (trace : List Entry) → Obey SoloRule p (at_first p) base trace → Obey LifeRule p (at_first p) base trace → Obey RepliesRule p (at_first p) base trace
+  trace_tale : (base : Net) (trace : List Entry) → Obey SoloRule p (at_first p) base trace → Obey LifeRule p (at_first p) base trace → Obey RepliesRule p (at_first p) base trace → Obey AgreesRule p (at_first p) base trace
       → Tale (code_of p) ((spots_of p (at_first p) trace).threads t) (written p t trace) (lived t trace)
-  trace_tale base [] solo life replies = record { calls = tt; life = (refl, refl) }
-  trace_tale base (x ∷ xs) solo life replies =
+  trace_tale base [] solo life replies agrees = record { calls = tt; life = (refl, refl) }
+  trace_tale base (x ∷ xs) solo life replies agrees =
       subst (λ z. Tale (code_of p) ((spots_of p (at_first p) (x ∷ xs)).threads t) (written p t (x ∷ xs)) (lived_in z t x.labels (lived t xs))) (remote_are p xs)
-      (labels_tale (occasion x (world_at (spots_of p (at_first p) xs) (net_after_trace p base xs))) x.node x.labels (world_at (spots_of p (at_first p) xs) (net_after_trace p base xs)) (written p t xs) (lived t xs) solo.1 life.1 replies.1 (trace_tale base xs solo.0 life.0 replies.0))
+      (labels_tale (occasion x (world_at (spots_of p (at_first p) xs) (net_after_trace p base xs))) x.node x.labels (world_at (spots_of p (at_first p) xs) (net_after_trace p base xs)) (written p t xs) (lived t xs) solo.1 life.1 replies.1 agrees.1 (trace_tale base xs solo.0 life.0 replies.0 agrees.0))
 
   legal_whole : (trace : List Entry) → Legal p trace → Whole p (at_first p) (fresh_net p) trace
   legal_whole trace l = run_whole p (at_first p) (fresh_net p) (starts p) trace l.runs
 
   legal_tale : (trace : List Entry) → Legal p trace → Tale (code_of p) ((spots_of p (at_first p) trace).threads t) (written p t trace) (lived t trace)
-  legal_tale trace l = let all : Whole p (at_first p) (fresh_net p) trace = legal_whole trace l in trace_tale (fresh_net p) trace all.obeys.solo all.obeys.life all.obeys.replies
+  legal_tale trace l = let all : Whole p (at_first p) (fresh_net p) trace = legal_whole trace l in trace_tale (fresh_net p) trace all.obeys.solo all.obeys.life all.obeys.replies all.agrees
 
   legal_stands : (trace : List Entry) → Legal p trace → Stands p (spots_of p (at_first p) trace) (net_after_trace p (fresh_net p) trace)
   legal_stands trace l = (legal_whole trace l).stands
@@ -94,6 +95,9 @@ rests image (On m Shown_there) x v lines a s k = record {
 }
 rests image (On m (Asks u)) x v lines a s k = record { comes = k.waits.at.reached; lines_are = k.waits.lines_are }
 rests image (On m (Awaits u)) x v lines a s k = record { comes = k.waits.at.reached; lines_are = k.waits.lines_are }
+rests image (On m (Detaches u)) x v lines a s k = record { comes = k.waits.at.reached; lines_are = k.waits.lines_are }
+rests image (On m (Signals id up)) x v lines a s k = record { comes = k.waits.at.reached; lines_are = k.waits.lines_are }
+rests image (On m (Queues id)) x v lines a s k = record { comes = k.waits.at.reached; lines_are = k.waits.lines_are }
 rests image (On m (Answered h)) x v lines a s k = record { comes = k.at.reached; lines_are = k.lines_are }
 rests image (Moving from to) x v lines a s k = record { comes = k.reached; lines_are = k.lines_are }
 rests image (Noting n end) x v lines a s k = record { comes = tt; lines_are = k.lines_are }

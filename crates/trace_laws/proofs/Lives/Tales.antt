@@ -7,12 +7,12 @@ use Rattle.rv_step.specs.Run.{after, next_of}
 use Rattle.marcel_core.specs.declared.end.End.{End}
 use Rattle.iso_blocks.specs.Heap.{emptied}
 use Rattle.run_trace.specs.declared.call.Call.{Call}
-use Rattle.run_trace.specs.declared.call.Call.TheVariants.{Join, Isomalloc, Isofree, Print}
+use Rattle.run_trace.specs.declared.call.Call.TheVariants.{Isomalloc, Isofree, Print}
 use Rattle.run_trace.specs.Guests.{Solo, heap_of}
 use Rattle.run_trace.specs.Calls.{call_of}
 use Rattle.run_trace.specs.Same.{Start, Stretch, Lived}
-use Rattle.run_trace.specs.Spots.{Stage, Ready, Running, Due, Served, Told_next, Told_then, Departs, Ends, Leaves, Halts, Stays, Shows, Showing, Shown_there, Asks, Awaits, Answers, Answered, Life, Unborn, On, Moving, Noting, Gone, Response, Spot}
-use Rattle.trace_laws.proofs.Lives.OwnLives.{end_at, with_slots, free_of, given_to, solo_after, printed_at, named_line, lines_after, EachCalls}
+use Rattle.run_trace.specs.Spots.{Stage, Ready, Running, Due, Served, Told_next, Told_then, Departs, Ends, Leaves, Halts, Stays, Shows, Showing, Shown_there, Asks, Awaits, Answers, Answered, Detaches, Signals, Queues, Life, Unborn, On, Moving, Noting, Gone, Response, Spot}
+use Rattle.trace_laws.proofs.Lives.OwnLives.{end_at, with_slots, free_of, given_to, solo_after, printed_by, printed_at, named_line, lines_after, EachCalls}
 
 -- ## Steps
 
@@ -72,10 +72,15 @@ InService (Isomalloc len) slots y x = x ≡ with_slots slots y
 InService (Isofree address) slots y x = (slots ≡ []) × ((x ≡ y) ⊎ (x ≡ free_of (emptied (heap_of y) address) y))
 InService _ slots y x = (slots ≡ []) × (x ≡ y)
 
+-- the call that it has come to gives and prints what this one does
+pub record ServesAs (image : List ℕ) (c : Call) (x : Solo) : Type 0 where
+  pub gives : (slots : List ℕ) (code : ℕ) → given_to (call_of x.state) slots code x ≡ given_to c slots code x
+  pub prints : (code : ℕ) → printed_at image code x ≡ printed_by image c code x.state
+
 pub record IsServed (image : List ℕ) (c : Call) (a : Lived) (x : Solo) (lines : List (List ℕ)) : Type 0 where
   pub was : Solo
   pub at : Calling image a was
-  pub is : c ≡ call_of was.state
+  pub serves : ServesAs image c was
   pub midst : InService c a.coming.slots was x
   pub lines_are : lines ≡ lines_before image a
 
@@ -87,10 +92,11 @@ pub record IsPrinting (image : List ℕ) (bytes : List ℕ) (a : Lived) (x : Sol
   pub is : call_of x.state ≡ Print address len
   pub bytes_are : bytes ≡ bytes_from image x.state.memory address len
 
-pub record IsJoining (image : List ℕ) (a : Lived) (x : Solo) (lines : List (List ℕ)) : Type 0 where
+-- it waits for the reply of a call that gives nothing and prints nothing, whatever it is answered
+pub record IsAsking (image : List ℕ) (a : Lived) (x : Solo) (lines : List (List ℕ)) : Type 0 where
   pub waits : IsWaiting image a x lines
-  pub name : ℕ
-  pub is : call_of x.state ≡ Join name
+  pub same : (code : ℕ) → given_to (call_of x.state) [] code x ≡ x
+  pub silent : (code : ℕ) → printed_at image code x ≡ []
 
 -- it is to be told what was judged
 pub record IsJudged (image : List ℕ) (v : Response) (a : Lived) (x : Solo) (lines : List (List ℕ)) : Type 0 where
@@ -132,10 +138,13 @@ StageTale image Stays x v lines a = IsWaiting image a x lines
 StageTale image (Shows bytes) x v lines a = IsPrinting image bytes a x × (lines ≡ lines_before image a)
 StageTale image Showing x v lines a = (bytes : List ℕ) × IsPrinting image bytes a x × (lines ≡ lines_before image a ++ bytes ∷ [])
 StageTale image Shown_there x v lines a = IsShown image v a x lines
-StageTale image (Asks u) x v lines a = IsJoining image a x lines
-StageTale image (Awaits u) x v lines a = IsJoining image a x lines
-StageTale image (Answers h reply second) x v lines a = IsJoining image a x lines
+StageTale image (Asks u) x v lines a = IsAsking image a x lines
+StageTale image (Awaits u) x v lines a = IsAsking image a x lines
+StageTale image (Answers h reply second) x v lines a = IsAsking image a x lines
 StageTale image (Answered h) x v lines a = IsAnswered image v a x lines
+StageTale image (Detaches u) x v lines a = IsAsking image a x lines
+StageTale image (Signals id up) x v lines a = IsAsking image a x lines
+StageTale image (Queues id) x v lines a = IsAsking image a x lines
 
 abbrev pub LifeTale : List ℕ → Life → Solo → Response → List (List ℕ) → Lived → Type 0
 LifeTale image Unborn x v lines a = (lines ≡ []) × (a.stretches ≡ [])

@@ -1,7 +1,7 @@
 -- Consequences: no thread is at two places, no slot has two holders, and a thread is its code run alone.
 use Rattle.std.proofs.Common.{◌≡◌, ℕ, List, [], ◌∷◌, Option, Some, None, Bool, true, false, eqb, cond, refl, sym, ap, ◌∙◌, arith, inl, inr, subst}
-use Rattle.std.specs.Prelude.{slice_get}
-use Rattle.marcel_core.specs.Homes.{joiner}
+use Rattle.marcel_sync.specs.declared.sem.SemRow.{SemRow}
+use Rattle.marcel_sync.specs.Semaphores.{node_in}
 use Rattle.std.proofs.lemmas.Bool.{eqb-true}
 use Rattle.rv_step.specs.Step.{HartState}
 use Rattle.rv_step.specs.declared.hart.Stop.{Stop}
@@ -9,15 +9,17 @@ use Rattle.rv_step.specs.declared.hart.Stop.TheVariants as stops
 use Rattle.slot_space.specs.Sets.{has}
 use Rattle.slot_space.specs.declared.names.Tid.{Tid}
 use Rattle.slot_space.specs.declared.names.Reply.{Reply}
+use Rattle.slot_space.specs.declared.names.Reply.TheVariants as replies
+use Rattle.slot_space.specs.Replies.{tid_value}
 use Rattle.marcel_core.specs.declared.birth.Birth.{Birth}
-use Rattle.marcel_core.specs.declared.end.End.{End}
 use Rattle.run_trace.specs.declared.call.Call.{Call}
+use Rattle.run_trace.specs.declared.call.Call.TheVariants.{SemP, SemV, Migrate}
 use Rattle.run_trace.specs.declared.entry.Entry.{Entry}
 use Rattle.run_trace.specs.declared.label.Label.{Label}
 use Rattle.run_trace.specs.declared.label.Label.TheVariants.{Born, Ran, Asked, Heard, Judged, Told, Took, Gave, Ended, Known, Left, Came, Lent, InHand, Decided, Returned, Home, Down, Burst, Gathered, Shown, Halted, Dropped}
 use Rattle.run_trace.specs.declared.label.Why.{Why}
 use Rattle.run_trace.specs.declared.label.Why.TheVariants as why
-use Rattle.run_trace.specs.Names.{is_tid}
+use Rattle.run_trace.specs.Names.{is_tid, tid_of}
 use Rattle.run_trace.specs.Program.{Program, code_of}
 use Rattle.run_trace.specs.Calls.{call_of, refusal}
 use Rattle.run_trace.specs.Guests.{Solo, Guest, Thread, waits, guest_slots, told, gives_slots, packed, unpacked}
@@ -27,14 +29,16 @@ use Rattle.run_trace.specs.declared.packet.Packet.{Packet}
 use Rattle.run_trace.specs.Cluster.{Net}
 use Rattle.run_trace.specs.World.{World, world_after}
 use Rattle.run_trace.specs.Trace.{net_after_trace}
-use Rattle.trace_laws.specs.Obeys.{Obey, world_at, ObeyEach}
-use Rattle.run_trace.specs.Rules.{Occasion, saying, spots_of, IsBorn, JoinerAwaits, MayHear, MayJudge, MayTell, MayKnow, MayLeave, MayCome, MayShow, SoloRule, LifeRule}
+use Rattle.trace_laws.specs.Obeys.{Obey, world_at, ObeyEach, AgreesRule}
+use Rattle.run_trace.specs.Rules.{Occasion, saying, spots_of, IsBorn, MayHear, MayJudge, MayTell, MayKnow, MayLeave, MayCome, MayShow, SoloRule, LifeRule}
 use Rattle.run_trace.specs.Obeying.{occasion}
-use Rattle.run_trace.specs.Spots.{Stage, Life, Unborn, On, Moving, Noting, Gone, Response, Spot, Spots, Holder, Of_node, Of_thread, update, creator_served, joiner_served, end_in, at_first, after_label, after_labels, stepped, ran_stage, ran_spot, passed_stage, asked_stage, heard_at, judged_life, judged_guest, told_stage, gave_life, shown_life, second_of, remote_after}
+use Rattle.run_trace.specs.Spots.{Stage, Signals, Life, Unborn, On, Moving, Noting, Gone, Response, Spot, Spots, Holder, Of_node, Of_thread, update, creator_served, at_first, after_label, after_labels, stepped, ran_stage, ran_spot, Going, sent_stage, passed_stage, going_by_call, wakes_heard, sets_going, set_going, asked_stage, heard_at, judged_life, judged_guest, told_stage, gave_life, shown_life, second_of, remote_after}
 use Rattle.run_trace.specs.Stands.{Stands, thread_part, thread_in_life, thread_in_stage, held, slots_held, Word, Travels, word_subject, word_of, words_of, words_about, ways_of, on_link}
 use Rattle.run_trace.specs.Alone.{Alone, alone_then, alone_after, alone_in, alone_of, asked_in, heap_call, unless_refused, answered, is_about, EachRunsAlone, remote_in, remote_of}
 use Rattle.run_trace.specs.Holding.{Location, On_node, On_link, IsAmong, IsAt, Has, EachHeldOnce}
 use Rattle.run_trace.proofs.Lemmas.{is-true, is-refl}
+use Rattle.trace_laws.proofs.Lives.Signals.{OfSignals, answered_by, signal_by, signal_asked_by}
+use Rattle.trace_laws.proofs.Lives.Goings.{MayGo, Wakes, IsSent, Joins, GoesRightly, label_goes}
 use Rattle.trace_laws.proofs.Lists.Parts.{Tells, at_way, thread_holds, node_holds}
 use Rattle.trace_laws.proofs.Lists.Subjects.{IsOneOf, on_way}
 use Rattle.run_trace.specs.Items.{subject, same_subject, Thread as Subject_of}
@@ -47,7 +51,7 @@ pub record OnNode (n : ℕ) (s : Spot) (x : Thread) : Type 0 where
   pub guest : s.guest ≡ x.guest
   pub slots : slots_held (held s.life s.guest) ≡ guest_slots x.guest
 
-in_stage : (n : ℕ) (stage : Stage) (g : Guest) (x : Thread) → thread_in_stage stage g ≡ Some x → (g ≡ x.guest) × (slots_held (held (On n stage) g) ≡ guest_slots x.guest)
+in_stage : (n : ℕ) (stage : Stage) (g : Guest) (x : Thread) → thread_in_stage n stage g ≡ Some x → (g ≡ x.guest) × (slots_held (held (On n stage) g) ≡ guest_slots x.guest)
 in_stage n stage g x h = grind (arith, h)
 
 pub on_node_is : (n : ℕ) (t : Tid) (s : Spot) (x : Thread) → thread_part n t s ≡ Some x → OnNode n s x
@@ -60,10 +64,10 @@ on_node_is n t s x h = by s.life refl h
     by (Gone end) e g = absurd (cc g)
     by (On m stage) e g = by_node (eqb m n) refl g
       where
-        by_node : (v : Bool) → eqb m n ≡ v → cond v (thread_in_stage stage s.guest) None ≡ Some x → OnNode n s x
+        by_node : (v : Bool) → eqb m n ≡ v → cond v (thread_in_stage n stage s.guest) None ≡ Some x → OnNode n s x
         by_node true k f =
             let same : m ≡ n = eqb-true m n k in
-            let parts = in_stage m stage s.guest x f in
+            let parts = in_stage n stage s.guest x f in
             record { stage = stage; life = e ∙ ap (λ j. On j stage) same; guest = parts.0; slots = ap (λ z. slots_held (held z s.guest)) e ∙ parts.1 }
         by_node false k f = absurd (cc f)
 
@@ -145,14 +149,29 @@ served_creator p n u (why.Create by) entry a0 w t h = other_life w.threads by t 
 served_creator p n u (why.Inside by bubble) entry a0 w t h = refl
 served_creator p n u (why.Service by count) entry a0 w t h = refl
 
--- neither does a joiner
-served_joiner : (u : Tid) (end : End) (o : Option (Tid × ℕ)) (w : Spots) (t : Tid) → JoinerAwaits u o w → alone_in (joiner_served u end o w.threads t) ≡ alone_in (w.threads t)
-served_joiner u end None w t h = refl
-served_joiner u end (Some by) w t h = other_life w.threads by.0 t _ (sym (ap asked_in h))
+-- neither does one that calls a semaphore, nor whoever is set going
+signals_ask : (h m id : ℕ) → OfSignals (λ stage. asked_in (On m stage) ≡ None) h id
+signals_ask h m id = record { due = λ code. refl; answers = λ reply. refl; queues = refl }
+
+going_asks : (old new : Life) → MayGo old new → asked_in new ≡ asked_in old
+going_asks old new (Wakes h m id e f) = ap asked_in f ∙ answered_by (λ stage. asked_in (On m stage) ≡ None) h m id (replies.Value 0) (signals_ask h m id) ∙ sym (ap asked_in e)
+going_asks old new (IsSent m to e f) = ap asked_in f ∙ sym (ap asked_in e)
+going_asks old new (Joins m u reply second e f) = ap asked_in f ∙ sym (ap asked_in e)
+
+set_alone : (going : Going) (w : Tid → Spot) (t : Tid) → GoesRightly going w → alone_in (set_going going w t) ≡ alone_in (w t)
+set_alone None w t h = refl
+set_alone (Some going) w t h = other_life w going.0 t going.1 (going_asks (w going.0).life going.1 h)
 
 -- a change of u's spot, as t sees it
 seen : (w : Tid → Spot) (u t : Tid) (s : Spot) (f : Tid → Alone → Alone) → alone_in s ≡ f u (alone_in (w u)) → alone_in (update w u s t) ≡ cond (is_tid u t) (f t (alone_in (w t))) (alone_in (w t))
 seen w u t s f h = elim (is_tid u t) as (λ b. is_tid u t ≡ b → alone_in (cond b s (w t)) ≡ cond b (f t (alone_in (w t))) (alone_in (w t))) [ true ↦ λ e. h ∙ ap (λ z. f z (alone_in (w z))) (is-true u t e) | false ↦ λ e. refl ] refl
+
+-- where another is set going
+seen_going : (going : Going) (w : Tid → Spot) (u t : Tid) (s : Spot) (f : Tid → Alone → Alone) → GoesRightly going w → alone_in s ≡ f u (alone_in (w u))
+    → alone_in (update (set_going going w) u s t) ≡ cond (is_tid u t) (f t (alone_in (w t))) (alone_in (w t))
+seen_going going w u t s f h e =
+    seen (set_going going w) u t s f (e ∙ ap (f u) (sym (set_alone going w u h)))
+    ∙ ap (λ a. cond (is_tid u t) (f t a) a) (set_alone going w t h)
 
 -- one that asks nothing before and nothing after
 seen_so : (w : Tid → Spot) (u t : Tid) (life : Life) → asked_in life ≡ asked_in (w u).life → alone_in (update w u (record (w u) { life = life }) t) ≡ cond (is_tid u t) (alone_in (w t)) (alone_in (w t))
@@ -163,15 +182,24 @@ ran_asks n stops.Quantum s = refl
 ran_asks n stops.Call s = refl
 ran_asks n (stops.Fault kind) s = refl
 
-passed_asks : (p : Program) (n : ℕ) (t : Tid) (x : Solo) (c : Call) → asked_in (On n (passed_stage p n t x c)) ≡ heap_call c
-passed_asks p n t x c = grind arith
+sent_asks : (n : ℕ) (itself : Bool) (to : ℕ) (life : Life) → asked_in (On n (sent_stage n itself to life)) ≡ None
+sent_asks n true to life = refl
+sent_asks n false to life = refl
 
-call_asks : (p : Program) (n : ℕ) (t : Tid) (x : Solo) (c : Call) (r : Option Reply) → asked_in (On n (asked_stage p n t x c r)) ≡ unless_refused r (heap_call c)
-call_asks p n t x c None = passed_asks p n t x c
-call_asks p n t x c (Some reply) = refl
+passed_asks : (p : Program) (n : ℕ) (t : Tid) (w : Spots) (c : Call) → asked_in (On n (passed_stage p n t w c)) ≡ heap_call c
+passed_asks p n t w (SemP id) = signal_asked_by (λ stage. asked_in (On n stage) ≡ None) n id false (w.sems n) (signals_ask n n id) refl
+passed_asks p n t w (SemV id) = signal_asked_by (λ stage. asked_in (On n stage) ≡ None) n id true (w.sems n) (signals_ask n n id) refl
+passed_asks p n t w (Migrate name to) = sent_asks n (eqb name (tid_value t)) to (w.threads (tid_of name)).life
+passed_asks p n t w c = grind arith
 
-heard_asks : (n : ℕ) (births : ℕ → List Birth) (life : Life) → MayHear n life → asked_in (heard_at births life) ≡ asked_in life
-heard_asks n births life h = grind (arith, h)
+call_asks : (p : Program) (n : ℕ) (t : Tid) (w : Spots) (c : Call) (r : Option Reply) → asked_in (On n (asked_stage p n t w c r)) ≡ unless_refused r (heap_call c)
+call_asks p n t w c None = passed_asks p n t w c
+call_asks p n t w c (Some reply) = refl
+
+heard_asks : (n : ℕ) (births : ℕ → List Birth) (sems : ℕ → List SemRow) (life : Life) → MayHear n life → asked_in (heard_at births sems life) ≡ asked_in life
+heard_asks n births sems (On m (Signals id up)) h =
+    signal_by (λ stage. asked_in (On m stage) ≡ None) (node_in id) m id up (sems (node_in id)) (signals_ask (node_in id) m id)
+heard_asks n births sems life h = grind (arith, h)
 
 judged_asks : (n : ℕ) (life : Life) → MayJudge n life → asked_in (judged_life life) ≡ None
 judged_asks n life h = grind (arith, h)
@@ -200,58 +228,59 @@ leave_asks n to life h = grind (arith, h)
 come_asks : (n : ℕ) (life : Life) → MayCome n life → asked_in life ≡ None
 come_asks n life h = grind (arith, h)
 
-label_alone : (p : Program) (q : Occasion) (n : ℕ) (l : Label) (w : World) (t : Tid) → SoloRule p q n l w → LifeRule p q n l w
+label_alone : (p : Program) (q : Occasion) (n : ℕ) (l : Label) (w : World) (t : Tid) → SoloRule p q n l w → LifeRule p q n l w → AgreesRule p q n l w
     → alone_in ((after_label p n l w.spots).threads t) ≡ cond (is_about t (subject l)) (alone_then p w.spots.remote t l (alone_in (w.spots.threads t))) (alone_in (w.spots.threads t))
-label_alone p q n (Born u why entry a0 a1 sp slot) w t solo life =
+label_alone p q n (Born u why entry a0 a1 sp slot) w t solo life agrees =
     seen (creator_served n u why w.spots.threads) u t _ (λ z a. alone_then p w.spots.remote z (Born u why entry a0 a1 sp slot) a) refl
     ∙ ap (λ a. cond (is_tid u t) (alone_then p w.spots.remote t (Born u why entry a0 a1 sp slot) a) a) (served_creator p n u why entry a0 w.spots t solo.0)
-label_alone p q n (Ran u vp count stop) w t solo life =
+label_alone p q n (Ran u vp count stop) w t solo life agrees =
     let next : HartState = stepped (code_of p) count (w.spots.threads u).guest.solo.state in
     seen w.spots.threads u t _ (λ z a. alone_then p w.spots.remote z (Ran u vp count stop) a) (ap (asking (ran_spot p n count stop (w.spots.threads u))) (ran_asks n stop next ∙ sym (ap asked_in life)))
-label_alone p q n (Asked u call args bytes) w t solo life =
+label_alone p q n (Asked u call args bytes) w t solo life agrees =
     let x : Solo = (w.spots.threads u).guest.solo in
-    seen w.spots.threads u t _ (λ z a. alone_then p w.spots.remote z (Asked u call args bytes) a) (ap (asking (w.spots.threads u)) (call_asks p n u x (call_of x.state) (refusal p u x (call_of x.state))))
-label_alone p q n (Heard u) w t solo life = seen_so w.spots.threads u t _ (heard_asks n w.spots.births (w.spots.threads u).life life)
-label_alone p q n (Judged u reply extra) w t solo life =
+    seen_going (going_by_call p n u w.spots) w.spots.threads u t _ (λ z a. alone_then p w.spots.remote z (Asked u call args bytes) a) (label_goes p w.spots agrees n (Asked u call args bytes))
+    (ap (asking (w.spots.threads u)) (call_asks p n u w.spots (call_of x.state) (refusal p u x (call_of x.state))))
+label_alone p q n (Heard u) w t solo life agrees =
+    seen_going (wakes_heard w.spots.sems (w.spots.threads u).life) w.spots.threads u t _ (λ z a. a) (label_goes p w.spots agrees n (Heard u))
+    (ap (asking (w.spots.threads u)) (heard_asks n w.spots.births w.spots.sems (w.spots.threads u).life life))
+label_alone p q n (Judged u reply extra) w t solo life agrees =
     let o : Spot = w.spots.threads u in
     let v : Response = record { code = reply; extra = extra } in
     seen w.spots.threads u t _ (λ z a. alone_then p w.spots.remote z (Judged u reply extra) a)
     (ap (λ z. record { solo = (judged_guest o.life o.guest).solo; asked = z; reply = v }) (judged_asks n o.life life)
     ∙ ap (λ z. record { solo = z; asked = None; reply = v }) (judged_solo o.life o.guest))
-label_alone p q n (Told u) w t solo life =
+label_alone p q n (Told u) w t solo life agrees =
     let o : Spot = w.spots.threads u in
     seen w.spots.threads u t _ (λ z a. alone_then p w.spots.remote z (Told u) a)
     (ap (λ z. record { solo = (told o.verdict.code (second_of o.verdict.extra) o.guest).solo; asked = z; reply = o.verdict }) (told_asks n o.life ∙ sym (tell_asks n o.life life)))
-label_alone p q n (Took u first count) w t solo life = seen w.spots.threads u t _ (λ z a. alone_then p w.spots.remote z (Took u first count) a) refl
-label_alone p q n (Gave u slots) w t solo life =
+label_alone p q n (Took u first count) w t solo life agrees = seen w.spots.threads u t _ (λ z a. alone_then p w.spots.remote z (Took u first count) a) refl
+label_alone p q n (Gave u slots) w t solo life agrees =
     let o : Spot = w.spots.threads u in
     seen w.spots.threads u t _ (λ z a. alone_then p w.spots.remote z (Gave u slots) a)
     (ap (λ z. record { solo = (gives_slots slots o.guest).solo; asked = z; reply = o.verdict }) (gave_asks o.life))
-label_alone p q n (Ended u end) w t solo life = seen_so w.spots.threads u t _ (sym (ap asked_in life))
-label_alone p q n (Known u) w t solo life =
-    let end : End = end_in (w.spots.threads u).life in
-    let o : Option (Tid × ℕ) = joiner (slice_get (w.spots.births u.home) u.seq) in
-    seen (joiner_served u end o w.spots.threads) u t _ (λ z a. a)
-    (ap (asking (w.spots.threads u)) (sym (known_asks (w.spots.threads u).life life.0)) ∙ sym (served_joiner u end o w.spots u life.2))
-    ∙ ap (λ a. cond (is_tid u t) a a) (served_joiner u end o w.spots t life.2)
-label_alone p q n (Shown u) w t solo life = seen_so w.spots.threads u t _ (shown_asks n (w.spots.threads u).life life)
-label_alone p q n (Halted u) w t solo life = seen_so w.spots.threads u t _ (sym (ap asked_in life))
-label_alone p q n (Left u to) w t solo life = seen_so w.spots.threads u t _ (sym (leave_asks n to (w.spots.threads u).life life.0))
-label_alone p q n (Came u) w t solo life = seen_so w.spots.threads u t _ (sym (come_asks n (w.spots.threads u).life life))
-label_alone p q n (Decided u count first) w t solo life = absurd life
-label_alone p q n (Dropped u count reply) w t solo life = absurd life
-label_alone p q n (Lent to slots) w t solo life = absurd life
-label_alone p q n (InHand lender slots) w t solo life = absurd life
-label_alone p q n (Returned to slots) w t solo life = absurd life
-label_alone p q n (Home slots) w t solo life = absurd life
-label_alone p q n (Down bubble list) w t solo life = absurd life
-label_alone p q n (Burst bubble list) w t solo life = absurd life
-label_alone p q n (Gathered bubble count) w t solo life = absurd life
+label_alone p q n (Ended u end) w t solo life agrees = seen_so w.spots.threads u t _ (sym (ap asked_in life))
+label_alone p q n (Known u) w t solo life agrees =
+    seen_going (sets_going p n (Known u) w.spots) w.spots.threads u t _ (λ z a. a) (label_goes p w.spots agrees n (Known u))
+    (ap (asking (w.spots.threads u)) (sym (known_asks (w.spots.threads u).life life.0)))
+label_alone p q n (Shown u) w t solo life agrees = seen_so w.spots.threads u t _ (shown_asks n (w.spots.threads u).life life)
+label_alone p q n (Halted u) w t solo life agrees = seen_so w.spots.threads u t _ (sym (ap asked_in life))
+label_alone p q n (Left u to) w t solo life agrees = seen_so w.spots.threads u t _ (sym (leave_asks n to (w.spots.threads u).life life.0))
+label_alone p q n (Came u) w t solo life agrees = seen_so w.spots.threads u t _ (sym (come_asks n (w.spots.threads u).life life))
+label_alone p q n (Decided u count first) w t solo life agrees = absurd life
+label_alone p q n (Dropped u count reply) w t solo life agrees = absurd life
+label_alone p q n (Lent to slots) w t solo life agrees = absurd life
+label_alone p q n (InHand lender slots) w t solo life agrees = absurd life
+label_alone p q n (Returned to slots) w t solo life agrees = absurd life
+label_alone p q n (Home slots) w t solo life agrees = absurd life
+label_alone p q n (Down bubble list) w t solo life agrees = absurd life
+label_alone p q n (Burst bubble list) w t solo life agrees = absurd life
+label_alone p q n (Gathered bubble count) w t solo life agrees = absurd life
 
-labels_alone : (p : Program) (q : Occasion) (n : ℕ) (ls : List Label) (w : World) (t : Tid) → ObeyEach SoloRule p q n ls w → ObeyEach LifeRule p q n ls w
+labels_alone : (p : Program) (q : Occasion) (n : ℕ) (ls : List Label) (w : World) (t : Tid) → ObeyEach SoloRule p q n ls w → ObeyEach LifeRule p q n ls w → ObeyEach AgreesRule p q n ls w
     → alone_in ((after_labels p n ls w.spots).threads t) ≡ alone_after p w.spots.remote t ls (alone_in (w.spots.threads t))
-labels_alone p q n [] w t solo life = refl
-labels_alone p q n (l ∷ ls) w t solo life = labels_alone p (saying l q) n ls (world_after p n l w) t solo.1 life.1 ∙ ap (alone_after p (remote_after l w.spots.remote) t ls) (label_alone p q n l w t solo.0 life.0)
+labels_alone p q n [] w t solo life agrees = refl
+labels_alone p q n (l ∷ ls) w t solo life agrees =
+    labels_alone p (saying l q) n ls (world_after p n l w) t solo.1 life.1 agrees.1 ∙ ap (alone_after p (remote_after l w.spots.remote) t ls) (label_alone p q n l w t solo.0 life.0 agrees.0)
 
 remote_in_are : (p : Program) (n : ℕ) (ls : List Label) (w : Spots) → (after_labels p n ls w).remote ≡ remote_in ls w.remote
 remote_in_are p n [] w = refl
@@ -262,12 +291,12 @@ pub remote_are : (p : Program) (trace : List Entry) → (spots_of p (at_first p)
 remote_are p [] = refl
 remote_are p (x ∷ xs) = remote_in_are p x.node x.labels (spots_of p (at_first p) xs) ∙ ap (remote_in x.labels) (remote_are p xs)
 
-spots_alone : (p : Program) (base : Net) (trace : List Entry) (t : Tid) → Obey SoloRule p (at_first p) base trace → Obey LifeRule p (at_first p) base trace
+spots_alone : (p : Program) (base : Net) (trace : List Entry) (t : Tid) → Obey SoloRule p (at_first p) base trace → Obey LifeRule p (at_first p) base trace → Obey AgreesRule p (at_first p) base trace
     → alone_in ((spots_of p (at_first p) trace).threads t) ≡ alone_of p t trace
-spots_alone p base [] t solo life = refl
-spots_alone p base (x ∷ xs) t solo life = labels_alone p (occasion x (world_at (spots_of p (at_first p) xs) (net_after_trace p base xs))) x.node x.labels (world_at (spots_of p (at_first p) xs) (net_after_trace p base xs)) t solo.1 life.1 ∙ ap (alone_after p (spots_of p (at_first p) xs).remote t x.labels) (spots_alone p base xs t solo.0 life.0) ∙ ap (λ z. alone_after p z t x.labels (alone_of p t xs)) (remote_are p xs)
+spots_alone p base [] t solo life agrees = refl
+spots_alone p base (x ∷ xs) t solo life agrees = labels_alone p (occasion x (world_at (spots_of p (at_first p) xs) (net_after_trace p base xs))) x.node x.labels (world_at (spots_of p (at_first p) xs) (net_after_trace p base xs)) t solo.1 life.1 agrees.1 ∙ ap (alone_after p (spots_of p (at_first p) xs).remote t x.labels) (spots_alone p base xs t solo.0 life.0 agrees.0) ∙ ap (λ z. alone_after p z t x.labels (alone_of p t xs)) (remote_are p xs)
 
-pub runs_alone : (p : Program) (base : Net) (trace : List Entry) (net : Net) → Obey SoloRule p (at_first p) base trace → Obey LifeRule p (at_first p) base trace → Stands p (spots_of p (at_first p) trace) net → EachRunsAlone p net trace
-runs_alone p base trace net solo life s t place g h =
+pub runs_alone : (p : Program) (base : Net) (trace : List Entry) (net : Net) → Obey SoloRule p (at_first p) base trace → Obey LifeRule p (at_first p) base trace → Obey AgreesRule p (at_first p) base trace → Stands p (spots_of p (at_first p) trace) net → EachRunsAlone p net trace
+runs_alone p base trace net solo life agrees s t place g h =
     let at : Found place ((spots_of p (at_first p) trace).threads t) g = found p _ net s place t g h in
-    ap (λ (z : Guest). z.solo) (sym at.guest) ∙ ap (λ (a : Alone). a.solo) (spots_alone p base trace t solo life)
+    ap (λ (z : Guest). z.solo) (sym at.guest) ∙ ap (λ (a : Alone). a.solo) (spots_alone p base trace t solo life agrees)

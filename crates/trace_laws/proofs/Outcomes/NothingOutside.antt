@@ -1,18 +1,20 @@
 -- Nothing happens outside the cluster's nodes.
-use Rattle.std.proofs.Common.{◌≡◌, ℕ, ◌<◌, ◌≤◌, ◌/◌, ◌^◌, ◌⊎◌, inl, inr, List, [], ◌∷◌, ◌++◌, Option, Some, None, Bool, true, false, eqb, ltb, cond, refl, sym, ap, subst, arith}
-use Rattle.std.specs.Prelude.{nat_lt, slice_get}
+use Rattle.std.proofs.Common.{◌≡◌, ℕ, ◌<◌, ◌≤◌, ◌/◌, ◌^◌, ◌⊎◌, inl, inr, List, [], ◌∷◌, ◌++◌, Option, Some, None, Bool, true, false, eqb, ltb, cond, refl, sym, ap, ◌∙◌, subst, arith}
+use Rattle.std.specs.Prelude.{nat_lt}
 use Rattle.std.specs.Map.{lookup}
 use Rattle.std.proofs.lemmas.Bool.{ne_eqb, ltb-true, ltb-false}
 use Rattle.std.proofs.lemmas.Bool.Decides.{nat_tests}
 use Rattle.slot_space.specs.declared.names.Tid.{Tid}
 use Rattle.slot_space.specs.declared.names.Reply.{Reply}
+use Rattle.slot_space.specs.declared.names.Reply.TheVariants as replies
+use Rattle.slot_space.specs.Replies.{tid_value}
 use Rattle.rv_step.specs.declared.hart.Stop.{Stop}
 use Rattle.rv_step.specs.Step.{HartState}
 use Rattle.marcel_core.specs.declared.birth.Birth.{Birth}
-use Rattle.marcel_core.specs.declared.end.End.{End}
-use Rattle.marcel_core.specs.Homes.{joiner}
+use Rattle.marcel_sync.specs.declared.sem.SemRow.{SemRow}
+use Rattle.marcel_sync.specs.Semaphores.{node_in}
 use Rattle.run_trace.specs.declared.call.Call.{Call}
-use Rattle.run_trace.specs.declared.call.Call.TheVariants.{Join}
+use Rattle.run_trace.specs.declared.call.Call.TheVariants.{Join, Detach, SemP, SemV, Migrate}
 use Rattle.run_trace.specs.declared.entry.Act.{Act}
 use Rattle.run_trace.specs.declared.entry.Act.TheVariants.{Boot, Run, Take, Move}
 use Rattle.run_trace.specs.declared.entry.Entry.{Entry}
@@ -21,22 +23,24 @@ use Rattle.run_trace.specs.declared.label.Label.TheVariants.{Born, Ran, Asked, H
 use Rattle.run_trace.specs.declared.label.Why.{Why}
 use Rattle.run_trace.specs.declared.label.Why.TheVariants as why
 use Rattle.run_trace.specs.declared.packet.Packet.{Packet}
-use Rattle.run_trace.specs.Names.{is_tid}
+use Rattle.run_trace.specs.Names.{is_tid, tid_of}
 use Rattle.run_trace.specs.Program.{Program, nodes_of}
 use Rattle.run_trace.specs.Guests.{Solo, Thread}
-use Rattle.run_trace.specs.Calls.{call_of, refusal}
+use Rattle.run_trace.specs.Calls.{refusal}
 use Rattle.run_trace.specs.Local.{Local, fresh}
 use Rattle.run_trace.specs.Cluster.{Net, fresh_net}
 use Rattle.run_trace.specs.Trace.{IsRun, net_after_trace}
 use Rattle.run_trace.specs.Holding.{IsOn}
-use Rattle.run_trace.specs.Spots.{Stage, Asks, Life, On, Moving, Spot, Spots, update, creator_served, joiner_served, heard_at, judged_life, told_stage, gave_life, shown_life, ran_stage, stage_of_call, asked_stage, passed_stage, end_in, at_first, after_label, after_labels}
+use Rattle.run_trace.specs.Spots.{Stage, Asks, Detaches, Signals, Life, On, Moving, Spot, Spots, update, creator_served, Going, signal_asked, sent_stage, solo_of, its_call, its_refusal, going_by_call, wakes_heard, sets_going, set_going, heard_at, judged_life, told_stage, gave_life, shown_life, ran_stage, stage_of_call, asked_stage, passed_stage, at_first, after_label, after_labels}
 use Rattle.run_trace.specs.World.{World, world_after}
-use Rattle.trace_laws.specs.Obeys.{Obey, world_at, ObeyEach}
+use Rattle.trace_laws.specs.Obeys.{Obey, world_at, ObeyEach, AgreesRule}
 use Rattle.run_trace.specs.Rules.{Occasion, saying, LifeRule, spots_of}
 use Rattle.run_trace.specs.Obeying.{occasion}
 use Rattle.run_trace.specs.Items.{Subject, Thread as Thread_of}
-use Rattle.run_trace.specs.Stands.{Stands, word_subject, word_of, Word, Travels, Line, Line_shown, Joins, Reply as Reply_word, Ended_word}
+use Rattle.run_trace.specs.Stands.{Stands, word_subject, word_of, Word, Travels, Line, Line_shown, Joins as Joins_word, Detaching, Signalling, Reply as Reply_word, Ended_word}
 use Rattle.trace_laws.proofs.Lists.Parts.{Tells}
+use Rattle.trace_laws.proofs.Lives.Signals.{OfSignals, answered_by, signal_by, signal_asked_by}
+use Rattle.trace_laws.proofs.Lives.Goings.{MayGo, Wakes, IsSent, Joins, GoesRightly, label_goes}
 use Rattle.trace_laws.proofs.Underway.Simulate.{event_below, first_tells}
 use Rattle.trace_laws.proofs.Outcomes.Wholes.{Whole, run_whole, starts}
 use Rattle.trace_laws.proofs.Outcomes.Stillness.{is_there}
@@ -44,9 +48,12 @@ use Rattle.run_trace.specs.Links.{first_of, rest_of, left_after}
 
 -- ## A join names a thread of the cluster, and a thread moves to a node of it
 
--- the home to which a join is under way, or the node to which a thread is; 0 where neither is
+-- the home to which a join or a detach is under way, the node of the semaphore that is asked, or that to which a thread is under way; 0
+-- where there is none
 abbrev asked_home : Life → ℕ
 asked_home (On m (Asks u)) = u.home
+asked_home (On m (Detaches u)) = u.home
+asked_home (On m (Signals id up)) = node_in id
 asked_home (Moving from to) = to
 asked_home _ = 0
 
@@ -56,31 +63,58 @@ AllAsk p w = (t : Tid) → asked_home (w t).life < nodes_of p
 first_node : (p : Program) → 0 < nodes_of p
 first_node p = p.setup.geometry.some_node
 
--- the home that a call names; 0 where it names none
+-- the home or the semaphore's node that a call names; 0 where it names none
 abbrev named_home : Call → ℕ
 named_home (Join name) = name / 2 ^ 32
+named_home (Detach name) = name / 2 ^ 32
+named_home (SemP id) = node_in id
+named_home (SemV id) = node_in id
 named_home _ = 0
 
-passed_asks : (p : Program) (n : ℕ) (t : Tid) (x : Solo) (c : Call) → asked_home (On n (passed_stage p n t x c)) ≤ named_home c
-passed_asks p n t x c = grind arith
+-- one whose semaphore is asked has come there, and asks for none
+signals_ask : (h m id : ℕ) → OfSignals (λ stage. asked_home (On m stage) ≡ 0) h id
+signals_ask h m id = record { due = λ code. refl; answers = λ reply. refl; queues = refl }
 
--- the checks of a call refuse a home that is no node
+none_within : (a b : ℕ) → a ≡ 0 → a ≤ b
+none_within a b e = omega (arith, e)
+
+asked_within : (n id : ℕ) (up : Bool) (sems : List SemRow) → asked_home (On n (signal_asked n id up sems)) ≤ node_in id
+asked_within n id up sems =
+    signal_asked_by (λ stage. asked_home (On n stage) ≤ node_in id) n id up sems
+    (record { due = λ code. omega arith; answers = λ reply. omega arith; queues = omega arith }) (omega arith)
+
+sent_asks : (n : ℕ) (itself : Bool) (to : ℕ) (life : Life) → asked_home (On n (sent_stage n itself to life)) ≡ 0
+sent_asks n true to life = refl
+sent_asks n false to life = refl
+
+passed_asks : (p : Program) (n : ℕ) (t : Tid) (w : Spots) (c : Call) → asked_home (On n (passed_stage p n t w c)) ≤ named_home c
+passed_asks p n t w (SemP id) = asked_within n id false (w.sems n)
+passed_asks p n t w (SemV id) = asked_within n id true (w.sems n)
+passed_asks p n t w (Migrate name to) = none_within _ 0 (sent_asks n (eqb name (tid_value t)) to (w.threads (tid_of name)).life)
+passed_asks p n t w c = grind arith
+
+-- the checks of a call refuse a home, and a semaphore's node, that is no node
 named_inside : (p : Program) (t : Tid) (x : Solo) (c : Call) → refusal p t x c ≡ None → named_home c < nodes_of p
 named_inside p t x c h = grind (arith, nat_tests, h, first_node p)
 
-call_asks : (p : Program) (n : ℕ) (t : Tid) (x : Solo) → asked_home (On n (stage_of_call p n t x)) < nodes_of p
-call_asks p n t x = by (call_of x.state) (refusal p t x (call_of x.state)) refl
+call_asks : (p : Program) (n : ℕ) (t : Tid) (w : Spots) → asked_home (On n (stage_of_call p n t w)) < nodes_of p
+call_asks p n t w = by (its_call t w) (its_refusal p t w) refl
   where
-    by : (c : Call) (o : Option Reply) → refusal p t x c ≡ o → asked_home (On n (asked_stage p n t x c o)) < nodes_of p
-    by c None e = omega (arith, passed_asks p n t x c, named_inside p t x c e)
+    x : Solo
+    x = solo_of t w
+
+    by : (c : Call) (o : Option Reply) → refusal p t x c ≡ o → asked_home (On n (asked_stage p n t w c o)) < nodes_of p
+    by c None e = omega (arith, passed_asks p n t w c, named_inside p t x c e)
     by c (Some reply) e = first_node p
 
 -- nothing else begins to ask
 ran_asks : (n : ℕ) (stop : Stop) (s : HartState) → asked_home (On n (ran_stage stop s)) ≡ 0
 ran_asks n stop s = grind arith
 
-heard_asks : (births : ℕ → List Birth) (life : Life) → asked_home (heard_at births life) ≤ asked_home life
-heard_asks births life = grind arith
+heard_asks : (births : ℕ → List Birth) (sems : ℕ → List SemRow) (life : Life) → asked_home (heard_at births sems life) ≤ asked_home life
+heard_asks births sems (On m (Signals id up)) =
+    none_within _ (node_in id) (signal_by (λ stage. asked_home (On m stage) ≡ 0) (node_in id) m id up (sems (node_in id)) (signals_ask (node_in id) m id))
+heard_asks births sems life = grind arith
 
 judged_asks : (life : Life) → asked_home (judged_life life) ≤ asked_home life
 judged_asks life = grind arith
@@ -107,45 +141,53 @@ creator_asks p n t (why.Create by) w h = asks_with p w by _ h (first_node p)
 creator_asks p n t (why.Inside by bubble) w h = h
 creator_asks p n t (why.Service by count) w h = h
 
-joiner_asks : (p : Program) (t : Tid) (end : End) (o : Option (Tid × ℕ)) (w : Tid → Spot) → AllAsk p w → AllAsk p (joiner_served t end o w)
-joiner_asks p t end None w h = h
-joiner_asks p t end (Some by) w h = asks_with p w by.0 _ h (first_node p)
+-- whoever is set going asks for no home
+going_asks : (old new : Life) → MayGo old new → asked_home new ≡ 0
+going_asks old new (Wakes h m id e f) = ap asked_home f ∙ answered_by (λ stage. asked_home (On m stage) ≡ 0) h m id (replies.Value 0) (signals_ask h m id)
+going_asks old new (IsSent m to e f) = ap asked_home f
+going_asks old new (Joins m u reply second e f) = ap asked_home f
 
-label_asks : (p : Program) (q : Occasion) (n : ℕ) (l : Label) (w : World) → LifeRule p q n l w → AllAsk p w.spots.threads → AllAsk p (after_label p n l w.spots).threads
-label_asks p q n (Born t why entry a0 a1 sp slot) w ok h = asks_with p (creator_served n t why w.spots.threads) t _ (creator_asks p n t why w.spots.threads h) (first_node p)
-label_asks p q n (Ran t vp count stop) w ok h = asks_with p w.spots.threads t _ h (subst (λ k. k < nodes_of p) (sym (ran_asks n stop _)) (first_node p))
-label_asks p q n (Asked t call args bytes) w ok h = asks_with p w.spots.threads t _ h (call_asks p n t (w.spots.threads t).guest.solo)
-label_asks p q n (Heard t) w ok h = asks_on p w.spots.threads t _ h (heard_asks w.spots.births (w.spots.threads t).life)
-label_asks p q n (Judged t reply extra) w ok h = asks_on p w.spots.threads t _ h (judged_asks (w.spots.threads t).life)
-label_asks p q n (Told t) w ok h = asks_with p w.spots.threads t _ h (subst (λ k. k < nodes_of p) (sym (told_asks n (w.spots.threads t).life)) (first_node p))
-label_asks p q n (Took t first count) w ok h = asks_with p w.spots.threads t _ h (h t)
-label_asks p q n (Gave t slots) w ok h = asks_on p w.spots.threads t _ h (gave_asks (w.spots.threads t).life)
-label_asks p q n (Ended t end) w ok h = asks_with p w.spots.threads t _ h (first_node p)
-label_asks p q n (Known t) w ok h =
-    let end : End = end_in (w.spots.threads t).life in
-    let o : Option (Tid × ℕ) = joiner (slice_get (w.spots.births t.home) t.seq) in
-    asks_with p (joiner_served t end o w.spots.threads) t _ (joiner_asks p t end o w.spots.threads h) (first_node p)
-label_asks p q n (Shown t) w ok h = asks_on p w.spots.threads t _ h (shown_asks (w.spots.threads t).life)
-label_asks p q n (Halted t) w ok h = asks_with p w.spots.threads t _ h (first_node p)
-label_asks p q n (Left t to) w ok h = asks_with p w.spots.threads t _ h ok.1
-label_asks p q n (Came t) w ok h = asks_with p w.spots.threads t _ h (first_node p)
-label_asks p q n (Decided t count first) w ok h = h
-label_asks p q n (Dropped t count reply) w ok h = h
-label_asks p q n (Lent to slots) w ok h = h
-label_asks p q n (InHand lender slots) w ok h = h
-label_asks p q n (Returned to slots) w ok h = h
-label_asks p q n (Home slots) w ok h = h
-label_asks p q n (Down bubble list) w ok h = h
-label_asks p q n (Burst bubble list) w ok h = h
-label_asks p q n (Gathered bubble count) w ok h = h
+set_asks : (p : Program) (going : Going) (w : Tid → Spot) → GoesRightly going w → AllAsk p w → AllAsk p (set_going going w)
+set_asks p None w g h = h
+set_asks p (Some going) w g h = asks_with p w going.0 _ h (subst (λ k. k < nodes_of p) (sym (going_asks (w going.0).life going.1 g)) (first_node p))
 
-labels_ask : (p : Program) (q : Occasion) (n : ℕ) (ls : List Label) (w : World) → ObeyEach LifeRule p q n ls w → AllAsk p w.spots.threads → AllAsk p (after_labels p n ls w.spots).threads
-labels_ask p q n [] w ok h = h
-labels_ask p q n (l ∷ ls) w ok h = labels_ask p (saying l q) n ls (world_after p n l w) ok.1 (label_asks p q n l w ok.0 h)
+label_asks : (p : Program) (q : Occasion) (n : ℕ) (l : Label) (w : World) → LifeRule p q n l w → AgreesRule p q n l w → AllAsk p w.spots.threads → AllAsk p (after_label p n l w.spots).threads
+label_asks p q n (Born t why entry a0 a1 sp slot) w ok agrees h = asks_with p (creator_served n t why w.spots.threads) t _ (creator_asks p n t why w.spots.threads h) (first_node p)
+label_asks p q n (Ran t vp count stop) w ok agrees h = asks_with p w.spots.threads t _ h (subst (λ k. k < nodes_of p) (sym (ran_asks n stop _)) (first_node p))
+label_asks p q n (Asked t call args bytes) w ok agrees h =
+    asks_with p (set_going (going_by_call p n t w.spots) w.spots.threads) t _ (set_asks p (going_by_call p n t w.spots) w.spots.threads (label_goes p w.spots agrees n (Asked t call args bytes)) h) (call_asks p n t w.spots)
+label_asks p q n (Heard t) w ok agrees h =
+    asks_with p (set_going (wakes_heard w.spots.sems (w.spots.threads t).life) w.spots.threads) t _ (set_asks p (wakes_heard w.spots.sems (w.spots.threads t).life) w.spots.threads (label_goes p w.spots agrees n (Heard t)) h)
+    (omega (arith, heard_asks w.spots.births w.spots.sems (w.spots.threads t).life, h t))
+label_asks p q n (Judged t reply extra) w ok agrees h = asks_on p w.spots.threads t _ h (judged_asks (w.spots.threads t).life)
+label_asks p q n (Told t) w ok agrees h = asks_with p w.spots.threads t _ h (subst (λ k. k < nodes_of p) (sym (told_asks n (w.spots.threads t).life)) (first_node p))
+label_asks p q n (Took t first count) w ok agrees h = asks_with p w.spots.threads t _ h (h t)
+label_asks p q n (Gave t slots) w ok agrees h = asks_on p w.spots.threads t _ h (gave_asks (w.spots.threads t).life)
+label_asks p q n (Ended t end) w ok agrees h = asks_with p w.spots.threads t _ h (first_node p)
+label_asks p q n (Known t) w ok agrees h =
+    let going : Going = sets_going p n (Known t) w.spots in
+    asks_with p (set_going going w.spots.threads) t _ (set_asks p going w.spots.threads (label_goes p w.spots agrees n (Known t)) h) (first_node p)
+label_asks p q n (Shown t) w ok agrees h = asks_on p w.spots.threads t _ h (shown_asks (w.spots.threads t).life)
+label_asks p q n (Halted t) w ok agrees h = asks_with p w.spots.threads t _ h (first_node p)
+label_asks p q n (Left t to) w ok agrees h = asks_with p w.spots.threads t _ h ok.1
+label_asks p q n (Came t) w ok agrees h = asks_with p w.spots.threads t _ h (first_node p)
+label_asks p q n (Decided t count first) w ok agrees h = h
+label_asks p q n (Dropped t count reply) w ok agrees h = h
+label_asks p q n (Lent to slots) w ok agrees h = h
+label_asks p q n (InHand lender slots) w ok agrees h = h
+label_asks p q n (Returned to slots) w ok agrees h = h
+label_asks p q n (Home slots) w ok agrees h = h
+label_asks p q n (Down bubble list) w ok agrees h = h
+label_asks p q n (Burst bubble list) w ok agrees h = h
+label_asks p q n (Gathered bubble count) w ok agrees h = h
 
-spots_ask : (p : Program) (base : Net) (trace : List Entry) → Obey LifeRule p (at_first p) base trace → AllAsk p (spots_of p (at_first p) trace).threads
-spots_ask p base [] ok t = first_node p
-spots_ask p base (x ∷ xs) ok t = labels_ask p (occasion x (world_at (spots_of p (at_first p) xs) (net_after_trace p base xs))) x.node x.labels (world_at (spots_of p (at_first p) xs) (net_after_trace p base xs)) ok.1 (spots_ask p base xs ok.0) t
+labels_ask : (p : Program) (q : Occasion) (n : ℕ) (ls : List Label) (w : World) → ObeyEach LifeRule p q n ls w → ObeyEach AgreesRule p q n ls w → AllAsk p w.spots.threads → AllAsk p (after_labels p n ls w.spots).threads
+labels_ask p q n [] w ok agrees h = h
+labels_ask p q n (l ∷ ls) w ok agrees h = labels_ask p (saying l q) n ls (world_after p n l w) ok.1 agrees.1 (label_asks p q n l w ok.0 agrees.0 h)
+
+spots_ask : (p : Program) (base : Net) (trace : List Entry) → Obey LifeRule p (at_first p) base trace → Obey AgreesRule p (at_first p) base trace → AllAsk p (spots_of p (at_first p) trace).threads
+spots_ask p base [] ok agrees t = first_node p
+spots_ask p base (x ∷ xs) ok agrees t = labels_ask p (occasion x (world_at (spots_of p (at_first p) xs) (net_after_trace p base xs))) x.node x.labels (world_at (spots_of p (at_first p) xs) (net_after_trace p base xs)) ok.1 agrees.1 (spots_ask p base xs ok.0 agrees.0) t
 
 -- ## What is no node has no event, and so sends nothing
 
@@ -196,7 +238,9 @@ module _ (p : Program) (w : Spots) (net : Net) (s : Stands p w net) (asks : AllA
   to_node t i j (Travels x) k = subst (λ z. asked_home z < nodes_of p) k.0 (asks t)
   to_node t i j (Line u bytes) k = subst (λ z. z < nodes_of p) (sym k.2) (first_node p)
   to_node t i j (Line_shown u code extra) k = on_inside t j _ k.1
-  to_node t i j (Joins u target) k = subst (λ z. z < nodes_of p) (sym k.2) (subst (λ z. asked_home z < nodes_of p) k.1 (asks t))
+  to_node t i j (Joins_word u target) k = subst (λ z. z < nodes_of p) (sym k.2) (subst (λ z. asked_home z < nodes_of p) k.1 (asks t))
+  to_node t i j (Detaching u target) k = subst (λ z. z < nodes_of p) (sym k.2) (subst (λ z. asked_home z < nodes_of p) k.1 (asks t))
+  to_node t i j (Signalling u id up) k = subst (λ z. z < nodes_of p) (sym k.2) (subst (λ z. asked_home z < nodes_of p) k.1 (asks t))
   to_node t i j (Reply_word u code extra) k = on_inside t j _ k.1
   to_node t i j (Ended_word u end) k = by (nat_lt t.home (nodes_of p)) refl
     where
@@ -229,6 +273,6 @@ run_inside p trace r =
     let w : Spots = spots_of p (at_first p) trace in
     let net : Net = net_after_trace p (fresh_net p) trace in
     let all : Whole p (at_first p) (fresh_net p) trace = run_whole p (at_first p) (fresh_net p) (starts p) trace r in
-    let asks : AllAsk p w.threads = spots_ask p (fresh_net p) trace all.obeys.life in
+    let asks : AllAsk p w.threads = spots_ask p (fresh_net p) trace all.obeys.life all.agrees in
     let out : Untouched p net = untouched p trace r in
     record { nodes = out.nodes; links = links_inside p w net all.stands asks out; lives = on_inside p w net all.stands asks out }

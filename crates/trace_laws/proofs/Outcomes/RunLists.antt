@@ -27,14 +27,14 @@ listed_is p w net s n t x h =
     let shown : thread_in_life n (w.threads t).life g ≡ Some x = sym ((s.nodes n).threads.shows t) ∙ h in
     let on : OnNode n (w.threads t) x = on_node_is n t (w.threads t) x shown in
     let rests : is_resting on.stage ≡ true = resting n on.stage (subst (λ z. IsSettled z) on.life (settled_at p w net s t)) in
-    let same : Some (waits (wait_of on.stage) g) ≡ Some x = sym (thread_was n t (w.threads t) on.stage on.life ∙ rest_thread on.stage g rests) ∙ shown in
-    let one : waits (wait_of on.stage) g ≡ x = cc same in
+    let same : Some (waits (wait_of n on.stage) g) ≡ Some x = sym (thread_was n t (w.threads t) on.stage on.life ∙ rest_thread n on.stage g rests) ∙ shown in
+    let one : waits (wait_of n on.stage) g ≡ x = cc same in
     listed_found (net.nodes n).run_lists.rows t ∙ ap is_some ((s.nodes n).rows.shows t ∙ row_was n t (w.threads t) on.stage on.life)
-    ∙ rest_row t on.stage g rests ∙ ap is_unwaiting one
+    ∙ rest_row n t on.stage g rests ∙ ap is_unwaiting one
 
 pub listed_there : (p : Program) (w : Spots) (net : Net) → Stands p w net → (n : ℕ) (t : Tid) → is_listed t (net.nodes n).run_lists.rows ≡ true → (x : Thread) × IsOn net n t x
 listed_there p w net s n t h =
-    (waits (wait_of Ready) (w.threads t).guest, (s.nodes n).threads.shows t ∙ ap (λ z. thread_in_life n z (w.threads t).guest) (listed_ready p w net s (asked_of Boot None) n t h) ∙ (rw (eq-eqb n n refl) refl))
+    (waits (wait_of n Ready) (w.threads t).guest, (s.nodes n).threads.shows t ∙ ap (λ z. thread_in_life n z (w.threads t).guest) (listed_ready p w net s (asked_of Boot None) n t h) ∙ (rw (eq-eqb n n refl) refl))
 
 -- ## On which list
 

@@ -1,7 +1,11 @@
 -- Where nothing is ready and nothing is under way: each thread that lives waits by its rule.
-use Rattle.std.proofs.Common.{◌≡◌, ℕ, List, [], ◌∷◌, Some, None, false, refl, sym, ap, ◌∙◌, subst, map, inl, inr}
+use Rattle.std.proofs.Common.{◌≡◌, ℕ, zero, suc, List, [], ◌∷◌, Option, Some, None, false, refl, sym, ap, ◌∙◌, subst, map, inl, inr, arith}
+use Rattle.std.specs.Prelude.{slice_get, All}
+use Rattle.std.proofs.lemmas.Option.{slice_get_within, get_or_from_slice_get}
 use Rattle.std.proofs.lemmas.Bool.{eq-eqb}
 use Rattle.slot_space.specs.declared.names.Tid.{Tid}
+use Rattle.marcel_sync.specs.declared.sem.SemRow.{SemRow}
+use Rattle.marcel_sync.specs.Semaphores.{IsSemaphore, node_in, number_in, waiters_of, waiters_at}
 use Rattle.run_trace.specs.declared.node.ReadyRow.{ReadyRow}
 use Rattle.run_trace.specs.Names.{is_tid}
 use Rattle.run_trace.specs.Program.{Program, tree_of}
@@ -10,9 +14,9 @@ use Rattle.run_trace.specs.Cluster.{Net}
 use Rattle.run_trace.specs.Holding.{IsOn}
 use Rattle.run_trace.specs.Keyed.{item_of}
 use Rattle.run_trace.specs.RunLists.{best_on}
-use Rattle.run_trace.specs.Outcome.{Lives, AllLinksEmpty, WaitsByItsRule, IsStuck}
-use Rattle.run_trace.specs.Spots.{Stage, Ready, Stays, Shows, Shown_there, Asks, Awaits, Answered, Life, Unborn, On, Moving, Noting, Gone, Response, Spots}
-use Rattle.run_trace.specs.Stands.{Stands, listed, listed_name, row_part, row_in_life, link_part, on_link, ways_of, Way, words_of, words_about, phase_of, phase_at, During, thread_in_life, wait_of}
+use Rattle.run_trace.specs.Outcome.{Lives, AllLinksEmpty, IsDown, WaitsByItsRule, IsStuck}
+use Rattle.run_trace.specs.Spots.{Stage, Ready, Stays, Shows, Shown_there, Asks, Awaits, Answered, Detaches, Signals, Queues, Life, Unborn, On, Moving, Noting, Gone, Response, Spots}
+use Rattle.run_trace.specs.Stands.{Stands, listed, listed_name, row_part, row_in_life, link_part, on_link, ways_of, Way, words_of, words_about, phase_of, phase_at, During, thread_in_life, wait_of, waiter_name, waiter_in_life}
 use Rattle.run_trace.specs.Items.{Thread as Subject_of}
 use Rattle.run_trace.specs.declared.entry.Act.TheVariants.{Boot}
 use Rattle.trace_laws.proofs.Lists.Parts.{thread_was}
@@ -21,6 +25,24 @@ use Rattle.trace_laws.proofs.Underway.Simulate.{asked_of, picked_ready}
 use Rattle.trace_laws.proofs.Outcomes.Wholes.{settled_at}
 use Rattle.trace_laws.proofs.Outcomes.Consequences.{OnNode, on_node_is}
 use Rattle.trace_laws.specs.Obeys.{IsSettled}
+
+sem_at : (sems : List SemRow) (k : ℕ) (sem : SemRow) → All IsSemaphore sems → slice_get sems k ≡ Some sem → IsSemaphore sem
+sem_at sems k sem h e = subst (λ z. IsSemaphore z) (get_or_from_slice_get sems k sem sem e) (h k sem (slice_get_within sems k sem e))
+
+-- a semaphore for which a thread waits has value 0
+down : (sem : SemRow) → IsSemaphore sem → (sem.waiters ≡ [] → ⊥) → sem.value ≡ 0
+down sem h some = by sem.value refl
+  where
+    by : (value : ℕ) → sem.value ≡ value → value ≡ 0
+    by zero e = refl
+    by (suc k) e = absurd (some (h.waits (omega (arith, e))))
+
+down_row : (sems : List SemRow) (k : ℕ) (t : Tid) (x : Tid × ℕ) → All IsSemaphore sems → item_of is_tid waiter_name (waiters_at k sems) t ≡ Some x → IsDown (slice_get sems k)
+down_row sems k t x all found = by (slice_get sems k) refl found
+  where
+    by : (o : Option SemRow) → slice_get sems k ≡ o → item_of is_tid waiter_name (waiters_of o) t ≡ Some x → IsDown o
+    by None e h = absurd (cc h)
+    by (Some sem) e h = down sem (sem_at sems k sem all e) (λ none. cc (h, none))
 
 module _ (p : Program) (w : Spots) (net : Net) (s : Stands p w net) where
   -- no link holds a packet of a thread
@@ -49,6 +71,14 @@ module _ (p : Program) (w : Spots) (net : Net) (s : Stands p w net) where
           by_life (Noting k end) f h = absurd (no_way empty u _ _ (ap (λ z. ways_of u z (w.threads u).verdict (w.threads u).guest) f))
           by_life (Gone end) f h = absurd (cc (h ∙ ap phase_of f))
 
+      -- the one that waits for a semaphore is in its queue
+      queued_down : (m id : ℕ) → (w.threads t).life ≡ On m (Queues id) → IsDown (slice_get (w.sems (node_in id)) (number_in id))
+      queued_down m id e =
+          let h : ℕ = node_in id in
+          let k : ℕ = number_in id in
+          let queued : waiter_in_life h k t (w.threads t).life ≡ Some (t, m) = ap (waiter_in_life h k t) e ∙ (rw (eq-eqb h h refl, eq-eqb k k refl) refl) in
+          down_row (w.sems h) k t (t, m) (s.agrees.sems h) ((s.agrees.queues h k).shows t ∙ queued)
+
       ready : (m : ℕ) → (w.threads t).life ≡ On m Ready → ⊥
       ready m e =
           let none : item_of is_tid listed_name (map listed (net.nodes m).run_lists.rows) t ≡ None = ap (λ (rs : List ReadyRow). item_of is_tid listed_name (map listed rs) t) (rows m) in
@@ -61,11 +91,14 @@ module _ (p : Program) (w : Spots) (net : Net) (s : Stands p w net) where
       by (Noting m end) e k = tt
       by (Gone end) e k = tt
       by (On m (Awaits u)) e k = awaited m u e
+      by (On m (Queues id)) e k = queued_down m id e
       by (On m Ready) e k = absurd (ready m e)
       by (On m Stays) e k = absurd (cc (s.agrees.stays t m e, going m))
       by (On m (Shows bytes)) e k = sent (On m (Shows bytes)) _ e refl
       by (On m Shown_there) e k = sent (On m Shown_there) _ e refl
       by (On m (Asks u)) e k = sent (On m (Asks u)) _ e refl
+      by (On m (Detaches u)) e k = sent (On m (Detaches u)) _ e refl
+      by (On m (Signals id up)) e k = sent (On m (Signals id up)) _ e refl
       by (On m (Answered h)) e k = sent (On m (Answered h)) _ e refl
       by (On m stage) e k = absurd (cc (resting m stage (subst (λ z. IsSettled z) e k)))
 
@@ -87,7 +120,7 @@ module _ (p : Program) (w : Spots) (net : Net) (s : Stands p w net) where
   pub is_there : (t : Tid) (m : ℕ) (stage : Stage) → (w.threads t).life ≡ On m stage → (x : Thread) × IsOn net m t x
   is_there t m stage e =
       let g : Guest = (w.threads t).guest in
-      (waits (wait_of stage) g, (s.nodes m).threads.shows t ∙ thread_was m t (w.threads t) stage e ∙ rest_thread stage g (resting m stage (subst (λ z. IsSettled z) e (settled_at p w net s t))))
+      (waits (wait_of m stage) g, (s.nodes m).threads.shows t ∙ thread_was m t (w.threads t) stage e ∙ rest_thread m stage g (resting m stage (subst (λ z. IsSettled z) e (settled_at p w net s t))))
 
   -- where nothing is under way each that lives is on a node
   pub is_somewhere : AllLinksEmpty net → (t : Tid) → Lives (w.threads t).life → (n : ℕ) × (x : Thread) × IsOn net n t x
@@ -107,7 +140,7 @@ module _ (p : Program) (w : Spots) (net : Net) (s : Stands p w net) where
 
   pub picked_there : (n vp : ℕ) (r : ReadyRow) → best_on (tree_of p) vp (net.nodes n).run_lists.rows ≡ Some r → (x : Thread) × IsOn net n r.tid x
   picked_there n vp r picked =
-      (waits (wait_of Ready) (w.threads r.tid).guest, (s.nodes n).threads.shows r.tid ∙ ap (λ z. thread_in_life n z (w.threads r.tid).guest) (picked_ready p w net s (asked_of Boot None) n vp r picked) ∙ (rw (eq-eqb n n refl) refl))
+      (waits (wait_of n Ready) (w.threads r.tid).guest, (s.nodes n).threads.shows r.tid ∙ ap (λ z. thread_in_life n z (w.threads r.tid).guest) (picked_ready p w net s (asked_of Boot None) n vp r picked) ∙ (rw (eq-eqb n n refl) refl))
 
   -- a thread has called halt exactly where a node says so
   pub halts_are : (n : ℕ) → (net.nodes n).halted ≡ w.halts n

@@ -1,6 +1,8 @@
 -- The whole run: how nodes and links begin, that nothing is left open at an entry's end, and what holds after each run.
 use Rattle.std.proofs.Common.{◌≡◌, ℕ, ◌%◌, List, [], ◌∷◌, ◌++◌, Some, None, true, false, eqb, ltb, cond, refl, ap, ◌∙◌, subst, arith}
 use Rattle.std.proofs.lemmas.Bool.{ltb-true}
+use Rattle.std.proofs.lemmas.List.Elements.{All-nil}
+use Rattle.marcel_sync.specs.Semaphores.{IsSemaphore}
 use Rattle.slot_space.specs.Sets.{has, run}
 use Rattle.slot_space.specs.Addresses.{starting_slots}
 use Rattle.slot_space.specs.declared.names.Tid.{Tid}
@@ -19,7 +21,7 @@ use Rattle.run_trace.specs.Alone.{EachRunsAlone}
 use Rattle.run_trace.specs.Legality.{AfterEach}
 use Rattle.trace_laws.proofs.Outcomes.Consequences.{one_holder, runs_alone}
 use Rattle.trace_laws.proofs.Underway.Simulate.{Simulates, simulates, event, event_made}
-use Rattle.trace_laws.specs.Obeys.{IsSettled, ObeysFrom}
+use Rattle.trace_laws.specs.Obeys.{IsSettled, Obey, AgreesRule, ObeysFrom}
 use Rattle.run_trace.specs.Items.{is_busy, Subject, Thread as Thread_of}
 
 -- ## Before the first event
@@ -43,6 +45,7 @@ starts p = record {
     rows = record { apart = tt; shows = λ u. refl };
     busy = record { apart = tt; shows = λ u. refl };
     births = refl;
+    sems = refl;
     free = λ x. own_slots p n x;
     halted = refl;
   };
@@ -52,6 +55,9 @@ starts p = record {
     named = λ t. refl;
     awaits = λ t by at e. absurd (cc e);
     waits = λ t by at e. absurd (cc e);
+    sems = λ n. All-nil IsSemaphore;
+    queues = λ h k. record { apart = tt; shows = λ u. refl };
+    signals = λ t n id up e. absurd (cc e);
     stays = λ t n e. absurd (cc e);
     slots = λ t x. elim (ltb x (slots_in p)) as (λ v. false ≡ is_thread t (cond v (Of_node (x % nodes_of p)) Nobody)) [ true ↦ refl | false ↦ refl ];
     blocks = λ t. tt;
@@ -66,17 +72,19 @@ settled_at p w net s t n = elim (is_busy n (w.threads t).life) as (λ v. None �
 
 -- ## The whole run
 
--- the rules, the console, and what nodes and links stand for
+-- the rules, the console, what nodes and links stand for, and that before each label the spots agree
 pub record Whole (p : Program) (old : Spots) (base : Net) (trace : List Entry) : Type 0 where
   pub obeys : ObeysFrom p old base trace
   pub console : printed (events_of p base trace) ≡ console_of p old trace
   pub stands : Stands p (spots_of p old trace) (net_after_trace p base trace)
+  pub agrees : Obey AgreesRule p old base trace
 
 pub run_whole : (p : Program) (old : Spots) (base : Net) → Stands p old base → (trace : List Entry) → IsRun p base trace → Whole p old base trace
 run_whole p old base s [] r = record {
   obeys = record { solo = tt; holders = tt; life = tt; replies = tt; grants = tt; picks = tt; carried = tt; settled = tt };
   console = refl;
   stands = s;
+  agrees = tt;
 }
 run_whole p old base s (x ∷ xs) r =
     let was : Whole p old base xs = run_whole p old base s xs r.0 in
@@ -99,6 +107,7 @@ run_whole p old base s (x ∷ xs) r =
       };
       console = ap (λ bs. bs ++ e.prints) was.console ∙ ap (λ bs. console_of p old xs ++ bs) now.prints;
       stands = now.stands;
+      agrees = (was.agrees, now.allowed.agrees);
     }
 
 -- from the beginning: what nodes and links stand for
@@ -117,7 +126,7 @@ after_each P p f (x ∷ xs) r = (after_each P p f xs r.0, f (x ∷ xs) r)
 pub alone_after_run : (p : Program) (trace : List Entry) → IsRun p (fresh_net p) trace → EachRunsAlone p (net_after_trace p (fresh_net p) trace) trace
 alone_after_run p trace r =
     let all : Whole p (at_first p) (fresh_net p) trace = run_whole p (at_first p) (fresh_net p) (starts p) trace r in
-    runs_alone p (fresh_net p) trace (net_after_trace p (fresh_net p) trace) all.obeys.solo all.obeys.life all.stands
+    runs_alone p (fresh_net p) trace (net_after_trace p (fresh_net p) trace) all.obeys.solo all.obeys.life all.agrees all.stands
 
 pub held_once_after_run : (p : Program) (trace : List Entry) → IsRun p (fresh_net p) trace → EachHeldOnce (net_after_trace p (fresh_net p) trace)
 held_once_after_run p trace r = one_holder p (spots_of p (at_first p) trace) (net_after_trace p (fresh_net p) trace) (stands_after p trace r)

@@ -9,7 +9,7 @@ use Rattle.run_trace.specs.declared.entry.Act.TheVariants.{Boot, Run as RunThrea
 use Rattle.run_trace.specs.declared.entry.Entry.{Entry}
 use Rattle.run_trace.specs.declared.label.Label.{Label}
 use Rattle.run_trace.specs.declared.packet.Body.{Body}
-use Rattle.run_trace.specs.declared.packet.Body.TheVariants.{Mover, Show, ShowDone, JoinAsk, Answer, EndNote}
+use Rattle.run_trace.specs.declared.packet.Body.TheVariants.{Mover, Show, ShowDone, JoinAsk, DetachAsk, SemAsk, Answer, EndNote}
 use Rattle.run_trace.specs.declared.packet.Packet.{Packet}
 use Rattle.run_trace.specs.Names.{is_tid}
 use Rattle.run_trace.specs.Program.{Program, nodes_of, tree_of}
@@ -66,13 +66,15 @@ busy_say n [] w more a = a
 busy_say n (t ∷ ts) w more a = elim (is_busy_with n t w) as (λ v. AllSay (cond v (Does t ∷ busy_among n ts w) (busy_among n ts w) ++ more)) [ true ↦ busy_say n ts w more a | false ↦ busy_say n ts w more a ]
 
 then_say : (p : Program) (n : ℕ) (l : Label) (w : Spots) (hand : List Item) → AllSay hand → AllSay (to_do_after p n l w hand)
-then_say p n l w hand a = busy_say n (goes_on_with l w) (after_label p n l w) (all_but_first hand) (speaks hand a).rest
+then_say p n l w hand a = busy_say n (goes_on_with p n l w) (after_label p n l w) (all_but_first hand) (speaks hand a).rest
 
 opening_all : (n : ℕ) (body : Body) → AllSay (for_packet n body)
 opening_all n (Mover x) = tt
 opening_all n (Show t bytes) = tt
 opening_all n (ShowDone t) = tt
 opening_all n (JoinAsk by seq) = tt
+opening_all n (DetachAsk by seq) = tt
+opening_all n (SemAsk by id up) = tt
 opening_all n (Answer t reply second) = tt
 opening_all n (EndNote seq end) = tt
 
@@ -100,7 +102,7 @@ goes_on p q n (l ∷ ls) w hand a o k e = (
   subst (λ h. IsNext n l w.spots h) (sym (speaks hand a).same) k.0,
   record { solo = o.solo.0; holders = o.holders.0; life = o.life.0; replies = o.replies.0; grants = o.grants.0 },
   subst (λ h. GoesOn p (saying l q) n ls (world_after p n l w) (to_do_after p n l w.spots h)) (sym (speaks hand a).same)
-      (goes_on p (saying l q) n ls (world_after p n l w) (to_do_after p n l w.spots hand) (then_say p n l w.spots hand a) (record { solo = o.solo.1; holders = o.holders.1; life = o.life.1; replies = o.replies.1; grants = o.grants.1 }) k.1 e),
+      (goes_on p (saying l q) n ls (world_after p n l w) (to_do_after p n l w.spots hand) (then_say p n l w.spots hand a) (record { solo = o.solo.1; holders = o.holders.1; life = o.life.1; replies = o.replies.1; grants = o.grants.1; agrees = o.agrees.1 }) k.1 e),
 )
 
 -- an entry begins with what is said

@@ -15,13 +15,13 @@ use Rattle.trace_laws.proofs.Underway.Simulate.{asked_of, taken_expected}
 use Rattle.trace_laws.proofs.Outcomes.Wholes.{run_whole}
 use Rattle.run_trace.specs.Links.{first_of}
 
-act_expected : (p : Program) (w : Spots) (net : Net) → Stands p w net → (n : ℕ) (a : Act) → IsExpected p n (net.nodes n) (next_packet net n a)
+act_expected : (p : Program) (w : Spots) (net : Net) → Stands p w net → (n : ℕ) (a : Act) → IsExpected p n a (net.nodes n) (next_packet net n a)
 act_expected p w net s n Boot = tt
 act_expected p w net s n (Run vp quantum) = tt
 act_expected p w net s n (Move t to) = tt
 act_expected p w net s n (Take i) = by (first_of (net.links i n)) refl
   where
-    by : (o : Option Packet) → first_of (net.links i n) ≡ o → IsExpected p n (net.nodes n) o
+    by : (o : Option Packet) → first_of (net.links i n) ≡ o → IsExpected p n (Take i) (net.nodes n) o
     by None e = tt
     by (Some x) e = taken_expected p w net s (asked_of Boot None) n i x (sym e)
 

@@ -1,5 +1,5 @@
 -- No packet, whatever it says, gives a node a slot twice.
-use Rattle.std.proofs.Common.{◌≡◌, ℕ, List, [], ◌∷◌, Option, Some, None, Bool, true, false, cond, refl, sym, ap, ◌∙◌, subst}
+use Rattle.std.proofs.Common.{◌≡◌, ℕ, List, [], ◌∷◌, Option, Some, None, Bool, true, false, eqb, cond, refl, sym, ap, ◌∙◌, subst}
 use Rattle.std.specs.Prelude.{nat_lt, not, slice_get, is_none}
 use Rattle.std.specs.List.{list_all}
 use Rattle.std.specs.Map.{lookup, set_value}
@@ -9,20 +9,28 @@ use Rattle.slot_space.specs.Sets.{has, meets}
 use Rattle.slot_space.proofs.Lemmas.{meets-common}
 use Rattle.slot_space.specs.Replies.{reply_code}
 use Rattle.slot_space.specs.declared.names.Tid.{Tid}
+use Rattle.slot_space.specs.declared.names.Reply.{Reply}
+use Rattle.slot_space.specs.declared.names.Reply.TheVariants as replies
 use Rattle.marcel_core.specs.declared.end.End.{End}
 use Rattle.marcel_core.specs.declared.birth.Verdict.{Verdict}
 use Rattle.marcel_core.specs.declared.birth.Verdict.TheVariants.{Now, Later, NoSuch, Taken}
-use Rattle.marcel_core.specs.Homes.{verdict, joiner}
+use Rattle.marcel_core.specs.Homes.{verdict, detach_verdict, detached_reply, joiner}
+use Rattle.marcel_sync.specs.declared.sem.SemRow.{SemRow}
+use Rattle.marcel_sync.specs.declared.sem.Pgot.{Pgot}
+use Rattle.marcel_sync.specs.declared.sem.Pgot.TheVariants as lowering
+use Rattle.marcel_sync.specs.declared.sem.Vgot.{Vgot}
+use Rattle.marcel_sync.specs.declared.sem.Vgot.TheVariants as raising
+use Rattle.marcel_sync.specs.Semaphores.{number_in, lowered_answer, lowered, raised_answer, raised}
 use Rattle.pack_thread.specs.Threads.{PackedThread as Packed}
 use Rattle.run_trace.specs.declared.node.Wait.TheVariants as wait
 use Rattle.run_trace.specs.declared.packet.Body.{Body}
-use Rattle.run_trace.specs.declared.packet.Body.TheVariants.{Mover, Show, ShowDone, JoinAsk, Answer, EndNote}
+use Rattle.run_trace.specs.declared.packet.Body.TheVariants.{Mover, Show, ShowDone, JoinAsk, DetachAsk, SemAsk, Answer, EndNote}
 use Rattle.run_trace.specs.Names.{is_tid, tid_cmp}
 use Rattle.run_trace.specs.Program.{Program, nodes_of}
 use Rattle.run_trace.specs.Guests.{Thread, waits, told, unpacked, guest_slots}
-use Rattle.run_trace.specs.Local.{Local, nothing}
-use Rattle.run_trace.specs.Steps.{tell, tell_found, comes, arrive, thread_in, say, keep, put, print, shows, acknowledges, hears, knows, change_birth, reply_by_link}
-use Rattle.run_trace.specs.Machine.{takes, accepts, is_stray, may_come, is_unserving, lives_yet, are_away, judges_join, tells_joiner}
+use Rattle.run_trace.specs.Local.{Local, EventSoFar, nothing}
+use Rattle.run_trace.specs.Steps.{tell, tell_found, comes, arrive, thread_in, say, keep, put, print, shows, acknowledges, judge, hears, hears_detach, hears_signal, knows, change_birth, reply_by_link}
+use Rattle.run_trace.specs.Machine.{takes, accepts, is_stray, may_come, is_unserving, lives_yet, are_away, answer, judges_join, replies_to, answers_p, answers_v, hears_call, tells_joiner}
 use Rattle.trace_laws.specs.Strays.{slots_with, slots_here, IsHeldOnce}
 use Rattle.run_trace.proofs.Lemmas.{is-true, is-refl}
 use Rattle.trace_laws.proofs.Lists.KeyedLemmas.{lookup-set_same, lookup-set_other, lookup-insert}
@@ -34,11 +42,14 @@ same_held s now own threads h = record {
   one = λ t u x k l. h.one t u x (sym (ap (has x) (threads t)) ∙ k) (sym (ap (has x) (threads u)) ∙ l);
 }
 
-told_held : (t : Tid) (code : ℕ) (second : Option ℕ) (s : Local) → IsHeldOnce s → IsHeldOnce (tell t code second (nothing s)).node
+told_held : (t : Tid) (code : ℕ) (second : Option ℕ) (d : EventSoFar) → IsHeldOnce d.node → IsHeldOnce (tell t code second d).node
 unfolding tell arrive say keep
-told_held t code second s h = by (lookup (is_tid t) s.threads) refl
+told_held t code second d h = by (lookup (is_tid t) s.threads) refl
   where
-    by : (o : Option Thread) → lookup (is_tid t) s.threads ≡ o → IsHeldOnce (tell_found t code second o (nothing s)).node
+    s : Local
+    s = d.node
+
+    by : (o : Option Thread) → lookup (is_tid t) s.threads ≡ o → IsHeldOnce (tell_found t code second o d).node
     by None e = h
     by (Some x) e = same_held s _ refl (λ u. elim (is_tid t u) as (λ v. is_tid t u ≡ v → slots_with (lookup (is_tid u) (set_value (is_tid t) s.threads (waits wait.No (told code second x.guest)))) ≡ slots_here s u) [
       | true ↦ λ f. subst (λ z. slots_with (lookup (is_tid z) (set_value (is_tid t) s.threads (waits wait.No (told code second x.guest)))) ≡ slots_here s z) (is-true t u f)
@@ -52,6 +63,37 @@ judged_held by from seq (Now end) s h = same_held s _ refl (λ t. refl) h
 judged_held by from seq Later s h = same_held s _ refl (λ t. refl) h
 judged_held by from seq NoSuch s h = same_held s _ refl (λ t. refl) h
 judged_held by from seq Taken s h = same_held s _ refl (λ t. refl) h
+
+-- semaphores hold no slots
+replied_held : (me at : ℕ) (t : Tid) (reply : Reply) (d : EventSoFar) → IsHeldOnce d.node → IsHeldOnce (replies_to me at t reply d).node
+unfolding judge say reply_by_link put
+replied_held me at t reply d h = elim (eqb me at) as (λ v. IsHeldOnce (cond v (answer t (reply_code reply) d) (reply_by_link t at reply None d)).node) [
+  | true ↦ told_held t (reply_code reply) None (judge t (reply_code reply) None d) (same_held d.node _ refl (λ u. refl) h)
+  | false ↦ same_held d.node _ refl (λ u. refl) h
+]
+
+lowered_held : (me at : ℕ) (t : Tid) (got : Pgot) (d : EventSoFar) → IsHeldOnce d.node → IsHeldOnce (answers_p me at t got d).node
+lowered_held me at t lowering.Got d h = replied_held me at t (replies.Value 0) d h
+lowered_held me at t lowering.Later d h = h
+lowered_held me at t lowering.NoSuch d h = replied_held me at t replies.NoSuch d h
+
+raised_held : (me at : ℕ) (t : Tid) (got : Vgot) (d : EventSoFar) → IsHeldOnce d.node → IsHeldOnce (answers_v me at t got d).node
+raised_held me at t (raising.Woke u there) d h = replied_held me at t (replies.Value 0) _ (replied_held me there u (replies.Value 0) d h)
+raised_held me at t raising.Stored d h = replied_held me at t (replies.Value 0) d h
+raised_held me at t raising.AtLimit d h = replied_held me at t replies.BadArgument d h
+raised_held me at t raising.NoSuch d h = replied_held me at t replies.NoSuch d h
+
+signal_held : (by : Tid) (sems : List SemRow) (s : Local) → IsHeldOnce s → IsHeldOnce (hears_signal by sems (nothing s)).node
+unfolding hears_signal say
+signal_held by sems s h = same_held s _ refl (λ t. refl) h
+
+called_held : (me from : ℕ) (by : Tid) (id : ℕ) (up : Bool) (s : Local) → IsHeldOnce s → IsHeldOnce (hears_call me from by id up (nothing s)).node
+called_held me from by id true s h = raised_held me from by (raised_answer (number_in id) s.sems) _ (signal_held by (raised (number_in id) s.sems) s h)
+called_held me from by id false s h = lowered_held me from by (lowered_answer (number_in id) s.sems) _ (signal_held by (lowered (number_in id) (by, from) s.sems) s h)
+
+detached_held : (by : Tid) (from seq : ℕ) (reply : Reply) (s : Local) → IsHeldOnce s → IsHeldOnce (reply_by_link by from reply None (hears_detach by seq (nothing s))).node
+unfolding hears_detach change_birth say reply_by_link put
+detached_held by from seq reply s h = same_held s _ refl (λ t. refl) h
 
 known_held : (me seq : ℕ) (end : End) (o : Option (Tid × ℕ)) (s : Local) → IsHeldOnce s → IsHeldOnce (tells_joiner end o (knows me seq end (nothing s))).node
 unfolding knows change_birth say reply_by_link put
@@ -118,7 +160,7 @@ came_held p me x s may h = record {
     at : (t : Tid) (y : ℕ) → has y (slots_with (lookup (is_tid t) (insert_entry tid_cmp s.threads x.tid new))) ≡ true → has y (slots_with (cond (is_tid t x.tid) (Some new) (lookup (is_tid t) s.threads))) ≡ true
     at t y k = sym (ap (λ o. has y (slots_with o)) (lookup-insert is_tid is-true is-refl tid_cmp (λ a b. refl) s.threads x.tid t new)) ∙ k
 
-accepted_held : (p : Program) (me from : ℕ) (body : Body) (s : Local) → is_stray p me s body ≡ false → IsHeldOnce s → IsHeldOnce (accepts me from body s).node
+accepted_held : (p : Program) (me from : ℕ) (body : Body) (s : Local) → is_stray p me from s body ≡ false → IsHeldOnce s → IsHeldOnce (accepts me from body s).node
 unfolding shows acknowledges put print say
 accepted_held p me from (Mover x) s k h = came_held p me x s (opened (may_come p me s x) k) h
   where
@@ -126,13 +168,15 @@ accepted_held p me from (Mover x) s k h = came_held p me x s (opened (may_come p
     opened true e = refl
     opened false e = absurd (cc e)
 accepted_held p me from (Show t bytes) s k h = same_held s _ refl (λ u. refl) h
-accepted_held p me from (ShowDone t) s k h = told_held t 0 None s h
+accepted_held p me from (ShowDone t) s k h = told_held t 0 None (nothing s) h
 accepted_held p me from (JoinAsk by seq) s k h = judged_held by from seq (verdict (slice_get s.births seq)) s h
-accepted_held p me from (Answer t reply second) s k h = told_held t (reply_code reply) second s h
+accepted_held p me from (DetachAsk by seq) s k h = detached_held by from seq (detached_reply (detach_verdict (slice_get s.births seq))) s h
+accepted_held p me from (SemAsk by id up) s k h = called_held me from by id up s h
+accepted_held p me from (Answer t reply second) s k h = told_held t (reply_code reply) second (nothing s) h
 accepted_held p me from (EndNote seq end) s k h = known_held me seq end (joiner (slice_get s.births seq)) s h
 
 pub held_once : (p : Program) (me from : ℕ) (s : Local) (body : Body) → IsHeldOnce s → IsHeldOnce (takes p me from body s).node
-held_once p me from s body h = elim (is_stray p me s body) as (λ v. is_stray p me s body ≡ v → IsHeldOnce (cond v (nothing s) (accepts me from body s)).node) [
+held_once p me from s body h = elim (is_stray p me from s body) as (λ v. is_stray p me from s body ≡ v → IsHeldOnce (cond v (nothing s) (accepts me from body s)).node) [
   | true ↦ λ e. h
   | false ↦ λ e. accepted_held p me from body s e h
 ] refl

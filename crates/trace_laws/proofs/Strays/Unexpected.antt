@@ -8,7 +8,7 @@ use Rattle.run_trace.specs.Program.{Program}
 use Rattle.run_trace.specs.Local.{Local, nothing}
 use Rattle.run_trace.specs.Machine.{is_range, is_stray, is_beyond, local_event, turn_event, stamp_limit}
 
-pub stray_ignored : (p : Program) (me from : ℕ) (s : Local) (x : Packet) → is_range p me s (Take from) ≡ true → is_stray p me s x.body ≡ true → local_event p me s (Take from) (Some x) ≡ Some (nothing s)
+pub stray_ignored : (p : Program) (me from : ℕ) (s : Local) (x : Packet) → is_range p me s (Take from) ≡ true → is_stray p me from s x.body ≡ true → local_event p me s (Take from) (Some x) ≡ Some (nothing s)
 unfolding local_event
 stray_ignored p me from s x range stray = rw (range, stray) refl
 

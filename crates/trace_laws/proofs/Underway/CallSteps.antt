@@ -1,12 +1,15 @@
 -- Calls, on an event in its midst: one that goes on, one that waits for what its packet brings, a halt, and a thread that leaves.
-use Rattle.std.proofs.Common.{◌≡◌, ℕ, ◌<◌, List, [], ◌∷◌, Some, true, false, eqb, cond, refl, sym, ap, ◌∙◌, subst, map}
-use Rattle.std.specs.Prelude.{nat_lt}
-use Rattle.std.proofs.lemmas.Bool.{eq-eqb}
+use Rattle.std.proofs.Common.{◌≡◌, ℕ, ◌<◌, List, [], ◌∷◌, ◌++◌, Some, None, Bool, true, false, eqb, cond, refl, sym, ap, ◌∙◌, subst, map}
+use Rattle.std.specs.Prelude.{nat_lt, not}
+use Rattle.std.proofs.Math.Path.{fun_ext}
+use Rattle.std.proofs.lemmas.Bool.{eq-eqb, eqb-true}
 use Rattle.std.proofs.lemmas.List.{append-nil}
 use Rattle.slot_space.specs.declared.names.Tid.{Tid}
+use Rattle.marcel_sync.specs.declared.sem.SemRow.{SemRow}
+use Rattle.marcel_sync.specs.Semaphores.{node_in}
 use Rattle.run_trace.specs.declared.label.Label.TheVariants.{Asked, Left, Halted}
 use Rattle.run_trace.specs.declared.packet.Body.{Body}
-use Rattle.run_trace.specs.declared.packet.Body.TheVariants.{Mover, Show, JoinAsk}
+use Rattle.run_trace.specs.declared.packet.Body.TheVariants.{Mover, Show, JoinAsk, DetachAsk, SemAsk}
 use Rattle.run_trace.specs.declared.node.Wait.{Wait}
 use Rattle.run_trace.specs.declared.node.Wait.TheVariants as wait
 use Rattle.run_trace.specs.Names.{is_tid}
@@ -15,20 +18,20 @@ use Rattle.run_trace.specs.Guests.{waits, packed, Solo}
 use Rattle.run_trace.specs.declared.call.Call.{Call}
 use Rattle.run_trace.specs.Calls.{call_of, number_of, args_of, refusal, said_bytes}
 use Rattle.run_trace.specs.Local.{EventSoFar}
-use Rattle.run_trace.specs.Steps.{say, put, take_off, keep, halt, asks, asks_show, asks_join, halts, leaves, thread_out}
+use Rattle.run_trace.specs.Steps.{say, put, take_off, keep, halt, asks, asks_show, asks_join, asks_detach, asks_signal, halts, leaves, thread_out}
 use Rattle.run_trace.specs.Machine.{goes}
 use Rattle.run_trace.specs.Keyed.{StandsFor}
-use Rattle.run_trace.specs.Spots.{Stage, Ready, Running, Departs, Halts, Stays, Shows, Asks, Unborn, On, Moving, Spot, Spots, update, remote_after, after_label, stage_of_call, at_node}
+use Rattle.run_trace.specs.Spots.{Stage, Ready, Running, Departs, Halts, Stays, Shows, Asks, Detaches, Signals, Unborn, On, Moving, Spot, Spots, Going, update, set_going, remote_after, after_label, stage_of_call, going_by_call, sems_by_call, at_node}
 use Rattle.run_trace.specs.Rules.{MayLeave}
 use Rattle.run_trace.specs.Stands.{Busy, busy, busy_name, busy_part, thread_part, row_part, listed, listed_name, word_subject, word_of, way, ways_of, phase_of, held, held_in_stage, holding_of}
 use Rattle.run_trace.proofs.Lemmas.{is-true, is-refl}
 use Rattle.trace_laws.proofs.Lists.KeyedLemmas.{kept, unfronted, refronted, map_kept, map_removed, map_set}
 use Rattle.trace_laws.proofs.Underway.Steps.{in_hand, own_stays, own_goes, own_alone, home_step, send_step, life_then}
 use Rattle.run_trace.specs.Causes.{send_to, asked_causes}
-use Rattle.trace_laws.proofs.Underway.Midst.{Outset, Own, beside, Links, Midst, under, spots_with, labelled, here_kept, agrees_kept, plain, links_kept, Keeps, keeps}
+use Rattle.trace_laws.proofs.Underway.Midst.{Outset, Own, beside, Links, Midst, under, spots_with, labelled, here_kept, agrees_kept, quiet, plain, links_kept, Keeps, keeps}
 use Rattle.trace_laws.proofs.Lists.Parts.{thread_was, row_was, busy_was, rows_without, away_thread, away_row, busy_none}
 use Rattle.trace_laws.proofs.Lists.Stages.{is_in_hand, hand_home, hand_busy, hand_thread, hand_row, leaves_home, leaves_holding, StandsWaiting, is_home, home_way, home_quiet, home_busy}
-use Rattle.run_trace.specs.Items.{Thread as Its, Item, Says}
+use Rattle.run_trace.specs.Items.{Thread as Its, Item, Says, as_list, one_going, goes_on_with}
 
 abbrev pub solo_at : Spots → Tid → Solo
 solo_at v t = (v.threads t).guest.solo
@@ -39,11 +42,35 @@ call_at v t = call_of (solo_at v t).state
 abbrev pub bytes_at : Program → Spots → Tid → List ℕ
 bytes_at p v t = said_bytes p (solo_at v t).state (call_at v t) (refusal p t (solo_at v t) (call_at v t))
 
-asked_same : (p : Program) (n : ℕ) (v : Spots) (t : Tid) (bytes : List ℕ) (b : Stage) → stage_of_call p n t (solo_at v t) ≡ b
+-- what is told with a call: whom else it sets going, in which stage its thread goes on, and the semaphores then
+abbrev pub asked_spots : ℕ → Spots → Tid → (bytes : List ℕ) → Going → Stage → (ℕ → List SemRow) → Spots
+asked_spots n v t bytes going b z =
+    spots_with (update (set_going going v.threads) t (record (v.threads t) { life = On n b })) v.slots v.births z v.halts (remote_after (Asked t (number_of (call_at v t)) (args_of (call_at v t)) bytes) v.remote)
+
+pub asked_as : (p : Program) (n : ℕ) (v : Spots) (t : Tid) (bytes : List ℕ) (going : Going) (b : Stage) (z : ℕ → List SemRow) → going_by_call p n t v ≡ going → stage_of_call p n t v ≡ b → at_node v.sems n (sems_by_call p n t v) ≡ z
+    → after_label p n (Asked t (number_of (call_at v t)) (args_of (call_at v t)) bytes) v ≡ asked_spots n v t bytes going b z
+asked_as p n v t bytes going b z other st sems =
+    ap (λ k. asked_spots n v t bytes k (stage_of_call p n t v) (at_node v.sems n (sems_by_call p n t v))) other
+    ∙ ap (λ k. asked_spots n v t bytes going k (at_node v.sems n (sems_by_call p n t v))) st
+    ∙ ap (λ k. asked_spots n v t bytes going b k) sems
+
+pub same_at : {A : Type 0} (f : ℕ → A) (n : ℕ) (x : A) → x ≡ f n → at_node f n x ≡ f
+same_at f n x e = fun_ext (λ m. elim (eqb n m) as (λ v. eqb n m ≡ v → cond v x (f m) ≡ f m) [ true ↦ λ h. e ∙ ap f (eqb-true n m h) | false ↦ λ h. refl ] refl)
+
+-- a call that changes its thread alone
+pub record IsItsOwn (p : Program) (n : ℕ) (t : Tid) (v : Spots) (b : Stage) : Type 0 where
+  pub stage : stage_of_call p n t v ≡ b
+  pub going : going_by_call p n t v ≡ None
+  pub sems : sems_by_call p n t v ≡ v.sems n
+
+asked_same : (p : Program) (n : ℕ) (v : Spots) (t : Tid) (bytes : List ℕ) (b : Stage) → IsItsOwn p n t v b
     → after_label p n (Asked t (number_of (call_at v t)) (args_of (call_at v t)) bytes) v
-    ≡ spots_with (update v.threads t (record (v.threads t) { life = On n b })) v.slots v.births v.halts (remote_after (Asked t (number_of (call_at v t)) (args_of (call_at v t)) bytes) v.remote)
-asked_same p n v t bytes b st =
-    ap (λ z. spots_with (update v.threads t (record (v.threads t) { life = On n z })) v.slots v.births v.halts (remote_after (Asked t (number_of (call_at v t)) (args_of (call_at v t)) bytes) v.remote)) st
+    ≡ spots_with (update v.threads t (record (v.threads t) { life = On n b })) v.slots v.births v.sems v.halts (remote_after (Asked t (number_of (call_at v t)) (args_of (call_at v t)) bytes) v.remote)
+asked_same p n v t bytes b own = asked_as p n v t bytes None b v.sems own.going own.stage (same_at v.sems n _ own.sems)
+
+-- after which the event may go on with its thread alone
+goes_alone : {p : Program} {n : ℕ} {v : Spots} {b : Stage} (t : Tid) (bytes : List ℕ) → IsItsOwn p n t v b → goes_on_with p n (Asked t (number_of (call_at v t)) (args_of (call_at v t)) bytes) v ≡ Its t ∷ []
+goes_alone t bytes own = ap (λ k. as_list (one_going k) ++ Its t ∷ []) own.going
 
 -- its home is a node, as each thread's is
 home_of : {outset : Outset} {due : List Item} {L : Links} {d : EventSoFar} {hand : List Busy} (t : Tid) (a : Stage) → (m : Midst outset due L d hand) → (m.now.spots.threads t).life ≡ On outset.node a → nat_lt t.home (nodes_of outset.program) ≡ true
@@ -63,7 +90,7 @@ module _ {outset : Outset} {ahead : List Item} {L : Links} where
 
   -- a call that goes on here
   pub asks_ok : (d : EventSoFar) (t : Tid) (b : Stage) (hs : List Busy) → (m : Midst outset ahead L d (busy t (On n Running) ∷ hs))
-      → stage_of_call p n t (solo_at m.now.spots t) ≡ b → [] ≡ bytes_at p m.now.spots t → asked_causes t b ≡ []
+      → IsItsOwn p n t m.now.spots b → [] ≡ bytes_at p m.now.spots t → asked_causes t b ≡ []
       → is_in_hand b ≡ true
       → Keeps (Some (holding_of (m.now.spots.threads t).guest)) (held_in_stage b (m.now.spots.threads t).guest)
       → Midst outset ahead L (asks t (call_at m.now.spots t) d) (busy t (On n b) ∷ hs)
@@ -78,19 +105,20 @@ module _ {outset : Outset} {ahead : List Item} {L : Links} where
         same = asked_same p n m.now.spots t [] b st;
         may = record { solo = (refl, refl, bytes); holders = tt; life = x; replies = tt; grants = tt };
         ties = record {
-          threads = map_kept is_tid is-true is-refl (thread_part n) v.threads t r d.node.threads m.here.threads (thread_was n t r b refl ∙ hand_thread b s.guest here ∙ sym (thread_was n t s Running x));
+          threads = map_kept is_tid is-true is-refl (thread_part n) v.threads t r d.node.threads m.here.threads (thread_was n t r b refl ∙ hand_thread n b s.guest here ∙ sym (thread_was n t s Running x));
           rows = kept is_tid is-true is-refl listed_name (row_part n) v.threads t r (map listed d.node.run_lists.rows) m.here.rows (row_was n t r b refl ∙ hand_row t b s.guest.priority here ∙ sym (row_was n t s Running x));
           busy = refronted is_tid is-true is-refl busy_name (busy_part n) v.threads t r hs (busy t (On n Running)) (busy t (On n b)) m.here.busy refl refl (busy_was n t r (On n b) refl (hand_busy n b here));
         };
         births = refl;
+        sems = refl;
         free = refl;
         halted = refl;
-        next = own_stays m refl refl (hand_busy n b here);
+        next = own_stays m refl (goes_alone t [] st) (hand_busy n b here);
         run_lists = refl;
         booted = refl;
       })
       (record {
-        sent = ap (asked_causes t) st ∙ sent;
+        sent = ap (asked_causes t) st.stage ∙ sent;
         shown = refl;
         was = x;
         is = refl;
@@ -101,7 +129,7 @@ module _ {outset : Outset} {ahead : List Item} {L : Links} where
 
   -- a call that sends a packet
   asks_out_ok : (d : EventSoFar) (t : Tid) (bytes : List ℕ) (b : Stage) (waiting : Wait) (to : ℕ) (body : Body) (hs : List Busy) → (m : Midst outset ahead L d (busy t (On n Running) ∷ hs))
-      → stage_of_call p n t (solo_at m.now.spots t) ≡ b → bytes ≡ bytes_at p m.now.spots t → IsPosted n t b to body (m.now.spots.threads t) → StandsWaiting n t b waiting (m.now.spots.threads t).guest
+      → IsItsOwn p n t m.now.spots b → bytes ≡ bytes_at p m.now.spots t → IsPosted n t b to body (m.now.spots.threads t) → StandsWaiting n t b waiting (m.now.spots.threads t).guest
       → Midst outset ahead L (put to body (say (Asked t (number_of (call_at m.now.spots t)) (args_of (call_at m.now.spots t)) bytes) (keep t (waits waiting (m.now.spots.threads t).guest) d))) hs
   unfolding put keep say
   asks_out_ok d t bytes b waiting to body hs m st said packet still =
@@ -119,14 +147,15 @@ module _ {outset : Outset} {ahead : List Item} {L : Links} where
           busy = unfronted is_tid is-true is-refl busy_name (busy_part n) v.threads t r hs (busy t (On n Running)) m.here.busy refl (busy_none n t r (On n b) refl (still.idle n));
         };
         births = refl;
+        sems = refl;
         free = refl;
         halted = refl;
-        next = own_goes m refl refl (still.idle n);
+        next = own_goes m refl (goes_alone t bytes st) (still.idle n);
         run_lists = refl;
         booted = refl;
       })
       (record {
-        sent = ap (asked_causes t) st ∙ packet.sent;
+        sent = ap (asked_causes t) st.stage ∙ packet.sent;
         shown = refl;
         before = ap (λ z. ways_of t z s.verdict s.guest) x;
         after = packet.ways;
@@ -139,25 +168,38 @@ module _ {outset : Outset} {ahead : List Item} {L : Links} where
           busy = busy_none k t r (On n b) refl (still.idle k) ∙ sym (busy_none k t s (On n Running) x e);
         };
         phase = sym (ap phase_of x);
-        quiet = λ u k e. home_quiet n Running refl u k (sym x ∙ e);
+        quiet = quiet x refl;
         holds = keeps _ _ (still.held ∙ sym (ap (λ z. held z s.guest) x));
-        unborn = λ e. absurd (cc (e, x));
         whole = plain (On n b) still.plain;
       })).midst
 
   pub asks_show_ok : (d : EventSoFar) (t : Tid) (bytes : List ℕ) (hs : List Busy) → (m : Midst outset ahead L d (busy t (On n Running) ∷ hs))
-      → stage_of_call p n t (solo_at m.now.spots t) ≡ Shows bytes → bytes ≡ bytes_at p m.now.spots t
+      → IsItsOwn p n t m.now.spots (Shows bytes) → bytes ≡ bytes_at p m.now.spots t
       → Midst outset ahead L (asks_show t (call_at m.now.spots t) bytes (waits wait.No (m.now.spots.threads t).guest) d) hs
   unfolding asks_show
   asks_show_ok d t bytes hs m st said = asks_out_ok d t bytes (Shows bytes) wait.ForShow 0 (Show t bytes) hs m st said
       (record { sent = refl; ways = refl; name = refl }) (record { thread = refl; row = refl; idle = λ k. refl; held = refl; plain = refl })
 
   pub asks_join_ok : (d : EventSoFar) (t u : Tid) (hs : List Busy) → (m : Midst outset ahead L d (busy t (On n Running) ∷ hs))
-      → stage_of_call p n t (solo_at m.now.spots t) ≡ Asks u → [] ≡ bytes_at p m.now.spots t
+      → IsItsOwn p n t m.now.spots (Asks u) → [] ≡ bytes_at p m.now.spots t
       → Midst outset ahead L (asks_join t (call_at m.now.spots t) u (waits wait.No (m.now.spots.threads t).guest) d) hs
   unfolding asks_join asks
   asks_join_ok d t u hs m st said = asks_out_ok d t [] (Asks u) wait.ForAnswer u.home (JoinAsk t u.seq) hs m st said
       (record { sent = refl; ways = refl; name = refl }) (record { thread = refl; row = refl; idle = λ k. refl; held = refl; plain = refl })
+
+  pub asks_detach_ok : (d : EventSoFar) (t u : Tid) (hs : List Busy) → (m : Midst outset ahead L d (busy t (On n Running) ∷ hs))
+      → IsItsOwn p n t m.now.spots (Detaches u) → [] ≡ bytes_at p m.now.spots t
+      → Midst outset ahead L (asks_detach t (call_at m.now.spots t) u (waits wait.No (m.now.spots.threads t).guest) d) hs
+  unfolding asks_detach asks
+  asks_detach_ok d t u hs m st said = asks_out_ok d t [] (Detaches u) wait.ForAnswer u.home (DetachAsk t u.seq) hs m st said
+      (record { sent = refl; ways = refl; name = refl }) (record { thread = refl; row = refl; idle = λ k. refl; held = refl; plain = refl })
+
+  pub asks_signal_ok : (d : EventSoFar) (t : Tid) (id : ℕ) (up : Bool) (hs : List Busy) → (m : Midst outset ahead L d (busy t (On n Running) ∷ hs))
+      → IsItsOwn p n t m.now.spots (Signals id up) → [] ≡ bytes_at p m.now.spots t → eqb (node_in id) n ≡ false
+      → Midst outset ahead L (asks_signal t (call_at m.now.spots t) id up (waits wait.No (m.now.spots.threads t).guest) d) hs
+  unfolding asks_signal asks
+  asks_signal_ok d t id up hs m st said away = asks_out_ok d t [] (Signals id up) wait.ForAnswer (node_in id) (SemAsk t id up) hs m st said
+      (record { sent = refl; ways = refl; name = refl }) (record { thread = refl; row = refl; idle = λ k. refl; held = refl; plain = ap not away })
 
   pub halts_ok : (d : EventSoFar) (t : Tid) (hs : List Busy) → (m : Midst outset ahead L d (busy t (On n Halts) ∷ hs)) → Midst outset ahead L (halts t (waits wait.No (m.now.spots.threads t).guest) d) hs
   unfolding halts halt say keep
@@ -166,7 +208,7 @@ module _ {outset : Outset} {ahead : List Item} {L : Links} where
       let s : Spot = m.now.spots.threads t in
       let x : s.life ≡ On n Halts = in_hand m in
       let r : Spot = record s { life = On n Stays } in
-      (labelled L hs (Halted t) (spots_with (update v.threads t r) v.slots v.births (at_node v.halts n true) v.remote) _ m refl
+      (labelled L hs (Halted t) (spots_with (update v.threads t r) v.slots v.births v.sems (at_node v.halts n true) v.remote) _ m refl
       (record { solo = tt; holders = tt; life = x; replies = tt; grants = tt }) (sym (append-nil d.sends)) (sym (append-nil d.prints))
       (record {
         here = record {
@@ -174,6 +216,7 @@ module _ {outset : Outset} {ahead : List Item} {L : Links} where
           rows = kept is_tid is-true is-refl listed_name (row_part n) v.threads t r (map listed d.node.run_lists.rows) m.here.rows (row_was n t r Stays refl ∙ sym (row_was n t s Halts x));
           busy = unfronted is_tid is-true is-refl busy_name (busy_part n) v.threads t r hs (busy t (On n Halts)) m.here.busy refl (busy_none n t r (On n Stays) refl refl);
           births = m.here.births;
+          sems = m.here.sems;
           free = m.here.free;
           halted = rw (eq-eqb n n refl) refl;
         };
@@ -183,10 +226,10 @@ module _ {outset : Outset} {ahead : List Item} {L : Links} where
               row = away_row n k t r Stays refl e ∙ sym (away_row n k t s Halts x e);
               busy = busy_none k t r (On n Stays) refl refl ∙ sym (busy_none k t s (On n Halts) x e);
             })
-            refl (λ y. refl) (rw e refl);
+            refl refl (λ y. refl) (rw e refl);
         links = λ i j. links_kept t r v.threads (under n L d.sends) m.links (sym (ap (λ z. ways_of t z s.verdict s.guest) x)) i j;
-        agrees = agrees_kept p v t r (at_node v.halts n true) m.agrees (sym (ap phase_of x)) (λ u k e. home_quiet n Halts refl u k (sym x ∙ e)) (keeps _ _ (ap (λ z. held z s.guest) (sym x))) (λ e. absurd (cc (e, x))) (λ u k e. absurd (cc e))
-            (λ k e. (let same : n ≡ k = cc e in rw (eq-eqb n k same) refl)) (λ k e. elim (eqb n k) as (λ v. cond v true (m.now.spots.halts k) ≡ true) [ true ↦ refl | false ↦ e ]);
+        agrees = agrees_kept p v t r (at_node v.halts n true) m.agrees (sym (ap phase_of x)) (quiet x refl) (keeps _ _ (ap (λ z. held z s.guest) (sym x)))
+            (record { waits = λ u k e. absurd (cc e); signals = λ k id up e. absurd (cc e); stays = λ k e. (let same : n ≡ k = cc e in rw (eq-eqb n k same) refl) }) (λ j k. refl) (λ k e. elim (eqb n k) as (λ v. cond v true (m.now.spots.halts k) ≡ true) [ true ↦ refl | false ↦ e ]);
       })
       (beside (own_goes m refl refl refl) (life_then p n m.now.spots (Halted t) t r _ refl refl) refl refl)).midst
 
@@ -196,7 +239,7 @@ module _ {outset : Outset} {ahead : List Item} {L : Links} where
   pub leaves_ok : {due : List Item} {hand : List Busy} (d : EventSoFar) (t : Tid) (to : ℕ) (a : Stage) (hs : List Busy) → (m : Midst outset due L d hand) → (m.now.spots.threads t).life ≡ On n a
       → MayLeave n to (On n a) → to < nodes_of p → (to ≡ n → ⊥)
       → StandsFor is_tid busy_name (busy_part n) hs (update m.now.spots.threads t (record (m.now.spots.threads t) { life = Moving n to }))
-      → Own n (Left t to) t m.now.spots due ahead hand hs (Moving n to)
+      → Own p n (Left t to) t m.now.spots due ahead hand hs (Moving n to)
       → Midst outset ahead L (leaves t to (waits wait.No (m.now.spots.threads t).guest) d) hs
   unfolding leaves put say thread_out take_off
   leaves_ok d t to a hs m x may below other hands own =
@@ -214,6 +257,7 @@ module _ {outset : Outset} {ahead : List Item} {L : Links} where
           busy = hands;
         };
         births = refl;
+        sems = refl;
         free = refl;
         halted = refl;
         next = own;
@@ -234,9 +278,8 @@ module _ {outset : Outset} {ahead : List Item} {L : Links} where
           busy = sym (busy_none k t s (On n a) x (home_busy n k a home e));
         };
         phase = sym (ap phase_of x);
-        quiet = λ u k e. home_quiet n a home u k (sym x ∙ e);
+        quiet = home_quiet n a s.life x home;
         holds = keeps _ _ (sym (ap (λ z. held z s.guest) x ∙ leaves_holding n to a s.guest may));
-        unborn = λ e. absurd (cc (e, x));
         whole = plain _ refl;
       })).midst
 

@@ -1,35 +1,41 @@
 -- Calls and runs, composed of their steps.
 use Rattle.std.proofs.Common.{◌≡◌, ℕ, ◌<◌, List, [], ◌∷◌, Option, Some, None, Bool, true, false, eqb, cond, refl, sym, ap, ◌∙◌, subst, arith}
-use Rattle.std.specs.Prelude.{nat_lt}
+use Rattle.std.specs.Prelude.{nat_lt, length, ◌^◌}
 use Rattle.std.proofs.lemmas.Bool.{eqb-false}
 use Rattle.std.proofs.lemmas.Bool.Decides.{nat_tests}
-use Rattle.slot_space.specs.Replies.{reply_code}
+use Rattle.slot_space.specs.Replies.{reply_code, tid_value}
 use Rattle.slot_space.specs.declared.names.Tid.{Tid}
 use Rattle.slot_space.specs.declared.names.Reply.{Reply}
 use Rattle.rv_step.specs.declared.hart.Stop.{Stop}
 use Rattle.rv_step.specs.declared.hart.Stop.TheVariants as stops
 use Rattle.marcel_core.specs.declared.end.End.TheVariants as end_of
+use Rattle.marcel_sync.specs.Semaphores.{node_in, name_on, with_one_more}
+use Rattle.run_trace.specs.RunLists.{is_listed}
 use Rattle.run_trace.specs.declared.node.Wait.TheVariants as wait
 use Rattle.run_trace.specs.Names.{tid_of}
 use Rattle.run_trace.specs.Program.{Program, nodes_of}
 use Rattle.run_trace.specs.Guests.{Guest, Solo, Thread, Run, waits, with_state}
 use Rattle.run_trace.specs.declared.call.Call.{Call}
-use Rattle.run_trace.specs.declared.call.Call.TheVariants.{Exit, Name, Node, Nodes, Yield, Create, Join, Isomalloc, Isofree, MigrateSelf, Print, Halt, Unknown}
+use Rattle.run_trace.specs.declared.call.Call.TheVariants.{Exit, Name, Node, Nodes, Yield, Create, Join, Detach, SemNew, SemP, SemV, Isomalloc, Isofree, MigrateSelf, Migrate, Print, Halt, Unknown}
 use Rattle.run_trace.specs.Calls.{call_of, refusal, bytes_of, said_bytes}
 use Rattle.run_trace.specs.Local.{EventSoFar}
-use Rattle.run_trace.specs.Steps.{at_found, at_thread, thread_at, ran, asks, asks_show, asks_join}
+use Rattle.run_trace.specs.Steps.{at_found, at_thread, thread_at, ran, asks, asks_here, asks_show, asks_join, asks_detach}
 use Rattle.run_trace.specs.Causes.{asked_causes}
 use Rattle.trace_laws.proofs.Lists.Arriving.{ran_lists}
-use Rattle.run_trace.specs.Machine.{answer, end_thread, creates, creates_in, free_slot, goes, migrates, calls, stopped, run_thread}
+use Rattle.run_trace.specs.Machine.{answer, end_thread, creates, creates_in, free_slot, goes, migrates, sends, sends_away, signals, calls, stopped, run_thread}
 use Rattle.run_trace.specs.Rules.{quantum_in}
-use Rattle.run_trace.specs.Spots.{Stage, Ready, Running, Due, Served, Departs, Ends, Halts, On, ran_stage, asked_stage, stage_of_call}
+use Rattle.run_trace.specs.Spots.{Stage, Ready, Running, Due, Served, Departs, Ends, Halts, On, Going, Spots, ran_stage, asked_stage, asked_going, asked_sems, sent_stage, sent_away}
 use Rattle.run_trace.specs.Stands.{busy, thread_in_stage, held_in_stage, holding_of}
 use Rattle.trace_laws.proofs.Lists.Stages.{is_in_hand}
 use Rattle.trace_laws.proofs.Underway.Midst.{Outset, Links, Midst, Keeps, keeps}
 use Rattle.trace_laws.proofs.Underway.Steps.{in_hand, on_node, at_ok}
 use Rattle.trace_laws.proofs.Underway.ReplySteps.{answer_ok, answer_move_ok, answer_stay_ok, refuse_ok}
 use Rattle.trace_laws.proofs.Underway.RunSteps.{ran_there, ran_ok, ran_guest, runs_out_ok, run_now}
-use Rattle.trace_laws.proofs.Underway.CallSteps.{departs_ok, asks_ok, asks_show_ok, asks_join_ok, halts_ok, solo_at, bytes_at}
+use Rattle.trace_laws.proofs.Underway.CallSteps.{departs_ok, asks_ok, asks_show_ok, asks_join_ok, asks_detach_ok, halts_ok, solo_at, bytes_at, IsItsOwn}
+use Rattle.trace_laws.proofs.Underway.SemaphoreSteps.{asks_here_ok}
+use Rattle.trace_laws.proofs.Underway.SemaphoreCalls.{signals_ok}
+use Rattle.trace_laws.proofs.Underway.Sendings.{sends_away_ok}
+use Rattle.trace_laws.proofs.Lists.Queues.{more_sems, more_waiters}
 use Rattle.trace_laws.proofs.Underway.Lifetimes.{end_thread_ok, born_ok, lowest_is}
 use Rattle.trace_laws.proofs.Underway.HeapSteps.{allocates_ok, frees_ok}
 use Rattle.trace_laws.proofs.Lives.Heaps.{frees_well}
@@ -38,6 +44,20 @@ use Rattle.run_trace.specs.Items.{Item, Runs}
 -- the checks of a move refuse what is no node
 goes_inside : (p : Program) (t : Tid) (x : Solo) (to : ℕ) → refusal p t x (MigrateSelf to) ≡ None → to < nodes_of p
 goes_inside p t x to h = grind (arith, nat_tests, h)
+
+sends_inside : (p : Program) (t : Tid) (x : Solo) (name to : ℕ) → refusal p t x (Migrate name to) ≡ None → to < nodes_of p
+sends_inside p t x name to h = grind (arith, nat_tests, h)
+
+-- and what is too great for a semaphore
+small_value : (p : Program) (t : Tid) (x : Solo) (value : ℕ) → refusal p t x (SemNew value) ≡ None → value < 2 ^ 31
+small_value p t x value h = grind (arith, nat_tests, h)
+
+abbrev nobody : Going
+nobody = None
+
+nobody_else : (b : Bool) → nobody ≡ cond b nobody nobody
+nobody_else true = refl
+nobody_else false = refl
 
 module _ {outset : Outset} {ahead : List Item} {L : Links} (below : nat_lt outset.node (nodes_of outset.program) ≡ true) where
   open outset use {program as p, net, occasion as q, node as n, opening, world as w}
@@ -65,31 +85,43 @@ module _ {outset : Outset} {ahead : List Item} {L : Links} (below : nat_lt outse
   pub calls_ok : (d : EventSoFar) (t : Tid) → (m : Midst outset ahead L d (busy t (On n Running) ∷ [])) → Midst outset ahead L (stopped p n t stops.Call (waits wait.No (m.now.spots.threads t).guest) d) []
   calls_ok d t m = by (call_of s.state) refl (refusal p t s (call_of s.state)) refl
     where
+      v : Spots
+      v = m.now.spots
+
       s : Solo
-      s = solo_at m.now.spots t
+      s = solo_at v t
 
-      -- what follows on the call, and which bytes it names
-      stage : (c : Call) (o : Option Reply) → call_of s.state ≡ c → refusal p t s (call_of s.state) ≡ o → stage_of_call p n t s ≡ asked_stage p n t s c o
-      stage c o e f = ap (λ z. asked_stage p n t s (call_of s.state) z) f ∙ ap (λ z. asked_stage p n t s z o) e
+      -- whatever follows on the call, by the call and its refusal
+      follows : {A : Type 0} (f : Call → Option Reply → A) (c : Call) (o : Option Reply) → call_of s.state ≡ c → refusal p t s (call_of s.state) ≡ o → f (call_of s.state) (refusal p t s (call_of s.state)) ≡ f c o
+      follows f c o e g = ap (λ z. f (call_of s.state) z) g ∙ ap (λ z. f z o) e
 
-      bytes : (c : Call) (o : Option Reply) → call_of s.state ≡ c → refusal p t s (call_of s.state) ≡ o → said_bytes p s.state c o ≡ bytes_at p m.now.spots t
-      bytes c o e f = sym (ap (λ z. said_bytes p s.state (call_of s.state) z) f ∙ ap (λ z. said_bytes p s.state z o) e)
+      -- it changes its thread alone
+      own : (c : Call) (o : Option Reply) (b : Stage) → call_of s.state ≡ c → refusal p t s (call_of s.state) ≡ o → asked_stage p n t v c o ≡ b → asked_going n t v c o ≡ None → asked_sems n t c o (v.sems n) ≡ v.sems n → IsItsOwn p n t v b
+      own c o b e f st alone same = record {
+        stage = follows (λ z y. asked_stage p n t v z y) c o e f ∙ st;
+        going = follows (λ z y. asked_going n t v z y) c o e f ∙ alone;
+        sems = follows (λ z y. asked_sems n t z y (v.sems n)) c o e f ∙ same;
+      }
+
+      -- which bytes it names
+      bytes : (c : Call) (o : Option Reply) → call_of s.state ≡ c → refusal p t s (call_of s.state) ≡ o → said_bytes p s.state c o ≡ bytes_at p v t
+      bytes c o e f = sym (follows (λ z y. said_bytes p s.state z y) c o e f)
 
       -- the call is asked, and goes on here in this stage
-      asked : (c : Call) (o : Option Reply) (b : Stage) → call_of s.state ≡ c → refusal p t s (call_of s.state) ≡ o → asked_stage p n t s c o ≡ b → [] ≡ said_bytes p s.state c o
+      asked : (c : Call) (o : Option Reply) (b : Stage) → call_of s.state ≡ c → refusal p t s (call_of s.state) ≡ o → IsItsOwn p n t v b → [] ≡ said_bytes p s.state c o
           → asked_causes t b ≡ [] → is_in_hand b ≡ true
-          → Keeps (Some (holding_of (m.now.spots.threads t).guest)) (held_in_stage b (m.now.spots.threads t).guest)
+          → Keeps (Some (holding_of (v.threads t).guest)) (held_in_stage b (v.threads t).guest)
           → Midst outset ahead L (asks t c d) (busy t (On n b) ∷ [])
       asked c o b e f st none sent here kept = subst (λ z. Midst outset ahead L (asks t z d) (busy t (On n b) ∷ [])) e
-          (asks_ok d t b [] m (stage c o e f ∙ st) (none ∙ bytes c o e f) sent here kept)
+          (asks_ok d t b [] m st (none ∙ bytes c o e f) sent here kept)
 
       -- it is answered at once
-      due : (c : Call) (code : ℕ) (o : Option Reply) → call_of s.state ≡ c → refusal p t s (call_of s.state) ≡ o → asked_stage p n t s c o ≡ Due code → [] ≡ said_bytes p s.state c o → Midst outset ahead L (answer t code (asks t c d)) []
+      due : (c : Call) (code : ℕ) (o : Option Reply) → call_of s.state ≡ c → refusal p t s (call_of s.state) ≡ o → IsItsOwn p n t v (Due code) → [] ≡ said_bytes p s.state c o → Midst outset ahead L (answer t code (asks t c d)) []
       due c code o e f st none = answer_ok (asks t c d) t code [] (asked c o (Due code) e f st none refl refl (keeps _ _ refl))
 
       -- a step of the thread after it has asked
       then : (c : Call) (b : Stage) (step : Thread → EventSoFar → EventSoFar) → (k : Midst outset ahead L (asks t c d) (busy t (On n b) ∷ []))
-          → thread_in_stage b (k.now.spots.threads t).guest ≡ Some (waits wait.No (k.now.spots.threads t).guest)
+          → thread_in_stage n b (k.now.spots.threads t).guest ≡ Some (waits wait.No (k.now.spots.threads t).guest)
           → Midst outset ahead L (step (waits wait.No (k.now.spots.threads t).guest) (asks t c d)) []
           → Midst outset ahead L (at_thread t step (asks t c d)) []
       then c b step k there done = at_ok (asks t c d) [] t b step k (in_hand k) there done
@@ -99,33 +131,81 @@ module _ {outset : Outset} {ahead : List Item} {L : Links} (below : nat_lt outse
       now step done = at_ok d [] t Running step m (in_hand m) refl done
 
       by : (c : Call) → call_of s.state ≡ c → (o : Option Reply) → refusal p t s (call_of s.state) ≡ o → Midst outset ahead L (calls p n t c o (bytes_of p s.state c) d) []
-      by c e (Some reply) f = due c (reply_code reply) (Some reply) e f refl refl
-      by Name e None f = due Name _ None e f refl refl
-      by Node e None f = due Node _ None e f refl refl
-      by Nodes e None f = due Nodes _ None e f refl refl
-      by Yield e None f = due Yield _ None e f refl refl
-      by (Unknown number) e None f = due (Unknown number) _ None e f refl refl
+      by c e (Some reply) f = due c (reply_code reply) (Some reply) e f (own c (Some reply) (Due (reply_code reply)) e f refl refl refl) refl
+      by Name e None f = due Name _ None e f (own Name None _ e f refl refl refl) refl
+      by Node e None f = due Node _ None e f (own Node None _ e f refl refl refl) refl
+      by Nodes e None f = due Nodes _ None e f (own Nodes None _ e f refl refl refl) refl
+      by Yield e None f = due Yield _ None e f (own Yield None _ e f refl refl refl) refl
+      by (Unknown number) e None f = due (Unknown number) _ None e f (own (Unknown number) None _ e f refl refl refl) refl
       by (Exit value) e None f =
-          let k = asked (Exit value) None (Ends (end_of.Exit value)) e f refl refl refl refl (keeps _ _ refl) in
+          let k = asked (Exit value) None (Ends (end_of.Exit value)) e f (own (Exit value) None _ e f refl refl refl) refl refl refl (keeps _ _ refl) in
           then (Exit value) (Ends (end_of.Exit value)) _ k refl (end_thread_ok (asks t (Exit value) d) t (end_of.Exit value) [] k)
       by (Create entry a i) e None f = creates_ok (asks t (Create entry a i) d) t entry a i
-          (asked (Create entry a i) None (Served (Create entry a i)) e f refl refl refl refl (keeps _ _ refl))
+          (asked (Create entry a i) None (Served (Create entry a i)) e f (own (Create entry a i) None _ e f refl refl refl) refl refl refl (keeps _ _ refl))
       by (Isomalloc len) e None f =
-          let k = asked (Isomalloc len) None (Served (Isomalloc len)) e f refl refl refl refl (keeps _ _ refl) in
+          let k = asked (Isomalloc len) None (Served (Isomalloc len)) e f (own (Isomalloc len) None _ e f refl refl refl) refl refl refl (keeps _ _ refl) in
           then (Isomalloc len) (Served (Isomalloc len)) _ k refl (allocates_ok (asks t (Isomalloc len) d) t len [] k)
       by (Isofree address) e None f =
-          let k = asked (Isofree address) None (Served (Isofree address)) e f refl refl refl refl (record { slots = refl; well = λ h. frees_well (m.now.spots.threads t).guest address h }) in
+          let k = asked (Isofree address) None (Served (Isofree address)) e f (own (Isofree address) None _ e f refl refl refl) refl refl refl (record { slots = refl; well = λ h. frees_well (v.threads t).guest address h }) in
           then (Isofree address) (Served (Isofree address)) _ k refl (frees_ok (asks t (Isofree address) d) t address [] k)
       by (MigrateSelf to) e None f = migrates_ok (asks t (MigrateSelf to) d) t to
-          (asked (MigrateSelf to) None (Served (MigrateSelf to)) e f refl refl refl refl (keeps _ _ refl))
+          (asked (MigrateSelf to) None (Served (MigrateSelf to)) e f (own (MigrateSelf to) None _ e f refl refl refl) refl refl refl (keeps _ _ refl))
           (goes_inside p t s to (ap (refusal p t s) (sym e) ∙ f))
+      by (Migrate name to) e None f = by_name (eqb name (tid_value t)) refl
+        where
+          inside : to < nodes_of p
+          inside = sends_inside p t s name to (ap (refusal p t s) (sym e) ∙ f)
+
+          u : Tid
+          u = tid_of name
+
+          by_name : (itself : Bool) → eqb name (tid_value t) ≡ itself → Midst outset ahead L (sends p n u to t (eqb name (tid_value t)) (asks t (Migrate name to) d)) []
+          by_name true g = subst (λ z. Midst outset ahead L (sends p n u to t z (asks t (Migrate name to) d)) []) (sym g)
+              (migrates_ok (asks t (Migrate name to) d) t to
+              (asked (Migrate name to) None (Served (MigrateSelf to)) e f
+              (own (Migrate name to) None (Served (MigrateSelf to)) e f (ap (λ z. sent_stage n z to (v.threads u).life) g) (ap (λ z. sent_away n z u to (v.threads u).life) g) refl) refl refl refl (keeps _ _ refl))
+              inside)
+          by_name false g = subst (λ z. Midst outset ahead L (sends p n u to t z (asks t (Migrate name to) d)) []) (sym g)
+              (subst (λ z. Midst outset ahead L (sends_away p n u to t (is_listed u (asks t z d).node.run_lists.rows) (asks t z d)) []) e
+              (sends_away_ok d t u to m (record {
+                going = follows (λ z y. asked_going n t v z y) (Migrate name to) None e f ∙ ap (λ z. sent_away n z u to (v.threads u).life) g;
+                stage = follows (λ z y. asked_stage p n t v z y) (Migrate name to) None e f ∙ ap (λ z. sent_stage n z to (v.threads u).life) g;
+                sems = follows (λ z y. asked_sems n t z y (v.sems n)) (Migrate name to) None e f;
+                bytes = bytes (Migrate name to) None e f;
+              })
+              inside))
       by Halt e None f =
-          let k = asked Halt None Halts e f refl refl refl refl (keeps _ _ refl) in
+          let k = asked Halt None Halts e f (own Halt None _ e f refl refl refl) refl refl refl (keeps _ _ refl) in
           then Halt Halts _ k refl (halts_ok (asks t Halt d) t [] k)
-      by (Join name) e None f = now _ (subst (λ z. Midst outset ahead L (asks_join t z (tid_of name) (waits wait.No (m.now.spots.threads t).guest) d) []) e
-          (asks_join_ok d t (tid_of name) [] m (stage (Join name) None e f) (bytes (Join name) None e f)))
-      by (Print address len) e None f = now _ (subst (λ z. Midst outset ahead L (asks_show t z (bytes_of p s.state (Print address len)) (waits wait.No (m.now.spots.threads t).guest) d) []) e
-          (asks_show_ok d t (bytes_of p s.state (Print address len)) [] m (stage (Print address len) None e f) (bytes (Print address len) None e f)))
+      by (Join name) e None f = now _ (subst (λ z. Midst outset ahead L (asks_join t z (tid_of name) (waits wait.No (v.threads t).guest) d) []) e
+          (asks_join_ok d t (tid_of name) [] m (own (Join name) None _ e f refl refl refl) (bytes (Join name) None e f)))
+      by (Detach name) e None f = now _ (subst (λ z. Midst outset ahead L (asks_detach t z (tid_of name) (waits wait.No (v.threads t).guest) d) []) e
+          (asks_detach_ok d t (tid_of name) [] m (own (Detach name) None _ e f refl refl refl) (bytes (Detach name) None e f)))
+      by (SemNew value) e None f =
+          subst (λ z. Midst outset ahead L (answer t (name_on n (length z)) (asks_here t (SemNew value) (with_one_more value z) d)) []) (sym m.here.sems)
+          (subst (λ z. Midst outset ahead L (answer t (name_on n (length (v.sems n))) (asks_here t z (with_one_more value (v.sems n)) d)) []) e
+          (answer_ok (asks_here t (call_of s.state) (with_one_more value (v.sems n)) d) t (name_on n (length (v.sems n))) []
+          (asks_here_ok d t (name_on n (length (v.sems n))) (with_one_more value (v.sems n)) [] m (record {
+            going = follows (λ z y. asked_going n t v z y) (SemNew value) None e f;
+            stage = follows (λ z y. asked_stage p n t v z y) (SemNew value) None e f;
+            sems = follows (λ z y. asked_sems n t z y (v.sems n)) (SemNew value) None e f;
+            bytes = bytes (SemNew value) None e f;
+          })
+          (more_sems value (v.sems n) (small_value p t s value (ap (refusal p t s) (sym e) ∙ f)) (m.agrees.sems n)) (more_waiters value (v.sems n)))))
+      by (SemP id) e None f = subst (λ z. Midst outset ahead L (signals n t z id false d) []) e (signals_ok d t id false [] m (record {
+        going = follows (λ z y. asked_going n t v z y) (SemP id) None e f ∙ nobody_else (eqb (node_in id) n);
+        stage = follows (λ z y. asked_stage p n t v z y) (SemP id) None e f;
+        sems = follows (λ z y. asked_sems n t z y (v.sems n)) (SemP id) None e f;
+        bytes = bytes (SemP id) None e f;
+      }))
+      by (SemV id) e None f = subst (λ z. Midst outset ahead L (signals n t z id true d) []) e (signals_ok d t id true [] m (record {
+        going = follows (λ z y. asked_going n t v z y) (SemV id) None e f;
+        stage = follows (λ z y. asked_stage p n t v z y) (SemV id) None e f;
+        sems = follows (λ z y. asked_sems n t z y (v.sems n)) (SemV id) None e f;
+        bytes = bytes (SemV id) None e f;
+      }))
+      by (Print address len) e None f = now _ (subst (λ z. Midst outset ahead L (asks_show t z (bytes_of p s.state (Print address len)) (waits wait.No (v.threads t).guest) d) []) e
+          (asks_show_ok d t (bytes_of p s.state (Print address len)) [] m (own (Print address len) None _ e f refl refl refl) (bytes (Print address len) None e f)))
 
   -- a run of a ready thread, to its stop
   pub run_ok : (d : EventSoFar) (t : Tid) (vp : ℕ) → (m : Midst outset (Runs t vp ∷ ahead) L d []) → (m.now.spots.threads t).life ≡ On n Ready → Midst outset ahead L (run_thread p n vp (quantum_in q.act) t (waits wait.No (m.now.spots.threads t).guest) d) []

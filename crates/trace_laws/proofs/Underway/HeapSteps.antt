@@ -96,6 +96,7 @@ module _ {outset : Outset} {ahead : List Item} {L : Links} where
         may = record { solo = tt; holders = holder; life = rw x refl; replies = tt; grants = (rw x (none, refl), free) };
         ties = served_ties d t (Isomalloc len) (takes_slots got g) hs _ m x refl refl;
         births = refl;
+        sems = refl;
         halted = refl;
         change = takes_change p n v t r d.node.slots.free got m.agrees m.here.free holder
             (λ y. ap (λ z. has y (slots_held (held z (takes_slots got g)))) x ∙ has_takes y got g.solo.state.memory ∙ ap (λ z. cond (has y got) true (has y (slots_held (held z g)))) (sym x));
@@ -185,10 +186,11 @@ module _ {outset : Outset} {ahead : List Item} {L : Links} where
       let holder : (y : ℕ) → has y back ≡ true → v.slots y ≡ Of_thread t = λ y h. thread_holds t (v.slots y) (sym (m.agrees.slots t y) ∙ had y ∙ empty_held g address y h) in
       slots_step (busy t (On n a) ∷ hs) (Gave t back) t r _ (given n back v.slots) a a m
       (record {
-        same = ap (λ z. spots_with (update v.threads t (record s { life = z; guest = gives_slots back g })) (given n back v.slots) v.births v.halts v.remote) (ap gave_life x ∙ sym x);
+        same = ap (λ z. spots_with (update v.threads t (record s { life = z; guest = gives_slots back g })) (given n back v.slots) v.births v.sems v.halts v.remote) (ap gave_life x ∙ sym x);
         may = record { solo = tt; holders = holder; life = subst (λ z. MayGive n z g back) (sym x) (refl, refl, some); replies = tt; grants = tt };
         ties = served_ties d t (Isofree address) (gives_slots back g) hs _ m x refl refl;
         births = refl;
+        sems = refl;
         halted = refl;
         change = gives_change p n v t r d.node.slots.free back m.agrees m.here.free holder
             (λ y. ap (λ z. has y (slots_held (held z (gives_slots back g)))) x ∙ has_gives y back g.solo.state.memory ∙ ap (λ z. cond (has y back) false (has y (slots_held (held z g)))) (sym x));

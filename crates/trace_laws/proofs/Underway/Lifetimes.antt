@@ -10,6 +10,7 @@ use Rattle.slot_space.specs.declared.names.Tid.{Tid}
 use Rattle.slot_space.proofs.Lemmas.{has-union, has-minus, has-run, lowest_run-same, found}
 use Rattle.marcel_core.specs.declared.end.End.{End}
 use Rattle.marcel_core.specs.declared.birth.Birth.TheVariants.{Lives, Awaited}
+use Rattle.marcel_sync.specs.Semaphores.{node_in}
 use Rattle.run_trace.specs.declared.label.Label.{Label}
 use Rattle.run_trace.specs.declared.label.Label.TheVariants.{Born, Gave, Ended}
 use Rattle.run_trace.specs.declared.label.Why.TheVariants as why
@@ -17,22 +18,22 @@ use Rattle.run_trace.specs.declared.packet.Body.TheVariants.{EndNote}
 use Rattle.run_trace.specs.declared.node.Wait.TheVariants as wait
 use Rattle.run_trace.specs.Names.{is_tid, tid, tid_cmp}
 use Rattle.run_trace.specs.Program.{Program, nodes_of, main_priority}
-use Rattle.run_trace.specs.Guests.{Guest, Thread, waits, newborn, stack_end, guest_slots, gives_slots}
+use Rattle.run_trace.specs.Guests.{Guest, waits, newborn, stack_end, guest_slots, gives_slots}
 use Rattle.run_trace.specs.declared.call.Call.TheVariants.{Create}
 use Rattle.run_trace.specs.RunLists.{arrived}
 use Rattle.run_trace.specs.Local.{Local, EventSoFar}
 use Rattle.run_trace.specs.Steps.{say, put, arrive, thread_in, thread_out, slots_out, slots_in, birth_in, next_name, birth, gives, ends}
 use Rattle.run_trace.specs.Machine.{free_run, free_slot, end_thread}
 use Rattle.run_trace.specs.Cluster.{Net}
-use Rattle.run_trace.specs.Spots.{Stage, Stays, Ready, Due, Served, Ends, Leaves, Awaits, Life, Unborn, On, Moving, Noting, Gone, Response, Spot, Spots, Holder, Of_node, Of_thread, update, at_node, after_label, gave_life, born_spot, asked_priority, no_response}
+use Rattle.run_trace.specs.Spots.{Stage, Stays, Ready, Due, Served, Ends, Leaves, Awaits, Signals, Life, Unborn, On, Moving, Noting, Gone, Spot, Spots, Holder, Of_node, Of_thread, update, at_node, after_label, gave_life, born_spot, asked_priority, no_response}
 use Rattle.run_trace.specs.Rules.{is_free, lowest_free, MayGive}
-use Rattle.run_trace.specs.Stands.{Here, Agrees, Busy, busy, busy_name, busy_part, thread_part, thread_in_life, row_part, row_in_life, listed, listed_name, ways_of, phase_of, phase_at, Before, During, held, slots_held, IsWellHeld, is_thread}
+use Rattle.run_trace.specs.Stands.{Here, Agrees, Busy, busy, busy_name, busy_part, thread_part, thread_in_life, row_part, row_in_life, listed, listed_name, ways_of, phase_of, phase_at, Before, During, held, slots_held, IsWellHeld, is_thread, waiter_in_life}
 use Rattle.run_trace.proofs.Lemmas.{is-other, is-true, is-refl, is-false, is-flip, same_name}
 use Rattle.trace_laws.proofs.Lists.KeyedLemmas.{kept, unfronted, refronted, map_kept, map_removed, map_added}
 use Rattle.trace_laws.proofs.Lists.Births.{get-push, get-past, no_bytes, plain_start}
 use Rattle.run_trace.specs.World.{World}
 use Rattle.run_trace.specs.Obeying.{Allows, IsBy}
-use Rattle.trace_laws.proofs.Underway.Midst.{Outset, StandsAmid, amid, having_said, Then, doing, Own, beside, Links, Midst, plain, keeps, under, spots_with, labelled, here_kept, agrees_kept, agrees_changed, links_kept}
+use Rattle.trace_laws.proofs.Underway.Midst.{Outset, StandsAmid, amid, having_said, Then, doing, Own, beside, Links, Midst, plain, keeps, under, spots_with, labelled, here_kept, agrees_kept, agrees_changed, links_kept, Quiet, quiet, Plain, fits, queued, queued_kept}
 use Rattle.trace_laws.proofs.Lists.Parts.{thread_holds, node_holds, thread_was, row_was, busy_was, rows_arrived, frame_home, away_thread, away_row, busy_none}
 use Rattle.trace_laws.proofs.Lists.Stages.{home_way, home_quiet, home_plain}
 use Rattle.trace_laws.proofs.Lists.Arriving.{run_lists_after}
@@ -109,14 +110,15 @@ module _ (p : Program) (n : ℕ) (w : Spots) (t : Tid) (s : Spot) (old slots : L
 
 -- a label by which slots go between the event's node and its thread t, said of the world v, and what it leaves as it was
 pub record IsHandover (outset : Outset) (ahead : List Item) (d : EventSoFar) (hand more : List Busy) (l : Label) (t : Tid) (r : Spot) (now : Local) (f : ℕ → Holder) (v : World) : Type 0 where
-  pub same : after_label outset.program outset.node l v.spots ≡ spots_with (update v.spots.threads t r) f v.spots.births v.spots.halts v.spots.remote
+  pub same : after_label outset.program outset.node l v.spots ≡ spots_with (update v.spots.threads t r) f v.spots.births v.spots.sems v.spots.halts v.spots.remote
   pub may : Allows outset.program (having_said d.labels outset.occasion) outset.node l v
   pub ties : Ties outset.node v.spots t r now more
   pub births : now.births ≡ d.node.births
+  pub sems : now.sems ≡ d.node.sems
   pub halted : now.halted ≡ d.node.halted
   pub change : Changes outset.node v.spots t r now.slots.free f
   pub well : IsWellHeld (held r.life r.guest)
-  pub next : Own outset.node l t v.spots ahead ahead hand more r.life
+  pub next : Own outset.program outset.node l t v.spots ahead ahead hand more r.life
   pub run_lists : now.run_lists ≡ run_lists_after l v.spots d.node.run_lists
   pub booted : now.booted ≡ d.node.booted
 
@@ -134,14 +136,17 @@ module _ {outset : Outset} {ahead : List Item} {L : Links} where
       let y : r.life ≡ On n b = home.is in
       let before : ways_of t s.life s.verdict s.guest ≡ [] = ap (λ z. ways_of t z s.verdict s.guest) x ∙ home_way t n a s.verdict s.guest home.home_was in
       let after : ways_of t r.life r.verdict r.guest ≡ [] = ap (λ z. ways_of t z r.verdict r.guest) y ∙ home_way t n b r.verdict r.guest home.home_is in
-      labelled L more l (spots_with (update v.threads t r) f v.births v.halts v.remote) now m move.same move.may
+      labelled L more l (spots_with (update v.threads t r) f v.births v.sems v.halts v.remote) now m move.same move.may
       (sym (append-nil d.sends) ∙ ap (λ z. d.sends ++ z) (sym home.sent)) (sym (append-nil d.prints) ∙ ap (λ z. d.prints ++ z) (sym home.shown))
       (record {
-        here = record { threads = move.ties.threads; rows = move.ties.rows; busy = move.ties.busy; births = move.births ∙ m.here.births; free = move.change.free; halted = move.halted ∙ m.here.halted };
-        there = λ k e. here_kept k v t r (net.nodes k) [] (m.there k e) (frame_home n k t s r a b x y home.home_was home.home_is e) refl (move.change.there k e) refl;
+        here = record { threads = move.ties.threads; rows = move.ties.rows; busy = move.ties.busy; births = move.births ∙ m.here.births; sems = move.sems ∙ m.here.sems; free = move.change.free; halted = move.halted ∙ m.here.halted };
+        there = λ k e. here_kept k v t r (net.nodes k) [] (m.there k e) (frame_home n k t s r a b x y home.home_was home.home_is e) refl refl (move.change.there k e) refl;
         links = λ i j. links_kept t r v.threads (under n L d.sends) m.links (after ∙ sym before) i j;
-        agrees = agrees_changed p v t r m.agrees (ap phase_of y ∙ sym (ap phase_of x)) (λ u k e. home_quiet n a home.home_was u k (sym x ∙ e)) (λ e. absurd (cc (e, x)))
-            (λ u k e. home_quiet n b home.home_is u k (sym y ∙ e)) (λ k e. absurd ((home_plain n b home.home_is).stays k (sym y ∙ e))) (λ k e. e) move.change.slots move.well;
+        agrees =
+            let quiet : Quiet s.life = home_quiet n a s.life x home.home_was in
+            let new : Plain r.life = subst (λ z. Plain z) (sym y) (home_plain n b home.home_is) in
+            agrees_changed p v t r m.agrees (ap phase_of y ∙ sym (ap phase_of x)) quiet.born quiet.waits (fits new)
+            (queued_kept v.threads t r (queued m.agrees) (λ j k. quiet.queues j k t) (λ j k. new.queues j k t)) (λ k e. e) move.change.slots move.well;
       })
       (beside move.next (life_then p n m.now.spots l t r _ move.same refl) move.run_lists move.booted)
 
@@ -157,7 +162,7 @@ module _ {outset : Outset} {ahead : List Item} {L : Links} where
       let holder : (y : ℕ) → has y mine ≡ true → v.slots y ≡ Of_thread t = λ y h. thread_holds t (v.slots y) (sym (sym (had y) ∙ m.agrees.slots t y) ∙ h) in
       (slots_step (busy t (On n (Leaves end)) ∷ hs) (Gave t mine) t r _ (given n mine v.slots) (Ends end) (Leaves end) m
       (record {
-        same = ap (λ z. spots_with (update v.threads t (record s { life = gave_life z; guest = gives_slots mine s.guest })) (given n mine v.slots) v.births v.halts v.remote) x;
+        same = ap (λ z. spots_with (update v.threads t (record s { life = gave_life z; guest = gives_slots mine s.guest })) (given n mine v.slots) v.births v.sems v.halts v.remote) x;
         may = record { solo = tt; holders = holder; life = subst (λ z. MayGive n z s.guest mine) (sym x) (refl, refl); replies = tt; grants = tt };
         ties = record {
           threads = map_removed is_tid is-true is-refl (thread_part n) v.threads t r d.node.threads m.here.threads (thread_was n t r (Leaves end) refl);
@@ -165,6 +170,7 @@ module _ {outset : Outset} {ahead : List Item} {L : Links} where
           busy = refronted is_tid is-true is-refl busy_name (busy_part n) v.threads t r hs (busy t (On n (Ends end))) (busy t (On n (Leaves end))) m.here.busy refl refl (busy_was n t r (On n (Leaves end)) refl (eq-eqb n n refl));
         };
         births = refl;
+        sems = refl;
         halted = refl;
         change = gives_change p n v t r d.node.slots.free mine m.agrees m.here.free holder (λ y. elim (has y mine) as (λ b. has y mine ≡ b → false ≡ cond b false (has y (slots_held (held s.life s.guest)))) [ true ↦ λ h. refl | false ↦ λ h. sym (had y ∙ h) ] refl);
         well = tt;
@@ -198,6 +204,7 @@ module _ {outset : Outset} {ahead : List Item} {L : Links} where
           busy = unfronted is_tid is-true is-refl busy_name (busy_part n) v.threads t r hs (busy t (On n (Leaves end))) m.here.busy refl refl;
         };
         births = refl;
+        sems = refl;
         free = refl;
         halted = refl;
         next = own_goes m refl refl refl;
@@ -218,9 +225,8 @@ module _ {outset : Outset} {ahead : List Item} {L : Links} where
           busy = sym (busy_none k t s (On n (Leaves end)) x e);
         };
         phase = sym (ap phase_of x);
-        quiet = λ u k e. home_quiet n (Leaves end) refl u k (sym x ∙ e);
+        quiet = quiet x refl;
         holds = keeps _ _ (sym (ap (λ z. held z s.guest) x));
-        unborn = λ e. absurd (cc (e, x));
         whole = plain _ refl;
       })).midst
 
@@ -247,7 +253,7 @@ new_spot n g = record { life = On n Ready; guest = g; verdict = no_response }
 
 abbrev born_spots : ℕ → Guest → (slot : ℕ) → Spots → Spots
 born_spots n g slot v =
-    spots_with (update v.threads (new_name n v) (new_spot n g)) (at_node v.slots slot (Of_thread (new_name n v))) (at_node v.births n (v.births n ++ Lives ∷ [])) v.halts v.remote
+    spots_with (update v.threads (new_name n v) (new_spot n g)) (at_node v.slots slot (Of_thread (new_name n v))) (at_node v.births n (v.births n ++ Lives ∷ [])) v.sems v.halts v.remote
 
 -- a guest that node n can begin with this slot: it has its stack alone, and no block
 record Newborn (n : ℕ) (v : Spots) (g : Guest) (slot : ℕ) : Type 0 where
@@ -291,6 +297,7 @@ newcomer {p} {net} {n} {v} {M} {s} {hand} g slot below new o =
         rows = rows_arrived n v.threads t r s.run_lists o.here.rows (ap (λ z. row_in_life n t z old.guest.priority) x) (rw (eq-eqb n n refl) refl);
         busy = kept is_tid is-true is-refl busy_name (busy_part n) v.threads t r hand o.here.busy (sym (busy_none n t old Unborn x refl));
         births = rw (eq-eqb n n refl) (ap (λ bs. bs ++ Lives ∷ []) o.here.births);
+        sems = o.here.sems;
         free = λ y. has-minus y s.slots.free (slot ∷ []) ∙ elim (eqb slot y) as (λ b. cond (cond b true false) false (has y s.slots.free) ≡ is_free n (cond b (Of_thread t) (v.slots y))) [ true ↦ refl | false ↦ o.here.free y ];
         halted = o.here.halted;
       };
@@ -301,6 +308,7 @@ newcomer {p} {net} {n} {v} {M} {s} {hand} g slot below new o =
             busy = sym (busy_none k t old Unborn x refl);
           })
           (rw e refl)
+          refl
           (λ y. elim (eqb slot y) as (λ b. eqb slot y ≡ b → is_free k (cond b (Of_thread t) (v.slots y)) ≡ is_free k (v.slots y)) [
             | true ↦ λ h. sym e ∙ ap (is_free k) (sym new.holder ∙ ap v.slots (eqb-true slot y h))
             | false ↦ λ h. refl
@@ -308,6 +316,9 @@ newcomer {p} {net} {n} {v} {M} {s} {hand} g slot below new o =
           refl;
       links = λ i j. links_kept t r v.threads M o.links (sym (ap (λ z. ways_of t z old.verdict old.guest) x)) i j;
       agrees = record {
+        sems = o.agrees.sems;
+        signals = λ u k id up e. elim (is_tid t u) as (λ b. (cond b r (v.threads u)).life ≡ On k (Signals id up) → eqb (node_in id) k ≡ false) [ true ↦ λ f. absurd (cc f) | false ↦ λ f. o.agrees.signals u k id up f ] e;
+        queues = (queued_kept v.threads t r (queued o.agrees) (λ j k. ap (waiter_in_life j k t) x) (λ j k. refl)).queues;
         homes = λ u out. elim (is_tid t u) as (λ b. is_tid t u ≡ b → (cond b r (v.threads u)).life ≡ Unborn) [
           | true ↦ λ e. let h : n ≡ u.home = ap (λ (z : Tid). z.home) (is-true t u e) in absurd (cc (below, out, ap (λ k. nat_lt k (nodes_of p)) h))
           | false ↦ λ e. o.agrees.homes u out
@@ -381,7 +392,7 @@ module _ {outset : Outset} {ahead : List Item} {L : Links} (below : nat_lt outse
       subst (λ (k : ℕ). Midst outset ahead L (record { node = with_newborn (tid n k) g slot d.node; labels = d.labels ++ Born (tid n k) why.Main p.image.main 0 0 (stack_end slot) slot ∷ []; sends = d.sends; prints = d.prints }) [])
       (ap length (sym m.here.births))
       (labelled L [] (Born t why.Main p.image.main 0 0 (stack_end slot) slot) (born_spots n g slot v) _ m
-      (ap (λ z. spots_with (update v.threads t (new_spot n z)) (at_node v.slots slot (Of_thread t)) (at_node v.births n (v.births n ++ Lives ∷ [])) v.halts v.remote) (no_bytes (stack_end slot) g))
+      (ap (λ z. spots_with (update v.threads t (new_spot n z)) (at_node v.slots slot (Of_thread t)) (at_node v.births n (v.births n ++ Lives ∷ [])) v.sems v.halts v.remote) (no_bytes (stack_end slot) g))
       (record { solo = ((refl, refl, zero), refl, plain_start slot); holders = holder; life = (unborn n m.agrees, refl); replies = tt; grants = least })
       (sym (append-nil d.sends)) (sym (append-nil d.prints))
       (newcomer g slot below (new_guest n v p.image.main 0 0 (stack_end slot) slot main_priority holder) (amid m))
@@ -400,7 +411,7 @@ module _ {outset : Outset} {ahead : List Item} {L : Links} (below : nat_lt outse
       let r : Spot = record s { life = On n (Due (tid_value t)) } in
       let least : lowest_free n 1 v ≡ Some slot = lowest_is n 1 v d.node _ m.here ∙ free in
       let holder : v.slots slot ≡ Of_node n = least_held n v slot least in
-      let v1 : Spots = spots_with (update v.threads by r) v.slots v.births v.halts v.remote in
+      let v1 : Spots = spots_with (update v.threads by r) v.slots v.births v.sems v.halts v.remote in
       let hand : List Busy = busy by (On n (Due (tid_value t))) ∷ hs in
       let M : Links = under n L d.sends in
       let served : StandsAmid p net n v1 M d.node hand = record {
@@ -409,17 +420,18 @@ module _ {outset : Outset} {ahead : List Item} {L : Links} (below : nat_lt outse
           rows = kept is_tid is-true is-refl listed_name (row_part n) v.threads by r (map listed d.node.run_lists.rows) m.here.rows (row_was n by r (Due (tid_value t)) refl ∙ sym (row_was n by s (Served (Create e a k)) x));
           busy = refronted is_tid is-true is-refl busy_name (busy_part n) v.threads by r hs (busy by (On n (Served (Create e a k)))) (busy by (On n (Due (tid_value t)))) m.here.busy refl refl (busy_was n by r (On n (Due (tid_value t))) refl (eq-eqb n n refl));
           births = m.here.births;
+          sems = m.here.sems;
           free = m.here.free;
           halted = m.here.halted;
         };
-        there = λ j f. here_kept j v by r (net.nodes j) [] (m.there j f) (frame_home n j by s r (Served (Create e a k)) (Due (tid_value t)) x refl refl refl f) refl (λ y. refl) refl;
+        there = λ j f. here_kept j v by r (net.nodes j) [] (m.there j f) (frame_home n j by s r (Served (Create e a k)) (Due (tid_value t)) x refl refl refl f) refl refl (λ y. refl) refl;
         links = λ i j. links_kept by r v.threads M m.links (sym (ap (λ z. ways_of by z s.verdict s.guest) x)) i j;
-        agrees = agrees_kept p v by r v.halts m.agrees (sym (ap phase_of x)) (λ u j f. home_quiet n (Served (Create e a k)) refl u j (sym x ∙ f)) (keeps _ _ (ap (λ z. held z s.guest) (sym x))) (λ f. absurd (cc (f, x))) (λ u j f. absurd (cc f)) (λ j f. absurd (cc f)) (λ j f. f);
+        agrees = agrees_kept p v by r v.halts m.agrees (sym (ap phase_of x)) (quiet x refl) (keeps _ _ (ap (λ z. held z s.guest) (sym x))) (fits (plain r.life refl)) (λ i j. refl) (λ j f. f);
       } in
       let fresh : (v.threads t).life ≡ Unborn = unborn n m.agrees in
       let same : after_label p n (Born t (why.Create by) e a 0 (stack_end slot) slot) v ≡ born_spots n g slot v1 =
-      ap (λ z. spots_with (update (update v.threads by r) t (born_spot n [] e a 0 (stack_end slot) slot (asked_priority z))) (at_node v.slots slot (Of_thread t)) (at_node v.births n (v.births n ++ Lives ∷ [])) v.halts v.remote) x
-      ∙ ap (λ z. spots_with (update (update v.threads by r) t (new_spot n z)) (at_node v.slots slot (Of_thread t)) (at_node v.births n (v.births n ++ Lives ∷ [])) v.halts v.remote) (no_bytes (stack_end slot) g) in
+      ap (λ z. spots_with (update (update v.threads by r) t (born_spot n [] e a 0 (stack_end slot) slot (asked_priority z))) (at_node v.slots slot (Of_thread t)) (at_node v.births n (v.births n ++ Lives ∷ [])) v.sems v.halts v.remote) x
+      ∙ ap (λ z. spots_with (update (update v.threads by r) t (new_spot n z)) (at_node v.slots slot (Of_thread t)) (at_node v.births n (v.births n ++ Lives ∷ [])) v.sems v.halts v.remote) (no_bytes (stack_end slot) g) in
       subst (λ (j : ℕ). Midst outset ahead L (record { node = with_newborn (tid n j) g slot d.node; labels = d.labels ++ Born (tid n j) (why.Create by) e a 0 (stack_end slot) slot ∷ []; sends = d.sends; prints = d.prints }) (busy by (On n (Due (tid_value (tid n j)))) ∷ hs))
       (ap length (sym m.here.births))
       (labelled L hand (Born t (why.Create by) e a 0 (stack_end slot) slot) _ _ m same

@@ -1,12 +1,14 @@
 -- An event in its midst: what holds of it, one more label, what the label does to spots and links, and the one lemma for a label.
-use Rattle.std.proofs.Common.{◌≡◌, ℕ, List, [], ◌∷◌, ◌++◌, Option, Some, Bool, true, false, eqb, cond, ◌&&◌, refl, sym, ap, ◌∙◌, subst, append_assoc, map}
-use Rattle.std.specs.Prelude.{slice_get, ⊤}
+use Rattle.std.proofs.Common.{arith, ◌≡◌, ℕ, List, [], ◌∷◌, ◌++◌, Option, Some, None, Bool, true, false, eqb, cond, ◌&&◌, refl, sym, ap, ◌∙◌, subst, append_assoc, map}
+use Rattle.std.specs.Prelude.{slice_get, not, All, ⊤}
 use Rattle.std.proofs.lemmas.Bool.{eqb-true}
 use Rattle.std.proofs.lemmas.List.{append-nil}
 use Rattle.slot_space.specs.Sets.{has}
 use Rattle.slot_space.specs.declared.names.Tid.{Tid}
 use Rattle.marcel_core.specs.declared.birth.Birth.{Birth}
 use Rattle.marcel_core.specs.declared.birth.Birth.TheVariants.{Awaited}
+use Rattle.marcel_sync.specs.declared.sem.SemRow.{SemRow}
+use Rattle.marcel_sync.specs.Semaphores.{IsSemaphore, node_in, waiters_at}
 use Rattle.run_trace.specs.declared.label.Label.{Label}
 use Rattle.run_trace.specs.declared.packet.Body.{Body}
 use Rattle.run_trace.specs.declared.packet.Send.{Send}
@@ -14,16 +16,17 @@ use Rattle.run_trace.specs.Names.{is_tid}
 use Rattle.run_trace.specs.Program.{Program}
 use Rattle.run_trace.specs.Local.{Local, EventSoFar}
 use Rattle.run_trace.specs.Cluster.{Net}
-use Rattle.run_trace.specs.Spots.{Stays, Life, Awaits, Unborn, On, Spot, Remote, Spots, Holder, update, after_label, after_labels}
+use Rattle.run_trace.specs.Spots.{Stage, Stays, Life, Awaits, Signals, Queues, Unborn, On, Spot, Remote, Spots, Holder, update, after_label, after_labels}
 use Rattle.run_trace.specs.Rules.{Occasion, saying, Rule, SoloRule, HoldersRule, LifeRule, RepliesRule, GrantsRule, is_free}
 use Rattle.run_trace.specs.World.{World, world_after}
-use Rattle.trace_laws.specs.Obeys.{ObeyEach, all_causes}
+use Rattle.trace_laws.specs.Obeys.{ObeyEach, AgreesRule, all_causes}
 use Rattle.run_trace.specs.Console.{shown_by, shown_by_all}
 use Rattle.run_trace.specs.RunLists.{RunLists, IsRising}
 use Rattle.trace_laws.proofs.Lists.Arriving.{run_lists_after, run_lists_after_all, rising_after}
 use Rattle.run_trace.specs.Causes.{causes, send_to}
 use Rattle.run_trace.specs.Obeying.{IsNext, Allows}
-use Rattle.run_trace.specs.Stands.{Here, Agrees, Busy, busy_name, busy_part, thread_part, row_part, link_part, listed, listed_name, Word, word_subject, word_of, words_about, Way, way, ways_of, on_link, phase_of, phase_at, Holding, held, slots_held, IsWellHeld, is_thread}
+use Rattle.run_trace.specs.Stands.{Here, Agrees, Busy, busy_name, busy_part, thread_part, row_part, link_part, listed, listed_name, Word, word_subject, word_of, words_about, Way, way, ways_of, on_link, phase_of, phase_at, Holding, held, slots_held, IsWellHeld, is_thread, waiter_name, waiter_in_life, waiter_part}
+use Rattle.run_trace.specs.Keyed.{StandsFor}
 use Rattle.run_trace.proofs.Lemmas.{is-true, is-refl, is-same}
 use Rattle.trace_laws.proofs.Lists.Subjects.{less_word, rest_words, about-append, about-less, about-less_other, on_link-append}
 use Rattle.trace_laws.proofs.Lists.KeyedLemmas.{kept, map_kept}
@@ -60,6 +63,7 @@ pub record Obeyed (p : Program) (q : Occasion) (n : ℕ) (ls : List Label) (w : 
   pub life : ObeyEach LifeRule p q n ls w
   pub replies : ObeyEach RepliesRule p q n ls w
   pub grants : ObeyEach GrantsRule p q n ls w
+  pub agrees : ObeyEach AgreesRule p q n ls w
 
 abbrev pub busy_item : Busy → Item
 busy_item x = Does (Thread x.tid)
@@ -170,19 +174,39 @@ aside_append {p} {n} {opening} {due} {ahead} {w} {before} {old} {now} {labels} {
 }
 
 -- a label of the thread t, which comes to a new life: the event is busy with it, or goes on with what is left to do
-pub record Own (n : ℕ) (l : Label) (t : Tid) (v : Spots) (due ahead : List Item) (hand more : List Busy) (new : Life) : Type 0 where
-  pub heir : goes_on_with l v ≡ Thread t ∷ []
+pub record Own (p : Program) (n : ℕ) (l : Label) (t : Tid) (v : Spots) (due ahead : List Item) (hand more : List Busy) (new : Life) : Type 0 where
+  pub heir : goes_on_with p n l v ≡ Thread t ∷ []
   pub next : IsNext n l v (doing hand due)
   pub still : doing more ahead ≡ cond (is_busy n new) (Does (Thread t) ∷ []) [] ++ all_but_first (doing hand due)
 
 pub beside : {p : Program} {n : ℕ} {v : Spots} {l : Label} {t : Tid} {due ahead : List Item} {old now : Local} {hand more : List Busy} {new : Life}
-    → Own n l t v due ahead hand more new → ((after_label p n l v).threads t).life ≡ new → now.run_lists ≡ run_lists_after l v old.run_lists → now.booted ≡ old.booted
+    → Own p n l t v due ahead hand more new → ((after_label p n l v).threads t).life ≡ new → now.run_lists ≡ run_lists_after l v old.run_lists → now.booted ≡ old.booted
     → Beside p n v l due ahead old now hand more
 beside {p} {n} {v} {l} {t} {due} {hand = hand} o life run_lists booted = record {
   run_lists = run_lists;
   booted = booted;
   next = o.next;
   still = o.still ∙ ap (λ z. cond (is_busy n z) (Does (Thread t) ∷ []) [] ++ all_but_first (doing hand due)) (sym life) ∙ ap (λ z. busy_among n z (after_label p n l v) ++ all_but_first (doing hand due)) (sym o.heir);
+}
+
+-- a label that sets u going, which comes to one life, while its own thread t comes to another
+pub record SetsGoing (p : Program) (n : ℕ) (l : Label) (u t : Tid) (v : Spots) (due ahead : List Item) (hand more : List Busy) (first second : Life) : Type 0 where
+  pub heirs : goes_on_with p n l v ≡ Thread u ∷ Thread t ∷ []
+  pub next : IsNext n l v (doing hand due)
+  pub still : doing more ahead ≡ cond (is_busy n first) (Does (Thread u) ∷ cond (is_busy n second) (Does (Thread t) ∷ []) []) (cond (is_busy n second) (Does (Thread t) ∷ []) []) ++ all_but_first (doing hand due)
+
+pub beside_both : {p : Program} {n : ℕ} {v : Spots} {l : Label} {u t : Tid} {due ahead : List Item} {old now : Local} {hand more : List Busy} {first second : Life}
+    → SetsGoing p n l u t v due ahead hand more first second → ((after_label p n l v).threads u).life ≡ first → ((after_label p n l v).threads t).life ≡ second
+    → now.run_lists ≡ run_lists_after l v old.run_lists → now.booted ≡ old.booted
+    → Beside p n v l due ahead old now hand more
+beside_both {p} {n} {v} {l} {u} {t} {due} {hand = hand} {first = first} {second} o of_u of_t run_lists booted = record {
+  run_lists = run_lists;
+  booted = booted;
+  next = o.next;
+  still = o.still
+      ∙ ap (λ z. cond (is_busy n z) (Does (Thread u) ∷ cond (is_busy n second) (Does (Thread t) ∷ []) []) (cond (is_busy n second) (Does (Thread t) ∷ []) []) ++ all_but_first (doing hand due)) (sym of_u)
+      ∙ ap (λ z. cond (is_busy n ((after_label p n l v).threads u).life) (Does (Thread u) ∷ cond (is_busy n z) (Does (Thread t) ∷ []) []) (cond (is_busy n z) (Does (Thread t) ∷ []) []) ++ all_but_first (doing hand due)) (sym of_t)
+      ∙ ap (λ z. busy_among n z (after_label p n l v) ++ all_but_first (doing hand due)) (sym o.heirs);
 }
 
 -- ## Spots of other nodes
@@ -193,16 +217,17 @@ pub record Frame (k : ℕ) (t : Tid) (r s : Spot) : Type 0 where
   pub row : row_part k t s ≡ row_part k t r
   pub busy : busy_part k t s ≡ busy_part k t r
 
-abbrev pub spots_with : (Tid → Spot) → (ℕ → Holder) → (ℕ → List Birth) → (ℕ → Bool) → Remote → Spots
-spots_with threads slots births halts remote = record { threads = threads; slots = slots; births = births; halts = halts; remote = remote }
+abbrev pub spots_with : (Tid → Spot) → (ℕ → Holder) → (ℕ → List Birth) → (ℕ → List SemRow) → (ℕ → Bool) → Remote → Spots
+spots_with threads slots births sems halts remote = record { threads = threads; slots = slots; births = births; sems = sems; halts = halts; remote = remote }
 
-pub here_kept : {f : ℕ → Holder} {b : ℕ → List Birth} {h : ℕ → Bool} {remote : Remote} (k : ℕ) (w : Spots) (t : Tid) (s : Spot) (st : Local) (hand : List Busy) → Here k w st hand → Frame k t (w.threads t) s
-    → b k ≡ w.births k → ((x : ℕ) → is_free k (f x) ≡ is_free k (w.slots x)) → h k ≡ w.halts k → Here k (spots_with (update w.threads t s) f b h remote) st hand
-here_kept k w t s st hand m frame births slots halts = record {
+pub here_kept : {f : ℕ → Holder} {b : ℕ → List Birth} {z : ℕ → List SemRow} {h : ℕ → Bool} {remote : Remote} (k : ℕ) (w : Spots) (t : Tid) (s : Spot) (st : Local) (hand : List Busy) → Here k w st hand → Frame k t (w.threads t) s
+    → b k ≡ w.births k → z k ≡ w.sems k → ((x : ℕ) → is_free k (f x) ≡ is_free k (w.slots x)) → h k ≡ w.halts k → Here k (spots_with (update w.threads t s) f b z h remote) st hand
+here_kept k w t s st hand m frame births sems slots halts = record {
   threads = map_kept is_tid is-true is-refl (thread_part k) w.threads t s st.threads m.threads frame.thread;
   rows = kept is_tid is-true is-refl listed_name (row_part k) w.threads t s (map listed st.run_lists.rows) m.rows frame.row;
   busy = kept is_tid is-true is-refl busy_name (busy_part k) w.threads t s hand m.busy frame.busy;
   births = m.births ∙ sym births;
+  sems = m.sems ∙ sym sems;
   free = λ x. m.free x ∙ sym (slots x);
   halted = m.halted ∙ sym halts;
 }
@@ -318,18 +343,88 @@ nothing_sent_from n L i j w h = subst (λ bs. LinkStands i j bs w) (none_under n
 
 -- ## What all nodes share
 
--- a life that neither waits for another's end nor has halted
+-- a life of which nothing else tells: its thread is born, and waits neither for another's end nor for a semaphore
+abbrev pub is_quiet : Life → Bool
+is_quiet Unborn = false
+is_quiet (On m (Awaits u)) = false
+is_quiet (On m (Queues id)) = false
+is_quiet _ = true
+
+pub record Quiet (life : Life) : Type 0 where
+  pub born : life ≡ Unborn → ⊥
+  pub waits : (u : Tid) (m : ℕ) → life ≡ On m (Awaits u) → ⊥
+  pub queues : (h k : ℕ) (t : Tid) → waiter_in_life h k t life ≡ None
+
+pub no_waiter : (h k : ℕ) (t : Tid) (life : Life) → is_quiet life ≡ true → waiter_in_life h k t life ≡ None
+no_waiter h k t (On m (Queues id)) e = absurd (cc e)
+no_waiter h k t life e = grind (arith, e)
+
+-- by the life that it is
+pub quiet : {life old : Life} → life ≡ old → is_quiet old ≡ true → Quiet life
+quiet {life} {old} x h = record {
+  born = λ e. absurd (cc (ap is_quiet (sym x ∙ e), h));
+  waits = λ u m e. absurd (cc (ap is_quiet (sym x ∙ e), h));
+  queues = λ j k t. ap (waiter_in_life j k t) x ∙ no_waiter j k t old h;
+}
+
+-- a life that waits neither for another's end nor for a semaphore, has not halted, and asks no semaphore of its own node by a packet
 abbrev pub is_plain : Life → Bool
 is_plain (On m (Awaits u)) = false
+is_plain (On m (Queues id)) = false
 is_plain (On m Stays) = false
+is_plain (On m (Signals id up)) = not (eqb (node_in id) m)
 is_plain _ = true
+
+-- a life that a thread may come to; h are the halts then
+pub record Fits (h : ℕ → Bool) (life : Life) : Type 0 where
+  pub waits : (u : Tid) (m : ℕ) → life ≡ On m (Awaits u) → ⊥
+  pub signals : (m id : ℕ) (up : Bool) → life ≡ On m (Signals id up) → eqb (node_in id) m ≡ false
+  pub stays : (m : ℕ) → life ≡ On m Stays → h m ≡ true
 
 pub record Plain (life : Life) : Type 0 where
   pub waits : (u : Tid) (m : ℕ) → life ≡ On m (Awaits u) → ⊥
+  pub queues : (h k : ℕ) (t : Tid) → waiter_in_life h k t life ≡ None
+  pub signals : (m id : ℕ) (up : Bool) → life ≡ On m (Signals id up) → eqb (node_in id) m ≡ false
   pub stays : (m : ℕ) → life ≡ On m Stays → ⊥
 
+elsewhere : (v : Bool) → not v ≡ true → v ≡ false
+elsewhere true e = absurd (cc e)
+elsewhere false e = refl
+
+plain_waiter : (h k : ℕ) (t : Tid) (life : Life) → is_plain life ≡ true → waiter_in_life h k t life ≡ None
+plain_waiter h k t (On m (Queues id)) e = absurd (cc e)
+plain_waiter h k t life e = grind (arith, e)
+
 pub plain : (life : Life) → is_plain life ≡ true → Plain life
-plain life h = record { waits = λ u m e. absurd (cc (ap is_plain e, h)); stays = λ m e. absurd (cc (ap is_plain e, h)) }
+plain life h = record {
+  waits = λ u m e. absurd (cc (ap is_plain e, h));
+  queues = λ j k t. plain_waiter j k t life h;
+  signals = λ m id up e. elsewhere (eqb (node_in id) m) (sym (ap is_plain e) ∙ h);
+  stays = λ m e. absurd (cc (ap is_plain e, h));
+}
+
+pub plain_quiet : (n : ℕ) (stage : Stage) → is_plain (On n stage) ≡ true → is_quiet (On n stage) ≡ true
+plain_quiet n (Awaits u) e = absurd (cc e)
+plain_quiet n (Queues id) e = absurd (cc e)
+plain_quiet n stage e = grind (arith, e)
+
+pub fits : {h : ℕ → Bool} {life : Life} → Plain life → Fits h life
+fits l = record { waits = l.waits; signals = l.signals; stays = λ m e. absurd (l.stays m e) }
+
+-- all semaphores are such, and their queues are those of the threads
+pub record AreQueued (z : ℕ → List SemRow) (w : Tid → Spot) : Type 0 where
+  pub sems : (n : ℕ) → All IsSemaphore (z n)
+  pub queues : (h k : ℕ) → StandsFor is_tid waiter_name (waiter_part h k) (waiters_at k (z h)) w
+
+pub queued : {p : Program} {w : Spots} → Agrees p w → AreQueued w.sems w.threads
+queued a = record { sems = a.sems; queues = a.queues }
+
+-- one that waits for no semaphore, before or after
+pub queued_kept : {z : ℕ → List SemRow} (w : Tid → Spot) (t : Tid) (s : Spot) → AreQueued z w → ((h k : ℕ) → waiter_part h k t (w t) ≡ None) → ((h k : ℕ) → waiter_part h k t s ≡ None) → AreQueued z (update w t s)
+queued_kept {z} w t s a old new = record {
+  sems = a.sems;
+  queues = λ h k. kept is_tid is-true is-refl waiter_name (waiter_part h k) w t s (waiters_at k (z h)) (a.queues h k) (new h k ∙ sym (old h k));
+}
 
 -- a thread keeps its slots, and its blocks lie well in them
 pub record Keeps (old new : Option Holding) : Type 0 where
@@ -339,20 +434,23 @@ pub record Keeps (old new : Option Holding) : Type 0 where
 pub keeps : (old new : Option Holding) → new ≡ old → Keeps old new
 keeps old new e = record { slots = ap slots_held e; well = λ h. subst (λ x. IsWellHeld x) (sym e) h }
 
--- a thread that keeps its phase, and that no record names as a joiner; f are the holders and h the halts then
-pub agrees_changed : {remote : Remote} (p : Program) (w : Spots) (t : Tid) (s : Spot) {f : ℕ → Holder} {h : ℕ → Bool} → Agrees p w
+-- a thread that keeps its phase, and that no record names as a joiner; f are the holders, z the semaphores and h the halts then
+pub agrees_changed : {remote : Remote} (p : Program) (w : Spots) (t : Tid) (s : Spot) {f : ℕ → Holder} {z : ℕ → List SemRow} {h : ℕ → Bool} → Agrees p w
     → phase_of s.life ≡ phase_of (w.threads t).life
-    → ((u : Tid) (m : ℕ) → (w.threads t).life ≡ On m (Awaits u) → ⊥)
     → ((w.threads t).life ≡ Unborn → ⊥)
-    → ((u : Tid) (m : ℕ) → s.life ≡ On m (Awaits u) → ⊥)
-    → ((m : ℕ) → s.life ≡ On m Stays → h m ≡ true)
+    → ((u : Tid) (m : ℕ) → (w.threads t).life ≡ On m (Awaits u) → ⊥)
+    → Fits h s.life
+    → AreQueued z (update w.threads t s)
     → ((m : ℕ) → w.halts m ≡ true → h m ≡ true)
     → ((u : Tid) (y : ℕ) → has y (slots_held (held (update w.threads t s u).life (update w.threads t s u).guest)) ≡ is_thread u (f y))
     → IsWellHeld (held s.life s.guest)
-    → Agrees p (spots_with (update w.threads t s) f w.births h remote)
-agrees_changed p w t s {h = h} a phase quiet born idle stay more slots well = record {
-  waits = λ u by at e. elim (is_tid t by) as (λ v. (cond v s (w.threads by)).life ≡ On at (Awaits u) → slice_get (w.births u.home) u.seq ≡ Some (Awaited by at)) [ true ↦ λ g. absurd (idle u at g) | false ↦ λ g. a.waits u by at g ] e;
-  stays = λ u m e. elim (is_tid t u) as (λ v. (cond v s (w.threads u)).life ≡ On m Stays → h m ≡ true) [ true ↦ λ g. stay m g | false ↦ λ g. more m (a.stays u m g) ] e;
+    → Agrees p (spots_with (update w.threads t s) f w.births z h remote)
+agrees_changed p w t s {h = h} a phase born quiet new queued more slots well = record {
+  sems = queued.sems;
+  queues = queued.queues;
+  signals = λ u m id up e. elim (is_tid t u) as (λ v. (cond v s (w.threads u)).life ≡ On m (Signals id up) → eqb (node_in id) m ≡ false) [ true ↦ λ g. new.signals m id up g | false ↦ λ g. a.signals u m id up g ] e;
+  waits = λ u by at e. elim (is_tid t by) as (λ v. (cond v s (w.threads by)).life ≡ On at (Awaits u) → slice_get (w.births u.home) u.seq ≡ Some (Awaited by at)) [ true ↦ λ g. absurd (new.waits u at g) | false ↦ λ g. a.waits u by at g ] e;
+  stays = λ u m e. elim (is_tid t u) as (λ v. (cond v s (w.threads u)).life ≡ On m Stays → h m ≡ true) [ true ↦ λ g. new.stays m g | false ↦ λ g. more m (a.stays u m g) ] e;
   homes = λ u out. elim (is_tid t u) as (λ v. is_tid t u ≡ v → (cond v s (w.threads u)).life ≡ Unborn) [
     | true ↦ λ e. absurd (born (subst (λ x. (w.threads x).life ≡ Unborn) (sym (is-true t u e)) (a.homes u out)))
     | false ↦ λ e. a.homes u out
@@ -370,21 +468,33 @@ agrees_changed p w t s {h = h} a phase quiet born idle stay more slots well = re
 }
 
 -- one that keeps its slots too
-pub agrees_kept : {remote : Remote} (p : Program) (w : Spots) (t : Tid) (s : Spot) (h : ℕ → Bool) → Agrees p w
+pub agrees_queued : {remote : Remote} (p : Program) (w : Spots) (t : Tid) (s : Spot) (h : ℕ → Bool) {z : ℕ → List SemRow} → Agrees p w
     → phase_of s.life ≡ phase_of (w.threads t).life
+    → ((w.threads t).life ≡ Unborn → ⊥)
     → ((u : Tid) (m : ℕ) → (w.threads t).life ≡ On m (Awaits u) → ⊥)
     → Keeps (held (w.threads t).life (w.threads t).guest) (held s.life s.guest)
-    → ((w.threads t).life ≡ Unborn → ⊥)
-    → ((u : Tid) (m : ℕ) → s.life ≡ On m (Awaits u) → ⊥)
-    → ((m : ℕ) → s.life ≡ On m Stays → h m ≡ true)
+    → Fits h s.life
+    → AreQueued z (update w.threads t s)
     → ((m : ℕ) → w.halts m ≡ true → h m ≡ true)
-    → Agrees p (spots_with (update w.threads t s) w.slots w.births h remote)
-agrees_kept p w t s h a phase quiet kept born idle stay more = agrees_changed p w t s a phase quiet born idle stay more
+    → Agrees p (spots_with (update w.threads t s) w.slots w.births z h remote)
+agrees_queued p w t s h a phase born quiet kept new queued more = agrees_changed p w t s a phase born quiet new queued more
     (λ u x. elim (is_tid t u) as (λ v. is_tid t u ≡ v → has x (slots_held (held (cond v s (w.threads u)).life (cond v s (w.threads u)).guest)) ≡ is_thread u (w.slots x)) [
       | true ↦ λ e. ap (has x) kept.slots ∙ ap (λ y. has x (slots_held (held (w.threads y).life (w.threads y).guest))) (is-true t u e) ∙ a.slots u x
       | false ↦ λ e. a.slots u x
     ] refl)
     (kept.well (a.blocks t))
+
+-- and waits for no semaphore, before or after
+pub agrees_kept : {remote : Remote} (p : Program) (w : Spots) (t : Tid) (s : Spot) (h : ℕ → Bool) → Agrees p w
+    → phase_of s.life ≡ phase_of (w.threads t).life
+    → Quiet (w.threads t).life
+    → Keeps (held (w.threads t).life (w.threads t).guest) (held s.life s.guest)
+    → Fits h s.life
+    → ((j k : ℕ) → waiter_part j k t s ≡ None)
+    → ((m : ℕ) → w.halts m ≡ true → h m ≡ true)
+    → Agrees p (spots_with (update w.threads t s) w.slots w.births w.sems h remote)
+agrees_kept p w t s h a phase quiet kept new none more = agrees_queued p w t s h a phase quiet.born quiet.waits kept new
+    (queued_kept w.threads t s (queued a) (λ j k. quiet.queues j k t) none) more
 
 -- ## The one lemma for a label
 
@@ -413,6 +523,7 @@ module _ {outset : Outset} {ahead : List Item} where
             life = obey_append LifeRule p q n d.labels l w m.allowed.life may.life;
             replies = obey_append RepliesRule p q n d.labels l w m.allowed.replies may.replies;
             grants = obey_append GrantsRule p q n d.labels l w m.allowed.grants may.grants;
+            agrees = obey_append AgreesRule p q n d.labels l w m.allowed.agrees (subst (λ (z : World). Agrees p z.spots) told m.agrees);
           };
           sends = sent ∙ ap (λ z. d.sends ++ causes p n l z) spots ∙ ap (λ xs. xs ++ causes p n l (after_labels p n d.labels w.spots)) m.sends ∙ sym (causes_append p n d.labels l w.spots);
           prints = shown ∙ ap (λ z. d.prints ++ shown_by l z) spots ∙ ap (λ xs. xs ++ shown_by l (after_labels p n d.labels w.spots)) m.prints ∙ sym (shown_append p n d.labels l w.spots);

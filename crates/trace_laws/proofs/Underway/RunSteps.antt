@@ -44,9 +44,9 @@ abbrev ran_with : Program → Occasion → ℕ → Spots → Tid → HartState �
 ran_with p q n v t z = record (v.threads t) { life = On n (ran_stage (run_now p q v t).stop z); guest = with_state z (v.threads t).guest }
 
 ran_same : (p : Program) (q : Occasion) (n : ℕ) (v : Spots) (t : Tid) (vp : ℕ) → after_label p n (ran_label p q v t vp) v
-    ≡ spots_with (update v.threads t (ran_with p q n v t (run_now p q v t).state)) v.slots v.births v.halts v.remote
+    ≡ spots_with (update v.threads t (ran_with p q n v t (run_now p q v t).state)) v.slots v.births v.sems v.halts v.remote
 ran_same p q n v t vp =
-    ap (λ (z : HartState). spots_with (update v.threads t (ran_with p q n v t z)) v.slots v.births v.halts v.remote) (run_stepped (code_of p) (quantum_in q.act) (v.threads t).guest.solo.state)
+    ap (λ (z : HartState). spots_with (update v.threads t (ran_with p q n v t z)) v.slots v.births v.sems v.halts v.remote) (run_stepped (code_of p) (quantum_in q.act) (v.threads t).guest.solo.state)
 
 ran_allowed : (p : Program) (q : Occasion) (n : ℕ) (said : List Label) (v : World) (t : Tid) (vp : ℕ) → (v.spots.threads t).life ≡ On n Ready → Allows p (having_said said q) n (ran_label p q v.spots t vp) v
 ran_allowed p q n said v t vp x =
@@ -89,11 +89,12 @@ module _ {outset : Outset} {ahead : List Item} {L : Links} where
         same = ran_same p q n m.now.spots t vp;
         may = ran_allowed p q n d.labels m.now t vp x;
         ties = record {
-          threads = map_set is_tid is-true is-refl (thread_part n) v.threads t r d.node.threads (waits wait.No s.guest) _ m.here.threads (thread_was n t s Ready x) (thread_was n t r b y ∙ hand_thread b r.guest here);
+          threads = map_set is_tid is-true is-refl (thread_part n) v.threads t r d.node.threads (waits wait.No s.guest) _ m.here.threads (thread_was n t s Ready x) (thread_was n t r b y ∙ hand_thread n b r.guest here);
           rows = rows_without n v.threads t r d.node.run_lists.rows m.here.rows (row_was n t r b y ∙ hand_row t b s.guest.priority here);
           busy = fronted is_tid is-true is-refl busy_name (busy_part n) v.threads t r [] (busy t (On n b)) m.here.busy refl (busy_none n t s (On n Ready) x refl) (busy_was n t r (On n b) y (hand_busy n b here));
         };
         births = refl;
+        sems = refl;
         free = refl;
         halted = refl;
         next = own_starts (_, _, refl) refl (ap (is_busy n) y ∙ hand_busy n b here);
@@ -132,6 +133,7 @@ module _ {outset : Outset} {ahead : List Item} {L : Links} where
           busy = kept is_tid is-true is-refl busy_name (busy_part n) v.threads t r [] m.here.busy (busy_none n t r (On n Ready) y refl ∙ sym (busy_none n t s (On n Ready) x refl));
         };
         births = refl;
+        sems = refl;
         free = refl;
         halted = refl;
         next = own_alone (_, _, refl) refl (ap (is_busy n) y);

@@ -7,12 +7,13 @@ use Rattle.std.proofs.lemmas.List.{append-nil}
 use Rattle.slot_space.specs.declared.names.Tid.{Tid}
 use Rattle.marcel_core.specs.declared.birth.Birth.{Birth}
 use Rattle.marcel_core.specs.Homes.{is_open}
+use Rattle.marcel_sync.specs.Semaphores.{node_in}
 use Rattle.run_trace.specs.declared.entry.Act.{Act}
 use Rattle.run_trace.specs.declared.entry.Act.TheVariants.{Boot, Run as RunThread, Take, Move}
 use Rattle.run_trace.specs.declared.label.Label.TheVariants.{Born, Heard, Told, Known, Left, Came, Shown}
 use Rattle.run_trace.specs.declared.label.Why.TheVariants as why
 use Rattle.run_trace.specs.declared.packet.Body.{Body}
-use Rattle.run_trace.specs.declared.packet.Body.TheVariants.{Mover, Show, ShowDone, JoinAsk, Answer, EndNote}
+use Rattle.run_trace.specs.declared.packet.Body.TheVariants.{Mover, Show, ShowDone, JoinAsk, DetachAsk, SemAsk, Answer, EndNote}
 use Rattle.run_trace.specs.declared.packet.Packet.{Packet}
 use Rattle.run_trace.specs.declared.packet.Send.{Send}
 use Rattle.run_trace.specs.declared.node.ReadyRow.{ReadyRow}
@@ -47,7 +48,9 @@ use Rattle.trace_laws.proofs.Underway.Steps.{on_node}
 use Rattle.trace_laws.proofs.Underway.CallSteps.{sent_ok}
 use Rattle.trace_laws.proofs.Underway.Lifetimes.{main_born_ok, lowest_is}
 use Rattle.trace_laws.proofs.Underway.Takes.{shows_ok, acknowledges_ok, tell_taken_ok, open_birth, may_come_ok, comes_ok}
-use Rattle.trace_laws.proofs.Underway.Joins.{hears_ok, knows_ok}
+use Rattle.trace_laws.proofs.Underway.Joins.{hears_ok, hears_detach_ok}
+use Rattle.trace_laws.proofs.Underway.Ends.{knows_ok}
+use Rattle.trace_laws.proofs.Underway.SemaphoreTakes.{flipped, hears_call_ok}
 use Rattle.trace_laws.proofs.Underway.Events.{run_ok}
 use Rattle.run_trace.specs.Links.{first_of, rest_of, left_after, packets_to}
 use Rattle.trace_laws.specs.Obeys.{world_at, PicksBest, RunsNext, all_causes}
@@ -76,7 +79,7 @@ abbrev begins : (p : Program) (q : Occasion) (n : ℕ) (opening : List Item) (w 
 begins p q n opening w net s = record {
   now = world_at w net;
   told = refl;
-  allowed = record { solo = tt; holders = tt; life = tt; replies = tt; grants = tt };
+  allowed = record { solo = tt; holders = tt; life = tt; replies = tt; grants = tt; agrees = tt };
   sends = refl;
   prints = refl;
   here = s.nodes n;
@@ -231,7 +234,7 @@ module _ (p : Program) (w : Spots) (net : Net) (s : Stands p w net) (q : Occasio
   in_cluster t h = elim (nat_lt t.home (nodes_of p)) as (λ v. nat_lt t.home (nodes_of p) ≡ v → v ≡ true) [ true ↦ λ e. refl | false ↦ λ e. absurd (h (s.agrees.homes t e)) ] refl
 
   record Taken (i : ℕ) (body : Body) : Type 0 where
-    expected : is_stray p n (net.nodes n) body ≡ false
+    expected : is_stray p n i (net.nodes n) body ≡ false
     comes : Midst (outset p w net q n (for_packet n body)) [] (at_link i n (less_word (word_subject (word_of n body))) (under_way net)) (accepts n i body (net.nodes n)) []
 
   taken : (i : ℕ) (x : Packet) → Some x ≡ first_of (net.links i n) → Taken i x.body
@@ -267,6 +270,19 @@ module _ (p : Program) (w : Spots) (net : Net) (s : Stands p w net) (q : Occasio
           record {
             expected = rw (in_cluster t (λ e. absurd (cc (e, k.1)))) refl;
             comes = hears_ok (net.nodes n) i seq t (here (Says (Heard t) ∷ [])) k.1;
+          }
+      by (DetachAsk t seq) tells =
+          let k = tells t refl in
+          record {
+            expected = rw (in_cluster t (λ e. absurd (cc (e, k.1)))) refl;
+            comes = hears_detach_ok (net.nodes n) i seq t (here (Says (Heard t) ∷ [])) k.1;
+          }
+      by (SemAsk t id up) tells =
+          let k = tells t refl in
+          let away : eqb n i ≡ false = ap (λ z. eqb z i) k.2 ∙ s.agrees.signals t i id up k.1 in
+          record {
+            expected = rw (in_cluster t (λ e. absurd (cc (e, k.1))), flipped n i away, eq-eqb (node_in id) n (sym k.2)) refl;
+            comes = hears_call_ok (net.nodes n) i id up t (here (Says (Heard t) ∷ [])) (record { was = k.1; node = sym k.2; away = away });
           }
       by (Answer t reply second) tells =
           let k = tells t refl in
@@ -348,7 +364,7 @@ module _ (p : Program) (w : Spots) (net : Net) (s : Stands p w net) (q : Occasio
         links = k.links;
         agrees = k.agrees;
         aside = record { run_lists = refl; still = refl; next = tt; rising = s.rising n; booted = λ h. refl };
-        here = record { threads = k.here.threads; rows = k.here.rows; busy = k.here.busy; births = k.here.births; free = k.here.free; halted = k.here.halted };
+        here = record { threads = k.here.threads; rows = k.here.rows; busy = k.here.busy; births = k.here.births; sems = k.here.sems; free = k.here.free; halted = k.here.halted };
       }
 
       by_slot : n ≡ 0 → (o : Option ℕ) → free_slot (net.nodes n).slots.free ≡ o → Midst (outset p w net q n (first_birth p n o w)) [] (under_way net) (boots_in p n o (with_booted (nothing (net.nodes n)))) []
@@ -363,7 +379,7 @@ module _ (p : Program) (w : Spots) (net : Net) (s : Stands p w net) (q : Occasio
       by false e = awake []
 
 -- the packet that comes is one that the node expects
-pub taken_expected : (p : Program) (w : Spots) (net : Net) (s : Stands p w net) (q : Occasion) (n i : ℕ) (x : Packet) → Some x ≡ first_of (net.links i n) → is_stray p n (net.nodes n) x.body ≡ false
+pub taken_expected : (p : Program) (w : Spots) (net : Net) (s : Stands p w net) (q : Occasion) (n i : ℕ) (x : Packet) → Some x ≡ first_of (net.links i n) → is_stray p n i (net.nodes n) x.body ≡ false
 taken_expected p w net s q n i x h = (taken p w net s q n i x h).expected
 
 -- ## Each act

@@ -15,15 +15,15 @@ use Rattle.run_trace.specs.Guests.{Thread, waits}
 use Rattle.run_trace.specs.Local.{Local, EventSoFar}
 use Rattle.run_trace.specs.Steps.{at_found, at_thread}
 use Rattle.run_trace.specs.Keyed.{StandsFor, MapStandsFor}
-use Rattle.run_trace.specs.Spots.{Stage, Awaits, Life, Unborn, On, Spot, Spots, update, remote_after, after_label}
+use Rattle.run_trace.specs.Spots.{Stage, Life, On, Spot, Spots, update, remote_after, after_label}
 use Rattle.run_trace.specs.Console.{shown_by}
 use Rattle.run_trace.specs.Stands.{Busy, busy, busy_name, busy_part, thread_part, thread_in_stage, row_part, listed, listed_name, word_subject, word_of, way, ways_of, phase_of, held, held_in_stage}
 use Rattle.run_trace.proofs.Lemmas.{is-refl}
 use Rattle.trace_laws.proofs.Lists.Arriving.{run_lists_after}
 use Rattle.run_trace.specs.Causes.{causes, send_to}
 use Rattle.run_trace.specs.World.{World}
-use Rattle.run_trace.specs.Obeying.{Allows, IsBy}
-use Rattle.trace_laws.proofs.Underway.Midst.{Outset, having_said, Own, beside, Links, Midst, under, LinkStands, Frame, spots_with, labelled, here_kept, agrees_kept, Plain, links_kept, Keeps, put_link, Then, updated}
+use Rattle.run_trace.specs.Obeying.{Allows, IsBy, IsNext}
+use Rattle.trace_laws.proofs.Underway.Midst.{Outset, doing, having_said, Own, beside, Links, Midst, under, LinkStands, Frame, spots_with, labelled, here_kept, agrees_kept, Quiet, Plain, fits, links_kept, Keeps, put_link, Then, updated}
 use Rattle.trace_laws.proofs.Lists.Parts.{thread_was, at_hand, frame_home}
 use Rattle.trace_laws.proofs.Lists.Stages.{is_home, home_way, home_quiet, home_plain}
 use Rattle.run_trace.specs.Items.{Thread as Its, is_busy, doer, goes_on_with, Item}
@@ -40,13 +40,14 @@ pub record Ties (n : ℕ) (v : Spots) (t : Tid) (r : Spot) (now : Local) (hand :
 
 -- a label of t that the event's node may say of the world v, and what it leaves as it was
 pub record IsMove (outset : Outset) (due ahead : List Item) (d : EventSoFar) (hand more : List Busy) (l : Label) (t : Tid) (r : Spot) (now : Local) (v : World) : Type 0 where
-  pub same : after_label outset.program outset.node l v.spots ≡ spots_with (update v.spots.threads t r) v.spots.slots v.spots.births v.spots.halts (remote_after l v.spots.remote)
+  pub same : after_label outset.program outset.node l v.spots ≡ spots_with (update v.spots.threads t r) v.spots.slots v.spots.births v.spots.sems v.spots.halts (remote_after l v.spots.remote)
   pub may : Allows outset.program (having_said d.labels outset.occasion) outset.node l v
   pub ties : Ties outset.node v.spots t r now more
   pub births : now.births ≡ d.node.births
+  pub sems : now.sems ≡ d.node.sems
   pub free : now.slots.free ≡ d.node.slots.free
   pub halted : now.halted ≡ d.node.halted
-  pub next : Own outset.node l t v.spots due ahead hand more r.life
+  pub next : Own outset.program outset.node l t v.spots due ahead hand more r.life
   pub run_lists : now.run_lists ≡ run_lists_after l v.spots d.node.run_lists
   pub booted : now.booted ≡ d.node.booted
 
@@ -60,9 +61,8 @@ pub record IsCarried (p : Program) (n : ℕ) (M : Links) (d : EventSoFar) (l : L
 pub record IsSeen (n : ℕ) (t : Tid) (r : Spot) (v : Spots) : Type 0 where
   pub frame : (k : ℕ) → eqb n k ≡ false → Frame k t (v.threads t) r
   pub phase : phase_of r.life ≡ phase_of (v.threads t).life
-  pub quiet : (u : Tid) (k : ℕ) → (v.threads t).life ≡ On k (Awaits u) → ⊥
+  pub quiet : Quiet (v.threads t).life
   pub holds : Keeps (held (v.threads t).life (v.threads t).guest) (held r.life r.guest)
-  pub unborn : (v.threads t).life ≡ Unborn → ⊥
   pub whole : Plain r.life
 
 -- t stays on node n, in another stage, and says nothing to a link or a console
@@ -83,12 +83,12 @@ pub record IsSent (p : Program) (n : ℕ) (l : Label) (t : Tid) (r : Spot) (to :
   pub name : word_subject (word_of to body) ≡ Its t
 
 -- a label that is the first of what is ahead, after which the event is busy with its thread, or with none
-pub own_starts : {n : ℕ} {ahead : List Item} {i : Item} {v : Spots} {t : Tid} {l : Label} {new next : Life} → IsBy n l v i → goes_on_with l v ≡ Its t ∷ [] → is_busy n new ≡ true
-    → Own n l t v (i ∷ ahead) ahead [] (busy t next ∷ []) new
+pub own_starts : {p : Program} {n : ℕ} {ahead : List Item} {i : Item} {v : Spots} {t : Tid} {l : Label} {new next : Life} → IsBy n l v i → goes_on_with p n l v ≡ Its t ∷ [] → is_busy n new ≡ true
+    → Own p n l t v (i ∷ ahead) ahead [] (busy t next ∷ []) new
 own_starts by on busied = record { heir = on; next = by; still = rw busied refl }
 
-pub own_alone : {n : ℕ} {ahead : List Item} {i : Item} {v : Spots} {t : Tid} {l : Label} {new : Life} → IsBy n l v i → goes_on_with l v ≡ Its t ∷ [] → is_busy n new ≡ false
-    → Own n l t v (i ∷ ahead) ahead [] [] new
+pub own_alone : {p : Program} {n : ℕ} {ahead : List Item} {i : Item} {v : Spots} {t : Tid} {l : Label} {new : Life} → IsBy n l v i → goes_on_with p n l v ≡ Its t ∷ [] → is_busy n new ≡ false
+    → Own p n l t v (i ∷ ahead) ahead [] [] new
 own_alone by on idle = record { heir = on; next = by; still = rw idle refl }
 
 module _ {outset : Outset} {ahead : List Item} where
@@ -100,19 +100,20 @@ module _ {outset : Outset} {ahead : List Item} where
       → Then outset ahead M m.now l (record { node = now; labels = d.labels ++ l ∷ []; sends = sends; prints = prints }) more
   moved M more l t r now m move carried seen =
       let v : Spots = m.now.spots in
-      labelled M more l (spots_with (update v.threads t r) v.slots v.births v.halts (remote_after l v.remote)) now m move.same move.may carried.sent carried.shown
+      labelled M more l (spots_with (update v.threads t r) v.slots v.births v.sems v.halts (remote_after l v.remote)) now m move.same move.may carried.sent carried.shown
       (record {
         here = record {
           threads = move.ties.threads;
           rows = move.ties.rows;
           busy = move.ties.busy;
           births = move.births ∙ m.here.births;
+          sems = move.sems ∙ m.here.sems;
           free = λ x. ap (λ (xs : List ℕ). has x xs) move.free ∙ m.here.free x;
           halted = move.halted ∙ m.here.halted;
         };
-        there = λ k e. here_kept k v t r (net.nodes k) [] (m.there k e) (seen.frame k e) refl (λ x. refl) refl;
+        there = λ k e. here_kept k v t r (net.nodes k) [] (m.there k e) (seen.frame k e) refl refl (λ x. refl) refl;
         links = carried.links;
-        agrees = agrees_kept p v t r v.halts m.agrees seen.phase seen.quiet seen.holds seen.unborn seen.whole.waits (λ k e. absurd (seen.whole.stays k e)) (λ k e. e);
+        agrees = agrees_kept p v t r v.halts m.agrees seen.phase seen.quiet seen.holds (fits seen.whole) (λ j k. seen.whole.queues j k t) (λ k e. e);
       })
       (beside move.next (life_then p n v l t r _ move.same refl) move.run_lists move.booted)
 
@@ -125,7 +126,6 @@ module _ {outset : Outset} {ahead : List Item} where
       let s : Spot = m.now.spots.threads t in
       let old : ways_of t s.life s.verdict s.guest ≡ [] = ap (λ z. ways_of t z s.verdict s.guest) home.was ∙ home_way t n a s.verdict s.guest home.home_was in
       let new : ways_of t r.life r.verdict r.guest ≡ [] = ap (λ z. ways_of t z r.verdict r.guest) home.is ∙ home_way t n b r.verdict r.guest home.home_is in
-      let unborn : s.life ≡ Unborn → ⊥ = λ e. let x = home.was in absurd (cc (e, x)) in
       moved L more l t r now m move
       (record {
         sent = sym (append-nil d.sends) ∙ ap (λ z. d.sends ++ z) (sym home.sent);
@@ -135,9 +135,8 @@ module _ {outset : Outset} {ahead : List Item} where
       (record {
         frame = λ k e. frame_home n k t s r a b home.was home.is home.home_was home.home_is e;
         phase = ap phase_of home.is ∙ sym (ap phase_of home.was);
-        quiet = λ u k e. home_quiet n a home.home_was u k (sym home.was ∙ e);
+        quiet = home_quiet n a s.life home.was home.home_was;
         holds = subst (λ z. Keeps (held s.life s.guest) (held z r.guest)) (sym home.is) (subst (λ z. Keeps (held z s.guest) (held_in_stage b r.guest)) (sym home.was) holds);
-        unborn = unborn;
         whole = subst (λ z. Plain z) (sym home.is) (home_plain n b home.home_is);
       })
 
@@ -165,21 +164,25 @@ module _ {outset : Outset} {ahead : List Item} where
   pub busy_in_hand : {L : Links} {d : EventSoFar} {t : Tid} {life : Life} {hs : List Busy} → (m : Midst outset ahead L d (busy t life ∷ hs)) → is_busy n life ≡ true
   busy_in_hand m = let both = at_front m in ap (is_busy n) (sym both.0) ∙ both.1
 
+  -- a label of the thread in hand is what comes next
+  pub own_next : {L : Links} {d : EventSoFar} {t : Tid} {life : Life} {hs : List Busy} (l : Label) → (m : Midst outset ahead L d (busy t life ∷ hs)) → doer l ≡ Some (Its t) → IsNext n l m.now.spots (doing (busy t life ∷ hs) ahead)
+  own_next l m by = (by, (at_front m).1)
+
   -- a label of the thread in hand, which stays there, or is let go
-  pub own_stays : {L : Links} {d : EventSoFar} {t : Tid} {life : Life} {hs : List Busy} {l : Label} {new next : Life} → (m : Midst outset ahead L d (busy t life ∷ hs)) → doer l ≡ Some (Its t) → goes_on_with l m.now.spots ≡ Its t ∷ [] → is_busy n new ≡ true
-      → Own n l t m.now.spots ahead ahead (busy t life ∷ hs) (busy t next ∷ hs) new
+  pub own_stays : {L : Links} {d : EventSoFar} {t : Tid} {life : Life} {hs : List Busy} {l : Label} {new next : Life} → (m : Midst outset ahead L d (busy t life ∷ hs)) → doer l ≡ Some (Its t) → goes_on_with p n l m.now.spots ≡ Its t ∷ [] → is_busy n new ≡ true
+      → Own p n l t m.now.spots ahead ahead (busy t life ∷ hs) (busy t next ∷ hs) new
   own_stays m by on busied = record { heir = on; next = (by, (at_front m).1); still = rw busied refl }
 
-  pub own_goes : {L : Links} {d : EventSoFar} {t : Tid} {life : Life} {hs : List Busy} {l : Label} {new : Life} → (m : Midst outset ahead L d (busy t life ∷ hs)) → doer l ≡ Some (Its t) → goes_on_with l m.now.spots ≡ Its t ∷ [] → is_busy n new ≡ false
-      → Own n l t m.now.spots ahead ahead (busy t life ∷ hs) hs new
+  pub own_goes : {L : Links} {d : EventSoFar} {t : Tid} {life : Life} {hs : List Busy} {l : Label} {new : Life} → (m : Midst outset ahead L d (busy t life ∷ hs)) → doer l ≡ Some (Its t) → goes_on_with p n l m.now.spots ≡ Its t ∷ [] → is_busy n new ≡ false
+      → Own p n l t m.now.spots ahead ahead (busy t life ∷ hs) hs new
   own_goes m by on idle = record { heir = on; next = (by, (at_front m).1); still = rw idle refl }
 
   -- the thread of this stage, as it is on the node
-  pub on_node : {L : Links} {d : EventSoFar} {hand : List Busy} (t : Tid) (a : Stage) → (m : Midst outset ahead L d hand) → (m.now.spots.threads t).life ≡ On n a → lookup (is_tid t) d.node.threads ≡ thread_in_stage a (m.now.spots.threads t).guest
+  pub on_node : {L : Links} {d : EventSoFar} {hand : List Busy} (t : Tid) (a : Stage) → (m : Midst outset ahead L d hand) → (m.now.spots.threads t).life ≡ On n a → lookup (is_tid t) d.node.threads ≡ thread_in_stage n a (m.now.spots.threads t).guest
   on_node t a m x = m.here.threads.shows t ∙ thread_was n t (m.now.spots.threads t) a x
 
   -- a step of the thread, as it is on the node
   pub at_ok : {L : Links} (d : EventSoFar) {hand : List Busy} (more : List Busy) (t : Tid) (a : Stage) (step : Thread → EventSoFar → EventSoFar) → (m : Midst outset ahead L d hand) → (m.now.spots.threads t).life ≡ On n a
-      → thread_in_stage a (m.now.spots.threads t).guest ≡ Some (waits wait.No (m.now.spots.threads t).guest)
+      → thread_in_stage n a (m.now.spots.threads t).guest ≡ Some (waits wait.No (m.now.spots.threads t).guest)
       → Midst outset ahead L (step (waits wait.No (m.now.spots.threads t).guest) d) more → Midst outset ahead L (at_thread t step d) more
   at_ok {L} d more t a step m x there done = subst (λ o. Midst outset ahead L (at_found o step d) more) (sym (on_node t a m x ∙ there)) done

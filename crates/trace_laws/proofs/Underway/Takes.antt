@@ -30,7 +30,7 @@ use Rattle.run_trace.specs.Console.{asked_bytes}
 use Rattle.run_trace.specs.Stands.{Busy, busy, busy_name, busy_part, thread_part, thread_in_life, row_part, row_in_life, listed, listed_name, Word, Travels, Line, Line_shown, way, ways_of, phase_of, phase_at, During, held, slots_held, is_thread}
 use Rattle.run_trace.proofs.Lemmas.{is-true, is-refl}
 use Rattle.trace_laws.proofs.Lists.KeyedLemmas.{kept, fronted, unfronted, map_kept, map_set, map_added}
-use Rattle.trace_laws.proofs.Underway.Midst.{Outset, links_less, Links, Midst, plain, keeps, LinkStands, spots_with, take_link, nothing_sent, nothing_sent_from}
+use Rattle.trace_laws.proofs.Underway.Midst.{Outset, links_less, Links, Midst, quiet, plain, plain_quiet, keeps, LinkStands, spots_with, take_link, nothing_sent, nothing_sent_from}
 use Rattle.trace_laws.proofs.Lists.Parts.{thread_holds, rows_arrived, away_thread, away_row, busy_none, thread_was, row_was}
 use Rattle.trace_laws.proofs.Lists.Stages.{StandsWaiting}
 use Rattle.trace_laws.proofs.Outcomes.Consequences.{OnNode, on_node_is}
@@ -85,7 +85,7 @@ module _ {outset : Outset} {ahead : List Item} {L : Links} where
       let here_busy : is_busy n (On from Showing) ≡ true = eq-eqb 0 n (sym zero) in
       (moved (links_less n L from t) (busy t (On from Showing) ∷ []) (Shown t) t r s m
       (record {
-        same = ap (λ z. spots_with (update m.now.spots.threads t (record o { life = shown_life z })) m.now.spots.slots m.now.spots.births m.now.spots.halts m.now.spots.remote) x;
+        same = ap (λ z. spots_with (update m.now.spots.threads t (record o { life = shown_life z })) m.now.spots.slots m.now.spots.births m.now.spots.sems m.now.spots.halts m.now.spots.remote) x;
         may = record { solo = tt; holders = tt; life = rw x zero; replies = tt; grants = tt };
         ties = record {
           threads = map_kept is_tid is-true is-refl (thread_part n) m.now.spots.threads t r s.threads m.here.threads (sym (ap (λ z. thread_in_life n z o.guest) x));
@@ -93,6 +93,7 @@ module _ {outset : Outset} {ahead : List Item} {L : Links} where
           busy = fronted is_tid is-true is-refl busy_name (busy_part n) m.now.spots.threads t r [] (busy t (On from Showing)) m.here.busy refl (busy_none n t o (On from (Shows bytes)) x refl) (rw here_busy refl);
         };
         births = refl;
+        sems = refl;
         free = refl;
         halted = refl;
         next = record { heir = refl; next = refl; still = rw here_busy refl };
@@ -111,9 +112,8 @@ module _ {outset : Outset} {ahead : List Item} {L : Links} where
           busy = busy_none k t r (On from Showing) refl (ap (λ z. eqb z k) (sym zero) ∙ e) ∙ sym (busy_none k t o (On from (Shows bytes)) x refl);
         };
         phase = sym (ap phase_of x);
-        quiet = λ u k e. absurd (cc (e, x));
+        quiet = quiet x refl;
         holds = keeps _ _ (sym (ap (λ z. held z o.guest) x));
-        unborn = λ e. absurd (cc (e, x));
         whole = plain _ refl;
       })).midst
 
@@ -131,7 +131,7 @@ module _ {outset : Outset} {ahead : List Item} {L : Links} where
       subst (λ f. Midst outset ahead (links_less n L from t) (tell_found t o.verdict.code (second_of o.verdict.extra) f (nothing s)) []) (sym (m.here.threads.shows t ∙ thread_was n t o a x ∙ still.thread))
       (moved (links_less n L from t) [] (Told t) t r _ m
       (record {
-        same = ap (λ z. spots_with (update m.now.spots.threads t (record o { life = On n z; guest = g })) m.now.spots.slots m.now.spots.births m.now.spots.halts m.now.spots.remote) (ap told_stage x ∙ next);
+        same = ap (λ z. spots_with (update m.now.spots.threads t (record o { life = On n z; guest = g })) m.now.spots.slots m.now.spots.births m.now.spots.sems m.now.spots.halts m.now.spots.remote) (ap told_stage x ∙ next);
         may = record { solo = tt; holders = tt; life = subst (λ z. MayTell n z) (sym x) may; replies = tt; grants = tt };
         ties = record {
           threads = map_set is_tid is-true is-refl (thread_part n) m.now.spots.threads t r s.threads (waits waiting o.guest) (waits wait.No g) m.here.threads (thread_was n t o a x ∙ still.thread) (thread_was n t r Ready refl);
@@ -139,6 +139,7 @@ module _ {outset : Outset} {ahead : List Item} {L : Links} where
           busy = kept is_tid is-true is-refl busy_name (busy_part n) m.now.spots.threads t r [] m.here.busy (busy_none n t r (On n Ready) refl refl ∙ sym (busy_none n t o (On n a) x (still.idle n)));
         };
         births = refl;
+        sems = refl;
         free = refl;
         halted = refl;
         next = record { heir = refl; next = refl; still = refl };
@@ -157,9 +158,8 @@ module _ {outset : Outset} {ahead : List Item} {L : Links} where
           busy = busy_none k t r (On n Ready) refl refl ∙ sym (busy_none k t o (On n a) x (still.idle k));
         };
         phase = sym (ap phase_of x);
-        quiet = λ u k e. (plain (On n a) still.plain).waits u k (sym x ∙ e);
+        quiet = quiet x (plain_quiet n a still.plain);
         holds = keeps _ _ (sym still.held ∙ sym (ap (λ z. held z o.guest) x));
-        unborn = λ e. absurd (cc (e, x));
         whole = plain _ refl;
       })).midst
 
@@ -175,7 +175,7 @@ module _ {outset : Outset} {ahead : List Item} {L : Links} where
       let r : Spot = record o { life = On at Shown_there; verdict = record { code = 0; extra = Nothing } } in
       (send_step hs (Judged t 0 Nothing) t r d.node at (ShowDone t) m
       (record {
-        same = ap (λ z. spots_with (update v.threads t (record { life = judged_life z; guest = judged_guest z o.guest; verdict = record { code = 0; extra = Nothing } })) v.slots v.births v.halts v.remote) x;
+        same = ap (λ z. spots_with (update v.threads t (record { life = judged_life z; guest = judged_guest z o.guest; verdict = record { code = 0; extra = Nothing } })) v.slots v.births v.sems v.halts v.remote) x;
         may = record { solo = tt; holders = tt; life = rw x (sym zero); replies = rw x (refl, refl); grants = rw x tt };
         ties = record {
           threads = map_kept is_tid is-true is-refl (thread_part n) v.threads t r d.node.threads m.here.threads (sym (ap (λ z. thread_in_life n z o.guest) x));
@@ -183,6 +183,7 @@ module _ {outset : Outset} {ahead : List Item} {L : Links} where
           busy = unfronted is_tid is-true is-refl busy_name (busy_part n) v.threads t r hs (busy t (On at Showing)) m.here.busy refl refl;
         };
         births = refl;
+        sems = refl;
         free = refl;
         halted = refl;
         next = own_goes m refl refl refl;
@@ -203,9 +204,8 @@ module _ {outset : Outset} {ahead : List Item} {L : Links} where
           busy = sym (busy_none k t o (On at Showing) x (ap (λ z. eqb z k) zero ∙ e));
         };
         phase = sym (ap phase_of x);
-        quiet = λ u k e. absurd (cc (e, x));
+        quiet = quiet x refl;
         holds = keeps _ _ (sym (ap (λ z. held z o.guest) x));
-        unborn = λ e. absurd (cc (e, x));
         whole = plain _ refl;
       })).midst
 
@@ -218,7 +218,7 @@ module _ {outset : Outset} {ahead : List Item} {L : Links} where
       let r : Spot = record o { life = On at (Answered n); verdict = record { code = reply_code reply; extra = extra_of second } } in
       (send_step hs (Judged t (reply_code reply) (extra_of second)) t r d.node at (Answer t reply second) m
       (record {
-        same = ap (λ z. spots_with (update v.threads t (record { life = judged_life z; guest = judged_guest z o.guest; verdict = record { code = reply_code reply; extra = extra_of second } })) v.slots v.births v.halts v.remote) x;
+        same = ap (λ z. spots_with (update v.threads t (record { life = judged_life z; guest = judged_guest z o.guest; verdict = record { code = reply_code reply; extra = extra_of second } })) v.slots v.births v.sems v.halts v.remote) x;
         may = record { solo = tt; holders = tt; life = rw x refl; replies = rw x (refl, refl); grants = rw x tt };
         ties = record {
           threads = map_kept is_tid is-true is-refl (thread_part n) v.threads t r d.node.threads m.here.threads (sym (ap (λ z. thread_in_life n z o.guest) x));
@@ -226,6 +226,7 @@ module _ {outset : Outset} {ahead : List Item} {L : Links} where
           busy = unfronted is_tid is-true is-refl busy_name (busy_part n) v.threads t r hs (busy t (On at (Answers n reply second))) m.here.busy refl refl;
         };
         births = refl;
+        sems = refl;
         free = refl;
         halted = refl;
         next = own_goes m refl refl refl;
@@ -246,9 +247,8 @@ module _ {outset : Outset} {ahead : List Item} {L : Links} where
           busy = sym (busy_none k t o (On at (Answers n reply second)) x e);
         };
         phase = sym (ap phase_of x);
-        quiet = λ u k e. absurd (cc (e, x));
+        quiet = quiet x refl;
         holds = keeps _ _ (sym (ap (λ z. held z o.guest) x));
-        unborn = λ e. absurd (cc (e, x));
         whole = plain _ refl;
       })).midst
 
@@ -303,6 +303,7 @@ module _ {outset : Outset} {ahead : List Item} {L : Links} where
           busy = kept is_tid is-true is-refl busy_name (busy_part n) m.now.spots.threads t r [] m.here.busy (busy_none n t r (On n Ready) refl refl ∙ sym (busy_none n t o (Moving from n) x refl));
         };
         births = refl;
+        sems = refl;
         free = refl;
         halted = refl;
         next = record { heir = refl; next = refl; still = refl };
@@ -321,8 +322,7 @@ module _ {outset : Outset} {ahead : List Item} {L : Links} where
           busy = busy_none k t r (On n Ready) refl refl ∙ sym (busy_none k t o (Moving from n) x refl);
         };
         phase = sym (ap phase_of x);
-        quiet = λ u k e. absurd (cc (e, x));
+        quiet = quiet x refl;
         holds = keeps _ _ (sym (ap (λ z. held z o.guest) x));
-        unborn = λ e. absurd (cc (e, x));
         whole = plain _ refl;
       })).midst

@@ -1,9 +1,16 @@
-use Rattle.std.proofs.Common.{rules, ◌≡◌, Some, subst}
+use Rattle.std.proofs.Common.{rules, ◌≡◌, Some, subst, sym}
 use Rattle.std.specs.Prelude.{IfOk}
 use Rattle.run_trace.specs.Local.{EventSoFar}
 use Rattle.run_trace.specs.Steps.{thread_at}
-use Rattle.node_state.proofs.Told.{stop_is}
+use Rattle.node_state.specs.Asking.{CanBeDone}
+use Rattle.node_state.proofs.Told.{can_be_done, stop_is}
 use Rattle.node_state.proofs.event_so_far.EventSoFar.stops.Goals as goal
+
+pub calls-requires : goal.calls-requires
+calls-requires c =
+    let here : thread_at c.args.t.now c.args.self.now ≡ Some c.in-Some.thread.now = search rules in
+    subst (λ o. CanBeDone c.call-call.result o c.in_ok-checked-in-Call.checked) (sym here)
+    (can_be_done c.args.here.now.program.now c.args.t.now c.in-Some.thread.now c.call-call.result c.in_ok-checked-in-Call.checked c.in_ok-checked-in-Call.ensures)
 
 pub returns-in_ok-checked-in-Call : goal.returns-in_ok-checked-in-Call
 returns-in_ok-checked-in-Call c =

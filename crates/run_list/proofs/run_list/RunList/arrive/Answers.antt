@@ -3,11 +3,11 @@ use Rattle.run_trace.specs.declared.node.ReadyRow.{ReadyRow}
 use Rattle.run_trace.specs.Names.{tid_cmp}
 use Rattle.run_trace.specs.RunLists.{AreOnRoot, IsRising}
 use Rattle.run_trace.proofs.Lemmas.{root_pushed, arrival_rises}
-use Rattle.run_list.specs.Names.{names_of}
+use Rattle.run_list.specs.Names.{names_of, HaveHomes}
 use Rattle.run_list.specs.Sorted.{AreUp, put}
 use Rattle.run_list.specs.Tops.{greatest}
 use Rattle.run_list.specs.Views.{run_lists_of}
-use Rattle.run_list.proofs.OfRows.{names_up, names_more}
+use Rattle.run_list.proofs.OfRows.{names_up, names_more, homes_pushed}
 use Rattle.run_list.proofs.Tops.{greatest_more}
 use Rattle.run_list.proofs.run_list.RunList.arrive.Goals as goal
 
@@ -25,4 +25,5 @@ invariant_of-self-2 c =
           (subst (λ k. IsRising (run_lists_of (c.self.inside.rows.items ++ r ∷ []) k)) next_is
           (arrival_rises c.args.t c.args.priority (run_lists_of c.self.inside.rows.items c.self.inside.next) c.self.invariant.2)),
       c.max-self-inside.ensures ∙ ap (λ k. max k c.args.priority) c.self.invariant.3 ∙ sym (greatest_more c.self.inside.rows.items r) ∙ ap greatest (sym pushed),
+      subst HaveHomes (sym pushed) (homes_pushed c.self.inside.rows.items r c.self.invariant.4 (search (rules, tests))),
     )
