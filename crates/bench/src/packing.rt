@@ -1,8 +1,9 @@
-//! A thread is packed, its text unpacked, or the text copied: KIND is pack, unpack or copy, COUNT the slots that the thread holds.
+//! A thread is packed, its text unpacked, or the text copied, or it is split and rejoined: KIND is pack, unpack, copy or move, COUNT the
+//! slots that the thread holds.
 //! The number is how many bytes that were.
 
 use anyhow::{Result, bail};
-use pack_thread::{Baggage, pack, unpack};
+use pack_thread::{Baggage, pack, rejoin, split, unpack};
 use raw_slots::Pool;
 use slot_space::SlotNo;
 use std::alloc::{AllocError, Global};
@@ -60,6 +61,23 @@ fn unpacked(alloc: Global, text: &[u8], slots: u16, rounds: u32) -> Result<u64> 
     Ok(sum)
 }
 
+fn moved(alloc: Global, text: &[u8], rounds: u32) -> Result<u64> {
+    let mut pool = Pool::new(alloc);
+    let mut thread = unpack(alloc, text, &mut pool)?;
+    let mut sum = 0u64;
+    for _n in 0..rounds {
+        let Ok(moving) = split(alloc, thread) else {
+            bail!("out of memory");
+        };
+        sum = sum.wrapping_add(moving.head.len() as u64);
+        let Ok(again) = rejoin(alloc, moving) else {
+            bail!("out of memory");
+        };
+        thread = again;
+    }
+    Ok(sum)
+}
+
 fn copied(alloc: Global, text: &[u8], rounds: u32) -> Result<u64> {
     let mut sum = 0u64;
     for _ in 0..rounds {
@@ -76,6 +94,7 @@ pub fn measured(alloc: Global, kind: &str, count: u32, rounds: u32) -> Result<u6
         "pack" => packed(alloc, &text, rounds),
         "unpack" => unpacked(alloc, &text, slots, rounds),
         "copy" => copied(alloc, &text, rounds),
-        _ => bail!("KIND is pack, unpack or copy"),
+        "move" => moved(alloc, &text, rounds),
+        _ => bail!("KIND is pack, unpack, copy or move"),
     }
 }

@@ -1,8 +1,7 @@
 //! Texts of packed threads, by the table of their fields.
 
-use basics::NoMemory;
 use lrpc::{CallNo, Duty};
-use pack_thread::{Baggage, Packed, UnpackError, pack, unpack};
+use pack_thread::{Baggage, UnpackError, pack, unpack};
 use raw_slots::Pool;
 use slot_space::{NodeNo, SLOT_SIZE, SlotNo, SlotSet, Tid};
 use std::alloc::Global;
@@ -31,12 +30,12 @@ const BACK: [u8; 70] = [
 ];
 
 /// The byte at a place of a slot.
-fn byte_of(slot: u32, place: u32) -> u8 {
+pub(crate) fn byte_of(slot: u32, place: u32) -> u8 {
     (place.wrapping_add((place / 256).wrapping_mul(slot)) % 256) as u8
 }
 
 /// The fields up to the registers, and the registers: the r-th has r in its lowest and in its highest byte.
-fn front(alloc: Global) -> Result<Vec<u8>, Fail> {
+pub(crate) fn front(alloc: Global) -> Result<Vec<u8>, Fail> {
     let mut text = Vec::new(alloc);
     text.extend_from_slice(&FRONT)?;
     for r in 1..32 {
@@ -46,7 +45,7 @@ fn front(alloc: Global) -> Result<Vec<u8>, Fail> {
 }
 
 /// A text with the bytes of slots 5, 6, 7 and 8.
-fn whole_text(alloc: Global) -> Result<Vec<u8>, Fail> {
+pub(crate) fn whole_text(alloc: Global) -> Result<Vec<u8>, Fail> {
     let mut text = front(alloc)?;
     text.extend_from_slice(&BACK)?;
     for slot in 5..9 {
@@ -159,20 +158,6 @@ fn gives_its_thread(alloc: Global, text: &[u8]) -> Result<bool, UnpackError> {
 fn a_text_gives_its_thread_and_the_thread_its_text(rt: HostRuntime) -> Result<(), Fail> {
     let text = whole_text(rt.alloc())?;
     assert!(rt; gives_its_thread(rt.alloc(), &text)?);
-    Ok(())
-}
-
-/// Whether a thread that was packed and opened has its text still.
-fn keeps_its_text(alloc: Global, packed: &Packed) -> Result<bool, NoMemory> {
-    let mut pool = Pool::new(alloc);
-    let thread = packed.open(alloc, &mut pool)?;
-    Ok(Packed::of(alloc, &thread)?.text() == packed.text())
-}
-
-#[test]
-fn a_text_travels_as_its_thread(rt: HostRuntime) -> Result<(), Fail> {
-    let packed = Packed::from_text(whole_text(rt.alloc())?).ok_or("no thread")?;
-    assert!(rt; keeps_its_text(rt.alloc(), &packed)?);
     Ok(())
 }
 

@@ -9,6 +9,7 @@ ghost use Rattle.wires.specs.Ends.{node_of, width, ArePaired, BothChanged, LinkC
 ghost use Rattle.wires.specs.Link.{IsInOrder, IsSettled, BothBecome, OwnBecomes};
 ghost use Rattle.wires.specs.Wires.{StaysWired};
 ghost use Rattle.run_list.specs.Names.{names_of};
+ghost use Rattle.node_state.specs.Spare.{spare_kept};
 ghost use Rattle.node_state.specs.Views.{AreInOrder};
 ghost use Rattle.node_state.specs.Events.{program, Answers, StartsAligned};
 ghost use Rattle.node_loop.specs.View.{clock_limit, unbooted, raised, with_ends};
@@ -408,6 +409,13 @@ impl Node {
         ensures ordered { AreInOrder self.now.state.threads }
     {
         self.state.threads()
+    }
+
+    /// How many blocks of memory are spare, for the slots of threads to come.
+    pub fn spare(&self) -> u32
+        ensures { result ≤ spare_kept }
+    {
+        self.state.spare()
     }
 
     /// The node's clock.

@@ -4,3 +4,4 @@ pub mod Asking
 pub mod Heaps
 pub mod Moves
 pub mod Events
+pub mod Spare

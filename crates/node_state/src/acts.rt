@@ -103,11 +103,11 @@ impl EventSoFar {
     }
 
     /// The act, whose numbers are such as the node can do, and which has a thread where it needs one; false where it isn't possible.
-    fn acts(&mut self, here: &Here<'_>, act: &Act, took: &Option<Packet>) -> Result<bool, NoMemory>
+    fn acts(&mut self, here: &Here<'_>, act: &Act, took: Option<Packet>) -> Result<bool, NoMemory>
         requires node { self.old ≡ nothing self.old.node }
         requires image { StartsAligned here.now.program.now.image }
         requires can { can_act self.old.node act.now ≡ true }
-        ensures { IfOk result (λ did. Becomes (acts here.now.program.now here.now.me self.old.node act.now took.now) self.old self.new did) }
+        ensures { IfOk result (λ did. Becomes (acts here.now.program.now here.now.me self.old.node act.now took) self.old self.new did) }
     {
         match took {
             None => match act {
@@ -124,7 +124,8 @@ impl EventSoFar {
             },
             Some(packet) => match act {
                 Act::Take(from) => {
-                    self.takes(here, *from, &packet.body)?;
+                    let Packet { stamp: _, body } = packet;
+                    self.takes(here, *from, body)?;
                     Ok(true)
                 }
                 _ => Ok(false),
@@ -146,11 +147,11 @@ impl EventSoFar {
         &mut self,
         here: &Here<'_>,
         act: &Act,
-        took: &Option<Packet>,
+        took: Option<Packet>,
     ) -> Result<bool, NoMemory>
         requires node { self.old ≡ nothing self.old.node }
         requires image { StartsAligned here.now.program.now.image }
-        ensures { IfOk result (λ did. Becomes (local_event here.now.program.now here.now.me self.old.node act.now took.now) self.old self.new did) }
+        ensures { IfOk result (λ did. Becomes (local_event here.now.program.now here.now.me self.old.node act.now took) self.old self.new did) }
     {
         if !self.is_range(here, act) {
             return Ok(false);

@@ -64,9 +64,11 @@ impl EventSoFar {
         }
     }
 
-    /// How many blocks are spare.
-    pub(crate) fn spare(&self) -> u32 {
-        self.pool.spare()
+    /// Has these spare blocks, and gives those that it had.
+    pub(crate) fn exchange_pool(&mut self, pool: &mut Pool)
+        ensures { self.new ≡ self.old }
+    {
+        mem::swap(&mut self.pool, pool);
     }
 
     /// What the event has come to, taken out.

@@ -58,7 +58,7 @@ impl EventSoFar {
         let Some(thread) = node.threads.remove(t) else {
             return Ok(());
         };
-        let packed = thread.pack(self.alloc, &mut self.pool, t)?;
+        let packed = thread.pack(self.alloc, t)?;
         self.take_off(t);
         self.say(Label::Left { t: *t, to })?;
         self.put(to, Body::Mover(packed))

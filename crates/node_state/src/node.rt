@@ -1,37 +1,45 @@
 //! A node.
 
-ghost use Rattle.std.specs.Prelude.{◌≡◌, IfOk, length, slice_get};
+ghost use Rattle.std.specs.Prelude.{◌≡◌, ◌≤◌, IfOk, length, slice_get};
 ghost use Rattle.run_trace.specs.Machine.{local_event};
 ghost use Rattle.run_trace.specs.Guests.{unwaiting};
 ghost use Rattle.run_list.specs.Names.{names_of};
 ghost use Rattle.node_state.specs.Views.{AreInOrder};
+ghost use Rattle.node_state.specs.Spare.{spare_kept};
 ghost use Rattle.node_state.specs.Events.{StartsAligned, fresh_in, can_act, Answers};
 
 use crate::event_so_far::EventSoFar;
 use crate::here::Here;
 use crate::output::EventOutput;
 use basics::NoMemory;
+use raw_slots::Pool;
 use run_trace::{Act, Packet, Program, Setup};
 use slot_space::{NodeNo, Tid};
 use std::alloc::Global;
 use std::marker::Model;
 
+/// The most blocks that stay spare behind an event: else those that come with threads would gather where threads end.
+const SPARE_KEPT: u32 = 64;
+
 /// The state of one node. Contracts see it as the definition's.
 #[derive(Drop)]
 pub struct NodeState {
     doing: EventSoFar,
+    /// Blocks for the slots of threads to come. An event has them while it lasts.
+    pool: Pool,
 }
 
 impl Model for NodeState {
-    ghost use Rattle.std.specs.Prelude.{◌≡◌};
+    ghost use Rattle.std.specs.Prelude.{◌≡◌, ◌≤◌};
     ghost use Rattle.run_trace.specs.Local.{Local, nothing};
+    ghost use Rattle.node_state.specs.Spare.{spare_kept};
 
     ghost Value = { Local };
 
     ghost view = { λ n. n.doing.node };
 
-    // Between events nothing has happened.
-    ghost invariant = { λ n. n.doing ≡ nothing n.doing.node };
+    // Between events nothing has happened, and few blocks are spare.
+    ghost invariant = { λ n. (n.doing ≡ nothing n.doing.node) × (n.pool ≤ spare_kept) };
 }
 
 impl NodeState {
@@ -41,12 +49,15 @@ impl NodeState {
     {
         NodeState {
             doing: EventSoFar::fresh(alloc, setup, me),
+            pool: Pool::new(alloc),
         }
     }
 
-    /// How many blocks of memory are spare, for the slots of threads to come. No clause speaks of it.
-    pub fn spare(&self) -> u32 {
-        self.doing.spare()
+    /// How many blocks of memory are spare, for the slots of threads to come.
+    pub fn spare(&self) -> u32
+        ensures { result ≤ spare_kept }
+    {
+        self.pool.spare()
     }
 
     /// One event: what it has come to, or None where the act isn't possible, and then nothing has changed. Want of memory is
@@ -62,8 +73,11 @@ impl NodeState {
         ensures { IfOk result (λ done. Answers (local_event program.now me self.old act took) self.old self.new done) }
     {
         let here = Here { program, me };
-        let result = self.doing.event(&here, &act, &took);
+        self.doing.exchange_pool(&mut self.pool);
+        let result = self.doing.event(&here, &act, took);
         let done = self.doing.take_done();
+        self.doing.exchange_pool(&mut self.pool);
+        self.pool.trim(SPARE_KEPT);
         if result? { Ok(Some(done)) } else { Ok(None) }
     }
 

@@ -130,17 +130,17 @@ impl EventSoFar {
         }
     }
 
-    /// A thread comes. The blocks of one that this node doesn't expect are spare again.
+    /// A thread comes with its blocks. Those of one that this node doesn't expect are spare.
     fn takes_thread(
         &mut self,
         here: &Here<'_>,
         from: NodeNo,
-        packed: &Packed,
+        packed: Packed,
     ) -> Result<(), NoMemory>
         requires { self.old ≡ nothing self.old.node }
-        ensures { IfOk result (λ _. self.new ≡ takes here.now.program.now here.now.me from (body_of.Mover packed.now) self.old.node) }
+        ensures { IfOk result (λ _. self.new ≡ takes here.now.program.now here.now.me from (body_of.Mover packed) self.old.node) }
     {
-        let newcomer = Newcomer::open(self.alloc, &mut self.pool, packed)?;
+        let newcomer = Newcomer::open(self.alloc, packed)?;
         if self.may_enter(here, &newcomer) {
             self.enters(newcomer)
         } else {
@@ -274,22 +274,22 @@ impl EventSoFar {
         &mut self,
         here: &Here<'_>,
         from: NodeNo,
-        body: &Body,
+        body: Body,
     ) -> Result<(), NoMemory>
         requires { self.old ≡ nothing self.old.node }
-        ensures { IfOk result (λ _. self.new ≡ takes here.now.program.now here.now.me from body.now self.old.node) }
+        ensures { IfOk result (λ _. self.new ≡ takes here.now.program.now here.now.me from body self.old.node) }
     {
         match body {
             Body::Mover(packed) => self.takes_thread(here, from, packed),
-            Body::Show { t, bytes } => self.takes_line(here, from, t, bytes.as_slice()),
-            Body::ShowDone { t } => self.takes_shown(here, from, t),
-            Body::JoinAsk { by, seq } => self.takes_join(here, from, by, *seq),
-            Body::DetachAsk { by, seq } => self.takes_detach(here, from, by, *seq),
-            Body::SemAsk { by, id, up } => self.takes_signal(here, from, by, *id, *up),
+            Body::Show { t, bytes } => self.takes_line(here, from, &t, bytes.as_slice()),
+            Body::ShowDone { t } => self.takes_shown(here, from, &t),
+            Body::JoinAsk { by, seq } => self.takes_join(here, from, &by, seq),
+            Body::DetachAsk { by, seq } => self.takes_detach(here, from, &by, seq),
+            Body::SemAsk { by, id, up } => self.takes_signal(here, from, &by, id, up),
             Body::Answer { t, reply, second } => {
-                self.takes_answer(here, from, t, *reply, *second)
+                self.takes_answer(here, from, &t, reply, second)
             }
-            Body::EndNote { seq, end } => self.takes_end(here, from, *seq, *end),
+            Body::EndNote { seq, end } => self.takes_end(here, from, seq, end),
         }
     }
 }

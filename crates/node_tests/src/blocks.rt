@@ -1,4 +1,4 @@
-//! Which blocks of memory are spare in the end: those of threads that have ended, left or weren't taken in, and of freed slots.
+//! Which blocks of memory are spare in the end: those of threads that have ended or weren't taken in, and of freed slots.
 
 ghost use Rattle.std.specs.Prelude.{IfOk};
 ghost use Rattle.node_state.specs.Events.{StartsAligned};
@@ -34,6 +34,16 @@ const ROUNDS: [u32; 22] = [
     0x0001_0537,
     0x0000_0073,
     0x00d0_0893,
+    0x0000_0073,
+    0x0000_8067,
+];
+
+/// It allocates a block of 70 slots, and ends.
+const GREAT: [u32; 6] = [
+    0x0010_0893,
+    0x0000_0073,
+    0x0046_0537,
+    0x00c0_0893,
     0x0000_0073,
     0x0000_8067,
 ];
@@ -103,10 +113,10 @@ fn go(alloc: Global, program: &Program, node: &mut NodeState) -> Result<(), Fail
 }
 
 /// The spare blocks of one node, once nothing can happen on it any more.
-fn spare_alone(alloc: Global, image: &Image) -> Result<u32, Fail>
+fn spare_alone(alloc: Global, slots: u16, image: &Image) -> Result<u32, Fail>
     requires { StartsAligned image.now }
 {
-    let program = program(alloc, 1, 16, image)?;
+    let program = program(alloc, 1, slots, image)?;
     let mut node = NodeState::fresh(alloc, program.setup(), NodeNo(0));
     go(alloc, &program, &mut node)?;
     Ok(node.spare())
@@ -180,7 +190,15 @@ fn spare_after(
 #[test]
 fn a_thousand_threads_have_four_blocks(rt: HostRuntime) -> Result<(), Fail> {
     let image = image(rt.alloc(), &ROUNDS)?;
-    assert!(rt; spare_alone(rt.alloc(), &image)? == 4);
+    assert!(rt; spare_alone(rt.alloc(), 16, &image)? == 4);
+    Ok(())
+}
+
+/// Of 71 blocks that a thread had, those past 64 are given up.
+#[test]
+fn few_blocks_stay_spare(rt: HostRuntime) -> Result<(), Fail> {
+    let image = image(rt.alloc(), &GREAT)?;
+    assert!(rt; spare_alone(rt.alloc(), 128, &image)? == 64);
     Ok(())
 }
 
@@ -193,11 +211,11 @@ const MOVES: [(bool, Act); 6] = [
     (true, Act::Run(0, 1000)),
 ];
 
-/// Those of a thread that moves are spare on the node that it leaves, and once it has ended on the node where it came.
+/// Those of a thread that moves go with it, and are spare once it has ended on the node where it came.
 #[test]
-fn blocks_stay_where_a_thread_was(rt: HostRuntime) -> Result<(), Fail> {
+fn blocks_go_where_a_thread_goes(rt: HostRuntime) -> Result<(), Fail> {
     let image = image(rt.alloc(), &MOVED)?;
-    assert!(rt; spare_after(rt.alloc(), &image, 1, &MOVES)? == (2, 2));
+    assert!(rt; spare_after(rt.alloc(), &image, 1, &MOVES)? == (0, 2));
     Ok(())
 }
 
@@ -218,6 +236,6 @@ const SENT: [(bool, Act); 4] = [
 #[test]
 fn the_block_of_a_stray_thread_is_spare(rt: HostRuntime) -> Result<(), Fail> {
     let image = image(rt.alloc(), &MOVED)?;
-    assert!(rt; spare_after(rt.alloc(), &image, 0, &SENT)? == (1, 1));
+    assert!(rt; spare_after(rt.alloc(), &image, 0, &SENT)? == (0, 1));
     Ok(())
 }

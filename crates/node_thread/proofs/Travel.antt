@@ -1,11 +1,11 @@
 -- A thread that is here can be packed, and one that is unpacked holds its slots and blocks.
-use Rattle.std.proofs.Common.{◌≡◌, ℕ, ◌+◌, ◌%◌, ◌<◌, ◌≤◌, List, [], ◌∷◌, length, false, refl, sym, ap, ◌∙◌, subst, arith}
+use Rattle.std.proofs.Common.{◌≡◌, ℕ, ◌%◌, ◌<◌, ◌≤◌, List, [], ◌∷◌, length, false, refl, sym, ap, ◌∙◌, subst, arith}
 use Rattle.std.specs.Prelude.{slice_index}
 use Rattle.std.proofs.lemmas.Bool.{eq-eqb}
 use Rattle.slot_space.specs.declared.names.Tid.{Tid}
 use Rattle.slot_space.specs.Limits.{slot_limit}
 use Rattle.slot_space.specs.Sets.{has, insert, minus, IsSlotSet}
-use Rattle.slot_space.proofs.Lemmas.{ascending-insert, ascending-minus, same_members, has-insert, has-minus, has-left_out, insert-left_out, proper-left_out, length-insert}
+use Rattle.slot_space.proofs.Lemmas.{ascending-insert, ascending-minus, same_members, has-insert, has-minus, has-left_out, insert-left_out, proper-left_out}
 use Rattle.iso_blocks.specs.Heap.{Heap, IsSound}
 use Rattle.rv_step.specs.declared.hart.Hart.{Hart}
 use Rattle.rv_step.specs.Memory.{slots_of}
@@ -15,7 +15,7 @@ use Rattle.pack_thread.specs.Rules.{KeepsRules}
 use Rattle.pack_thread.specs.Threads.{PackedThread as Packed, IsThread, IsTyped}
 use Rattle.pack_thread.proofs.Lemmas.{packable, rules_of_typed}
 use Rattle.run_trace.specs.declared.node.Wait.{Wait}
-use Rattle.run_trace.specs.Guests.{packed, guest_slots, unpacked}
+use Rattle.run_trace.specs.Guests.{packed}
 use Rattle.node_thread.specs.Views.{thread_of, IsOwn, CanTravel}
 
 -- as a thread with these parts travels
@@ -83,7 +83,3 @@ comes_able hart priority x is typed state same =
 
 pub stack_below : (x : Packed) → IsThread x → IsTyped x → x.stack < slot_limit
 stack_below x is typed = (rules_of_typed x is typed).stack
-
--- how many slots come
-pub how_many : (x : Packed) → IsThread x → IsTyped x → length (guest_slots (unpacked x)) ≡ length x.heap.slots + 1
-how_many x is typed = ap (λ (xs : List ℕ). length xs) is.holds ∙ length-insert x.stack x.heap.slots (rules_of_typed x is typed).apart

@@ -1,8 +1,7 @@
 //! A thread that comes from another node.
 
-ghost use Rattle.std.specs.Prelude.{◌≡◌, ◌+◌, ◌≤◌, max, length, IfOk, OnErr};
+ghost use Rattle.std.specs.Prelude.{◌≡◌, IfOk};
 ghost use Rattle.pack_thread.specs.Threads.{thread_of};
-ghost use Rattle.run_trace.specs.Guests.{guest_slots};
 ghost use Rattle.run_trace.specs.Machine.{is_unserving};
 ghost use Rattle.node_thread.specs.Newcomers.{newcomer_of};
 
@@ -10,7 +9,6 @@ use crate::thread::Thread;
 use basics::NoMemory;
 use lrpc::Duty;
 use pack_thread::{Baggage, Packed};
-use raw_slots::Pool;
 use slot_space::Tid;
 use std::alloc::Global;
 
@@ -36,13 +34,11 @@ fn is_unserving(baggage: &Baggage) -> bool
 }
 
 impl Newcomer {
-    /// The thread of a packet. Its slots' blocks are taken from the pool, which has at least what it had where there is no memory.
-    pub fn open(alloc: Global, pool: &mut Pool, packed: &Packed) -> Result<Newcomer, NoMemory>
-        ensures thread { IfOk result (λ n. n ≡ newcomer_of packed.now) }
-        ensures taken { IfOk result (λ n. pool.new + length (guest_slots n.thread.guest) ≡ max pool.old (length (guest_slots n.thread.guest))) }
-        ensures kept { OnErr result (pool.old ≤ pool.new) }
+    /// The thread of a packet, with the blocks that came.
+    pub fn open(alloc: Global, packed: Packed) -> Result<Newcomer, NoMemory>
+        ensures { IfOk result (λ n. n ≡ newcomer_of packed) }
     {
-        let baggage = packed.open(alloc, pool)?;
+        let baggage = packed.open(alloc)?;
         let tid = baggage.tid;
         let unserving = is_unserving(&baggage);
         let thread = Thread::unpack(baggage);

@@ -122,11 +122,10 @@ impl Thread {
         put_all(pool, mem);
     }
 
-    /// As it travels; its blocks are spare from now on, whatever comes.
-    pub fn pack(self, alloc: Global, pool: &mut Pool, t: &Tid) -> Result<Packed, NoMemory>
+    /// As it travels, with its blocks.
+    pub fn pack(self, alloc: Global, t: &Tid) -> Result<Packed, NoMemory>
         requires { t.now.home < node_limit }
-        ensures thread { IfOk result (λ x. x ≡ packed t.now self.guest) }
-        ensures spare { pool.new ≡ min (pool.old + length (guest_slots self.guest)) spare_limit }
+        ensures { IfOk result (λ x. x ≡ packed t.now self.guest) }
     {
         // Its slots ascend, and there are 32 registers.
         let _stack = self.slots.contains(self.stack);
@@ -149,9 +148,10 @@ impl Thread {
             stack,
             blocks,
         };
-        let packed = Packed::of(alloc, &baggage);
-        put_all(pool, baggage.hart.mem);
-        packed
+        match Packed::of(alloc, baggage) {
+            Ok(packed) => Ok(packed),
+            Err(_) => Err(NoMemory),
+        }
     }
 
     /// The thread that has come with all this.

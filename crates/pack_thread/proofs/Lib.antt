@@ -5,5 +5,6 @@ pub mod Limits
 pub mod Building
 pub mod Texts
 pub mod RuleLaws
+pub mod Movings
 pub mod TextThreads
 pub mod Packable

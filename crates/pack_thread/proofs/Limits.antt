@@ -2,7 +2,6 @@
 use Rattle.std.proofs.Common.{◌≡◌, ℕ, ◌+◌, ◌*◌, ◌^◌, ◌<◌, ◌≤◌, true, false, cond, eqb, List, [], ◌∷◌, length, refl, arith}
 use Rattle.std.proofs.lemmas.Bool.{eq-eqb}
 use Rattle.slot_space.specs.Limits.{slots_end, slot_limit}
-use Rattle.slot_space.specs.Addresses.{slot_base}
 use Rattle.slot_space.proofs.Lemmas.{ascending-insert, below-insert}
 use Rattle.slot_space.specs.Sets.{has, insert, IsAscending, AreBelow, IsSlotSet}
 use Rattle.iso_blocks.specs.Heap.{StandFrom}

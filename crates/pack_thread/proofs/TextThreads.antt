@@ -1,21 +1,18 @@
 -- The thread that is computed from a thread's text is that thread.
-use Rattle.std.proofs.Common.{◌≡◌, ℕ, suc, ◌+◌, ◌*◌, List, [], ◌∷◌, ◌++◌, length, get_or, take, drop, Ok, refl, sym, ap, ◌∙◌, arith}
-use Rattle.std.proofs.lemmas.List.{length-drop, length-take, take-append-drop, drop-drop, take_at, drop_at, get_or-drop}
+use Rattle.std.proofs.Common.{◌≡◌, ℕ, suc, ◌+◌, List, [], ◌∷◌, ◌++◌, length, get_or, take, drop, refl, sym, ap, ◌∙◌, arith}
+use Rattle.std.proofs.lemmas.List.{length-drop, drop-drop, take_at, drop_at, get_or-drop}
 use Rattle.slot_space.specs.Limits.{slot_size}
 use Rattle.slot_space.specs.Sets.{insert}
 use Rattle.lrpc.specs.declared.duty.Duty.{Duty}
 use Rattle.lrpc.specs.declared.duty.Duty.TheVariants as duties
 use Rattle.rv_step.specs.Memory.{Memory, slots_of}
-use Rattle.thread_text.specs.declared.opening.Opened.{Opened}
-use Rattle.thread_text.specs.Grammar.{read_text}
-use Rattle.thread_text.specs.Opened.{live_of, slots_at, opened_numbers, reading_of, IsOpen}
 use Rattle.pack_thread.specs.Packed.{duty_numbered, call_numbered, blocks_numbered, memory_in, heap_numbered, thread_numbered, thread_read, thread_in}
 use Rattle.thread_text.specs.Numbers.{duty_numbers, block_numbers}
-use Rattle.pack_thread.specs.Threads.{PackedThread, heap_numbers, numbers_of, bytes_of, head_of, text_of, AreWhole, IsThread, IsTyped, IsTextOf}
-use Rattle.pack_thread.proofs.Building.{built}
-use Rattle.thread_text.proofs.Lemmas.{IsBytes}
-use Rattle.slot_space.proofs.Lemmas.{length-insert}
-use Rattle.pack_thread.proofs.Texts.{text_read, same_pair, same_held, same_call, same_thread, found}
+use Rattle.pack_thread.specs.Threads.{PackedThread, heap_numbers, numbers_of, bytes_of, head_of, text_of, AreWhole, IsThread, IsTyped}
+use Rattle.pack_thread.specs.declared.moving.Moving.{Moving}
+use Rattle.pack_thread.specs.Moving.{text_of_moving, IsMovingOf}
+use Rattle.pack_thread.proofs.Movings.{moving_text}
+use Rattle.pack_thread.proofs.Texts.{text_read, same_pair, same_held, same_call, same_thread}
 
 -- ## Each section
 
@@ -48,19 +45,6 @@ memory_again (h ∷ m) whole =
     let first : take slot_size (h.block ++ bytes_of m) ≡ h.block = take_at h.block (bytes_of m) slot_size whole.0 in
     let rest : drop slot_size (h.block ++ bytes_of m) ≡ bytes_of m = drop_at h.block (bytes_of m) slot_size whole.0 in
     cc (same_held (record { slot = h.slot; block = take slot_size (h.block ++ bytes_of m) }) h refl first, ap (memory_in (slots_of m)) rest ∙ memory_again m whole.1)
-
-pub memory_slots : (slots bytes : List ℕ) → slots_of (memory_in slots bytes) ≡ slots
-unfolding memory_in
-memory_slots [] bytes = refl
-memory_slots (s ∷ slots) bytes = ap (λ (ss : List ℕ). s ∷ ss) (memory_slots slots (drop slot_size bytes))
-
-pub memory_bytes : (slots bytes : List ℕ) → length bytes ≡ slot_size * length slots → (bytes_of (memory_in slots bytes) ≡ bytes) × AreWhole (memory_in slots bytes)
-unfolding memory_in
-memory_bytes [] [] len = (refl, tt)
-memory_bytes [] (b ∷ bytes) len = absurd (omega arith)
-memory_bytes (s ∷ slots) bytes len =
-    let rest = memory_bytes slots (drop slot_size bytes) (omega (arith, length-drop slot_size bytes)) in
-    (ap (λ (b : List ℕ). take slot_size bytes ++ b) rest.0 ∙ take-append-drop slot_size bytes, (omega (arith, length-take slot_size bytes), rest.1))
 
 -- ## The whole thread
 
@@ -106,33 +90,11 @@ thread_again t rules typed =
     ∙ ap (thread_numbered (numbers_of t)) (drop_at (head_of t) (bytes_of t.state.memory) (length (head_of t)) refl)
     ∙ numbers_again t rules typed
 
--- ## The thread of an opened text
+-- ## The thread of what moves
 
-opened_thread : List ℕ → Opened → PackedThread
-opened_thread bytes o = record {
-  tid = o.who.tid;
-  priority = o.who.priority;
-  calls = o.who.calls;
-  duty = o.duty;
-  state = record { regs = o.regs; pc = o.place.pc; memory = memory_in (insert o.place.stack o.slots) (drop (slots_at o) bytes) };
-  stack = o.place.stack;
-  heap = record { live = live_of bytes o; slots = o.slots };
-}
+pub moving_thread : (m : Moving) (t : PackedThread) → IsMovingOf m t → thread_in (text_of_moving m) ≡ t
+moving_thread m t is = ap thread_in (moving_text m t is) ∙ thread_again t is.rules is.typed
 
-opened_text : (bytes : List ℕ) (o : Opened) → IsBytes bytes → read_text bytes ≡ Ok (reading_of bytes o) → IsOpen bytes o → slots_at o + slot_size * (length o.slots + 1) ≡ length bytes → IsTextOf bytes (opened_thread bytes o)
-unfolding opened_thread
-opened_text bytes o fits e rules whole =
-    let t = opened_thread bytes o in
-    let held = insert o.place.stack o.slots in
-    let count : length (drop (slots_at o) bytes) ≡ slot_size * length held = omega (arith, length-drop (slots_at o) bytes, length-insert o.place.stack o.slots rules.apart, whole) in
-    found bytes (opened_numbers bytes o) (slots_at o) (length o.slots + 1) t fits e (built bytes o t.heap t.state rules refl refl refl) (rules.zero, rules.regs)
-    (memory_slots held (drop (slots_at o) bytes)) (memory_bytes held (drop (slots_at o) bytes) count)
-
--- bytes that are the text of a thread are that of the thread that is computed from them
-pub text_again : (bytes : List ℕ) (t : PackedThread) → IsTextOf bytes t → IsTextOf bytes (thread_in bytes)
-text_again bytes t is =
-    let same : thread_in bytes ≡ t = ap thread_in is.text ∙ thread_again t is.rules is.typed in
-    rw same is
-
-pub opened_again : (bytes : List ℕ) (o : Opened) → IsBytes bytes → read_text bytes ≡ Ok (reading_of bytes o) → IsOpen bytes o → slots_at o + slot_size * (length o.slots + 1) ≡ length bytes → IsTextOf bytes (thread_in bytes)
-opened_again bytes o fits e rules whole = text_again bytes (opened_thread bytes o) (opened_text bytes o fits e rules whole)
+-- what moves is of the thread that is computed from its text
+pub moving_again : (m : Moving) (t : PackedThread) → IsMovingOf m t → IsMovingOf m (thread_in (text_of_moving m))
+moving_again m t is = rw (moving_thread m t is) is

@@ -59,11 +59,12 @@ length-bytes_of : (m : Memory) → AreWhole m → length (bytes_of m) ≡ slot_s
 length-bytes_of [] whole = refl
 length-bytes_of (h ∷ m) whole = omega (arith, length-append h.block (bytes_of m), whole.0, length-bytes_of m whole.1)
 
+pub count_memory : (t : PackedThread) → IsThread t → length t.state.regs ≡ 32 → length t.state.memory ≡ length t.heap.slots + 1
+count_memory t rules regs =
+    sym (length-map t.state.memory (λ (h : Held). h.slot)) ∙ ap length rules.holds ∙ length-insert t.stack t.heap.slots (keeps t regs rules.rules).apart
+
 pub length-memory : (t : PackedThread) → IsThread t → IsTyped t → length (bytes_of t.state.memory) ≡ slot_size * (length t.heap.slots + 1)
-length-memory t rules typed =
-    let count : length t.state.memory ≡ length t.heap.slots + 1 =
-    sym (length-map t.state.memory (λ (h : Held). h.slot)) ∙ ap length rules.holds ∙ length-insert t.stack t.heap.slots (keeps t typed.regs rules.rules).apart in
-    length-bytes_of t.state.memory typed.blocks ∙ ap (λ n. slot_size * n) count
+length-memory t rules typed = length-bytes_of t.state.memory typed.blocks ∙ ap (λ n. slot_size * n) (count_memory t rules typed.regs)
 
 -- ## A text is read
 

@@ -1,5 +1,5 @@
 -- The thread of a text.
-use Rattle.std.specs.Prelude.{ℕ, zero, suc, List, [], ◌∷◌, take, drop, slice_index, Result, Ok, Err, Option, Some, None}
+use Rattle.std.specs.Prelude.{ℕ, zero, suc, List, [], ◌∷◌, take, drop, slice_index, Result, Ok, Err}
 use Rattle.slot_space.specs.Limits.{slot_size}
 use Rattle.slot_space.specs.Sets.{insert}
 use Rattle.rv_step.specs.Memory.{Memory}
@@ -65,11 +65,3 @@ thread_read bytes (Err offset) = thread_numbered [] []
 -- the thread whose text the bytes are; what it is of other bytes doesn't matter
 unfoldable pub thread_in : List ℕ → PackedThread
 thread_in bytes = thread_read bytes (read_text bytes)
-
--- the thread whose text the bytes are, or none where they are refused
-abbrev pub thread_if : List ℕ → Result Reading ℕ → Option PackedThread
-thread_if bytes (Ok reading) = Some (thread_in bytes)
-thread_if bytes (Err offset) = None
-
-abbrev pub thread_from : List ℕ → Option PackedThread
-thread_from bytes = thread_if bytes (read_text bytes)

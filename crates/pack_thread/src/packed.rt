@@ -1,76 +1,61 @@
 //! A thread on its way.
 
-ghost use Rattle.std.specs.Prelude.{◌≡◌, ◌+◌, ◌≤◌, max, IfOk, OnErr, IfSome, length};
-ghost use Rattle.pack_thread.specs.Packed.{thread_from};
-ghost use Rattle.pack_thread.specs.Threads.{thread_of, text_of, IsThread, IsTyped, IsTextOf};
+ghost use Rattle.std.specs.Prelude.{◌≡◌, IfOk, IfErr};
+ghost use Rattle.pack_thread.specs.Threads.{thread_of, IsThread, IsTyped};
 
 use crate::baggage::Baggage;
 use crate::error::UnpackError;
-use crate::packing::pack;
-use crate::unpacking::unpack;
+use crate::moving::{Moving, Rejoin};
+use crate::rejoining::rejoin;
+use crate::splitting::split;
 use basics::NoMemory;
-use raw_slots::Pool;
 use std::alloc::Global;
 use std::marker::Model;
-use thread_text::open_text;
 
-/// A thread on its way: its text. Contracts see the thread.
+/// A thread on its way: its fields and the blocks of its slots. Contracts see the thread.
 #[derive(Drop)]
 pub struct Packed {
-    bytes: Vec<u8>,
+    moving: Moving,
 }
 
 impl Model for Packed {
     ghost use Rattle.pack_thread.specs.Packed.{thread_in};
-    ghost use Rattle.pack_thread.specs.Threads.{PackedThread, IsTextOf};
+    ghost use Rattle.pack_thread.specs.Threads.{PackedThread};
+    ghost use Rattle.pack_thread.specs.Moving.{text_of_moving, IsMovingOf};
 
     ghost Value = { PackedThread };
 
-    ghost view = { λ p. thread_in p.bytes.items };
+    ghost view = { λ p. thread_in (text_of_moving p.moving) };
 
-    ghost invariant = { λ p. IsTextOf p.bytes.items (thread_in p.bytes.items) };
+    // Its text is that thread's, and its head ends before the slots' bytes.
+    ghost invariant = { λ p. IsMovingOf p.moving (thread_in (text_of_moving p.moving)) };
 }
 
 impl Packed {
-    /// A thread as its text.
-    pub fn of(alloc: Global, b: &Baggage) -> Result<Packed, NoMemory>
-        requires { IsThread (thread_of b.now) }
-        ensures { IfOk result (λ p. p ≡ thread_of b.now) }
+    /// A thread as it travels. Where there is no memory for it, the thread is handed back.
+    pub fn of(alloc: Global, b: Baggage) -> Result<Packed, Baggage>
+        requires { IsThread (thread_of b) }
+        ensures thread { IfOk result (λ p. p ≡ thread_of b) }
+        ensures back { IfErr result (λ same. same ≡ b) }
     {
-        let bytes = pack(alloc, b)?;
-        Ok(Packed { bytes })
-    }
-
-    /// The thread of a text; None exactly where the bytes are no thread's text. It takes no memory.
-    pub fn from_text(bytes: Vec<u8>) -> Option<Packed>
-        ensures thread { result ≡ thread_from bytes.items }
-        ensures text { IfSome result (λ p. IsTextOf bytes.items p) }
-    {
-        match open_text(&bytes) {
-            Ok(_) => Some(Packed { bytes }),
-            Err(_) => None,
+        match split(alloc, b) {
+            Ok(moving) => Ok(Packed { moving }),
+            Err(same) => Err(same),
         }
     }
 
-    /// Its text.
-    pub fn text(&self) -> &[u8]
-        ensures text { result.now ≡ text_of self.now }
-        ensures rules { IsThread self.now × IsTyped self.now }
-    {
-        &self.bytes
-    }
-
-    /// The thread. Its slots' blocks are taken from the pool, which has at least what it had where there is no memory.
-    pub fn open(&self, alloc: Global, pool: &mut Pool) -> Result<Baggage, NoMemory>
-        ensures thread { IfOk result (λ b. thread_of b ≡ self.now) }
+    /// The thread. The blocks of its slots are those that came.
+    pub fn open(self, alloc: Global) -> Result<Baggage, NoMemory>
+        ensures thread { IfOk result (λ b. thread_of b ≡ self) }
         ensures rules { IfOk result (λ b. IsThread (thread_of b) × IsTyped (thread_of b)) }
-        ensures taken { IfOk result (λ b. pool.new + (length b.blocks.slots + 1) ≡ max pool.old (length b.blocks.slots + 1)) }
-        ensures kept { OnErr result (pool.old ≤ pool.new) }
     {
-        match unpack(alloc, &self.bytes, pool) {
+        let Packed { moving } = self;
+        match rejoin(alloc, moving) {
             Ok(thread) => Ok(thread),
-            Err(UnpackError::NoMemory) => Err(NoMemory),
-            Err(UnpackError::BadImage { .. }) => unreachable!(),
+            Err(Rejoin { cause, moving: _ }) => match cause {
+                UnpackError::NoMemory => Err(NoMemory),
+                UnpackError::BadImage { .. } => unreachable!(),
+            },
         }
     }
 }

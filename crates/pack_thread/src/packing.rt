@@ -37,7 +37,7 @@ pub fn pack(alloc: Global, b: &Baggage) -> Result<Vec<u8>, NoMemory>
 }
 
 /// Adds all fields up to the slots' bytes.
-fn put_head(bytes: &mut Vec<u8>, b: &Baggage, slots: &[SlotNo]) -> Result<(), NoMemory>
+pub(crate) fn put_head(bytes: &mut Vec<u8>, b: &Baggage, slots: &[SlotNo]) -> Result<(), NoMemory>
     requires heap { slots.now ≡ b.now.blocks.slots }
     requires proper { IsSlotSet slots.now }
     ensures text { OnOk result (bytes.new.items ≡ bytes.old.items ++ head_of (thread_of b.now)) }

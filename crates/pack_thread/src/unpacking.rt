@@ -6,20 +6,18 @@ ghost use Rattle.slot_space.specs.Sets.{insert, IsAscending};
 ghost use Rattle.rv_step.specs.Memory.{slots_of};
 ghost use Rattle.thread_text.specs.Grammar.{read_text};
 ghost use Rattle.thread_text.specs.Opened.{slots_at, opened_numbers, IsOpen};
-ghost use Rattle.thread_text.specs.Reading.{blocks_at};
 ghost use Rattle.pack_thread.specs.Threads.{PackedThread, thread_of, bytes_of, numbers_of, AreWhole, text_of, IsThread, IsTyped, Gives};
 
 use crate::baggage::Baggage;
 use crate::error::UnpackError;
 use crate::held::held_slots;
+use crate::opened::{assembled, heap_of};
 use basics::NoMemory;
-use byteorder::{ByteOrder, LittleEndian};
-use iso_blocks::Blocks;
 use raw_slots::{Pool, SlotMem};
-use rv_step::{GuestMem, Hart};
+use rv_step::GuestMem;
 use slot_space::{SLOT_SIZE, SlotNo};
 use std::alloc::Global;
-use thread_text::{Opened, Place, Who, open_text};
+use thread_text::{Opened, open_text};
 
 /// The thread of a text. Its slots' blocks are taken from the pool; where no thread is given, the pool has at least what
 /// it had.
@@ -53,57 +51,10 @@ fn build(alloc: Global, bytes: &[u8], opened: Opened, pool: &mut Pool) -> Result
     ensures err { OnErr result (pool.old ≤ pool.new) }
 {
     let from = opened.slots_at();
-    let live = blocks_of(alloc, bytes, opened.live_at(), opened.live)?;
-    let Opened {
-        who,
-        duty,
-        regs,
-        place,
-        slots,
-        live: _,
-    } = opened;
-    let Who {
-        tid,
-        priority,
-        calls,
-    } = who;
-    let Place { pc, stack, heap: _ } = place;
-    let blocks = match Blocks::rebuild(alloc, &slots, &live)? {
-        Some(made) => made,
-        None => unreachable!(),
-    };
-    let held = held_slots(alloc, &slots, stack)?;
+    let blocks = heap_of(alloc, bytes, &opened)?;
+    let held = held_slots(alloc, &opened.slots, opened.place.stack)?;
     let mem = memory_of(alloc, pool, &held, &bytes[from..])?;
-    Ok(Baggage {
-        tid,
-        priority,
-        calls,
-        duty,
-        hart: Hart { regs, pc, mem },
-        stack,
-        blocks,
-    })
-}
-
-/// `count` blocks, from a place of the bytes on.
-fn blocks_of(
-    alloc: Global,
-    bytes: &[u8],
-    at: usize,
-    count: u32,
-) -> Result<Vec<(u64, u64)>, NoMemory>
-    requires { at + 16 * count ≤ length bytes.now }
-    ensures { IfOk result (λ live. live.items ≡ blocks_at bytes.now at count) }
-{
-    let mut live = Vec::new(alloc);
-    live.reserve(count as usize)?;
-    for k in 0..count {
-        let place = at + 16 * k as usize;
-        let address = LittleEndian::read_u64(&bytes[place..]);
-        let size = LittleEndian::read_u64(&bytes[place + 8..]);
-        live.push((address, size))?;
-    }
-    Ok(live)
+    Ok(assembled(opened, blocks, mem))
 }
 
 /// The memory of these slots, whose bytes stand one after another. The blocks are taken from the pool, which has at least

@@ -72,15 +72,12 @@ impl Pool {
         if self.spare == 0 {
             return SlotMem::new(self.alloc);
         }
-        let empty = Chain::empty(&self.alloc);
-        let chain = replace(&mut self.chain, empty);
-        let ((memory, lease), rest) = chain.pop(SIZE);
-        replace(&mut self.chain, rest).end();
-        self.spare -= 1;
+        let (memory, lease) = self.unlink();
         Ok(SlotMem::zeroed(memory, lease, self.alloc))
     }
 
-    /// Takes a block back as a spare one, without memory. A pool of `u32::MAX` spare blocks gives it up instead.
+    /// Takes a block as a spare one, without memory, whichever pool made it. A pool of `u32::MAX` spare blocks gives it up
+    /// instead.
     pub fn put(&mut self, block: SlotMem)
         ensures { self.new ≡ min (self.old + 1) (2 ^ 32 - 1) }
     {
@@ -89,6 +86,30 @@ impl Pool {
         }
         let (memory, lease) = block.into_block(self.alloc);
         self.add(memory, lease);
+    }
+
+    /// Gives spare blocks up until at most `n` are spare. It takes no memory.
+    pub fn trim(&mut self, n: u32)
+        ensures { self.new ≡ min self.old n }
+    {
+        while n < self.spare {
+            let (memory, lease) = self.unlink();
+            memory.free(lease, &self.alloc);
+        }
+    }
+
+    /// Takes a spare block out.
+    fn unlink(&mut self) -> (Memory, Lease<Global>)
+        requires { 0 < self.old }
+        ensures block { (result.0.size ≡ slot_size) × (result.1.ptr ≡ result.0.ptr) × (result.1.size ≡ slot_size) }
+        ensures spare { self.new + 1 ≡ self.old }
+    {
+        let empty = Chain::empty(&self.alloc);
+        let chain = replace(&mut self.chain, empty);
+        let (block, rest) = chain.pop(SIZE);
+        replace(&mut self.chain, rest).end();
+        self.spare -= 1;
+        block
     }
 
     /// Links one more block in.

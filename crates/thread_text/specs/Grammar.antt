@@ -80,3 +80,16 @@ ends bytes (Ok reading) =
 -- what a text has, or the place at which it is refused
 abbrev pub read_text : List ℕ → Result Reading ℕ
 read_text bytes = ends bytes (read thread_fields bytes 0)
+
+-- ## A head: the fields alone, beside which blocks of the slots' bytes stand
+
+-- nothing stands behind the fields, and there are as many blocks as they say; else the head is refused at the fields' end
+abbrev pub ends_head : List ℕ → (blocks : ℕ) → Result Reading ℕ → Result Reading ℕ
+ends_head bytes blocks (Err offset) = Err offset
+ends_head bytes blocks (Ok reading) =
+    if nat_lt reading.at (length bytes) then Err reading.at
+    else (if blocks == reading.blocks then Ok reading else Err reading.at)
+
+-- what a head with so many blocks has, or the place at which it is refused
+abbrev pub read_head : List ℕ → (blocks : ℕ) → Result Reading ℕ
+read_head bytes blocks = ends_head bytes blocks (read thread_fields bytes 0)

@@ -4,4 +4,4 @@
 
 mod opening;
 
-pub use opening::{MAGIC, Opened, Place, Who, open_text};
+pub use opening::{MAGIC, Opened, Place, Who, open_head, open_text};

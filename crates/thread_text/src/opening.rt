@@ -5,7 +5,7 @@ ghost use Rattle.slot_space.specs.Limits.{slot_limit, slot_size};
 ghost use Rattle.slot_space.specs.Sets.{has, IsSlotSet};
 ghost use Rattle.iso_blocks.specs.Heap.{IsBlock, StandFrom};
 ghost use Rattle.thread_text.specs.Fields.{number_at as number_from, read};
-ghost use Rattle.thread_text.specs.Grammar.{read_text, thread_fields, duty_fields, register_fields, place_fields, slot_fields, live_fields, block_fields, is_call_node as may_be_call_node, is_call_number as may_be_call_number, is_heap_slot as may_be_heap_slot, is_start as may_be_start, is_size as may_be_size};
+ghost use Rattle.thread_text.specs.Grammar.{read_text, read_head, thread_fields, duty_fields, register_fields, place_fields, slot_fields, live_fields, block_fields, is_call_node as may_be_call_node, is_call_number as may_be_call_number, is_heap_slot as may_be_heap_slot, is_start as may_be_start, is_size as may_be_size};
 ghost use Rattle.thread_text.specs.Reading.{GoesOn, block_at, blocks_at};
 ghost use Rattle.thread_text.specs.Opened.{who_numbers, place_numbers, live_at, slots_at, opened_numbers, reading_of, IsOpen};
 ghost use Rattle.thread_text.specs.Numbers.{call_numbers, duty_numbers, block_numbers};
@@ -75,6 +75,24 @@ pub fn open_text(bytes: &[u8]) -> Result<Opened, u64>
     }
     if end < bytes.len() {
         return Err(end as u64);
+    }
+    Ok(opened)
+}
+
+/// What a head has, beside which so many blocks stand, or the place at which it is refused. It takes no memory.
+#[tactic(auto, using(crate::proofs::Steps::finished))]
+pub fn open_head(bytes: &[u8], blocks: usize) -> Result<Opened, u64>
+    ensures reading { MatchResult result (λ o. read_head bytes.now blocks ≡ Ok (reading_of bytes.now o)) (λ offset. read_head bytes.now blocks ≡ Err offset) }
+    ensures rules { IfOk result (IsOpen bytes.now) }
+    ensures whole { IfOk result (λ o. (slots_at o ≡ length bytes.now) × (length o.slots + 1 ≡ blocks)) }
+{
+    let opened = open(bytes)?;
+    let behind = opened.slots_at();
+    if behind < bytes.len() {
+        return Err(behind as u64);
+    }
+    if blocks != opened.place.heap as usize + 1 {
+        return Err(behind as u64);
     }
     Ok(opened)
 }

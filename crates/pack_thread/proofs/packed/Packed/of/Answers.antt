@@ -1,11 +1,9 @@
-use Rattle.std.proofs.Common.{ap, ◌∙◌}
-use Rattle.pack_thread.specs.Packed.{thread_in}
 use Rattle.pack_thread.specs.Threads.{thread_of}
-use Rattle.pack_thread.proofs.TextThreads.{thread_again, text_again}
+use Rattle.pack_thread.proofs.TextThreads.{moving_thread, moving_again}
 use Rattle.pack_thread.proofs.packed.Packed.of.Goals as goal
 
 pub invariant_of-result : goal.invariant_of-result
-invariant_of-result c = text_again c.in_ok-bytes.bytes.items (thread_of c.args.b.now) (record { rules = c.requires; typed = c.in_ok-bytes.ensures.typed; text = c.in_ok-bytes.ensures.text })
+invariant_of-result c = moving_again c.in-Ok.moving (thread_of c.args.b) c.in-Ok.ensures.moving
 
-pub returns : goal.returns
-returns c = ap thread_in c.in_ok-bytes.ensures.text ∙ thread_again (thread_of c.args.b.now) c.requires c.in_ok-bytes.ensures.typed
+pub returns-in-Ok-clause-thread : goal.returns-in-Ok-clause-thread
+returns-in-Ok-clause-thread c = moving_thread c.in-Ok.moving (thread_of c.args.b) c.in-Ok.ensures.moving

@@ -1,6 +1,6 @@
 use Rattle.std.proofs.Common.{◌∙◌}
 use Rattle.pack_thread.proofs.Building.{blocks_none, blocks_more}
-use Rattle.pack_thread.proofs.unpacking.blocks_of.Goals as goal
+use Rattle.pack_thread.proofs.opened.live_at.Goals as goal
 
 pub loop-k-init : goal.loop-k-init
 loop-k-init c = c.in_ok-reserve.ensures.items ∙ c.new-live.ensures.items ∙ blocks_none c.args.bytes.now c.args.at
