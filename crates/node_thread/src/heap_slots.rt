@@ -1,10 +1,11 @@
 //! Slots of a thread's memory, as they come and go.
 
-ghost use Rattle.std.specs.Prelude.{◌≡◌, ◌+◌, ◌≤◌, ℕ, true, false};
+ghost use Rattle.std.specs.Prelude.{◌≡◌, ◌+◌, ◌≤◌, ℕ, true, false, min, length};
 ghost use Rattle.slot_space.specs.Limits.{slot_limit};
 ghost use Rattle.slot_space.specs.Sets.{has, run};
 ghost use Rattle.rv_step.specs.Memory.{slots_of};
 ghost use Rattle.run_trace.specs.Guests.{with_zero_slots, without_slots};
+ghost use Rattle.node_thread.specs.Limits.{spare_limit};
 
 use crate::blocks::spare_block;
 use raw_slots::Pool;
@@ -29,8 +30,11 @@ pub(crate) fn take_run(pool: &mut Pool, mem: &mut GuestMem, first: u16, count: u
 /// These slots are held no more, and their blocks are spare.
 pub(crate) fn give_slots(pool: &mut Pool, mem: &mut GuestMem, slots: &SlotSet)
     requires held { (s : ℕ) → has s slots.now ≡ true → has s (slots_of mem.old.0) ≡ true }
-    ensures { mem.new.0 ≡ without_slots slots.now mem.old.0 }
+    ensures slots { mem.new.0 ≡ without_slots slots.now mem.old.0 }
+    ensures spare { min (pool.new + length mem.new.0) spare_limit ≡ min (pool.old + length mem.old.0) spare_limit }
 {
+    // The count is one of 32 bits.
+    let _spare = pool.spare();
     // Its slots are below the limit.
     let _first = slots.next_from(0);
     for n in 0..SLOT_LIMIT {

@@ -330,7 +330,8 @@ impl Thread {
     /// Its block at the address is gone, and so are the slots that no other block meets; it waits no more.
     pub fn free(&mut self, pool: &mut Pool, address: u64)
         requires { starts_at self.old.guest.solo.live address ≡ true }
-        ensures { self.new ≡ waits wait_of.No (without_block address (gives_slots (emptied (heap_of self.old.guest.solo) address) self.old.guest)) }
+        ensures thread { self.new ≡ waits wait_of.No (without_block address (gives_slots (emptied (heap_of self.old.guest.solo) address) self.old.guest)) }
+        ensures spare { min (pool.new + length (guest_slots self.new.guest)) spare_limit ≡ min (pool.old + length (guest_slots self.old.guest)) spare_limit }
     {
         let Some(slots) = self.blocks.free(address) else {
             return;

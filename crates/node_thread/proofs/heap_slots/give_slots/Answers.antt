@@ -1,4 +1,5 @@
 use Rattle.std.proofs.Common.{◌≡◌, true, arith, sym, ◌∙◌}
+use Rattle.std.proofs.lemmas.Grind.{common_steps}
 use Rattle.slot_space.specs.Sets.{has}
 use Rattle.run_trace.proofs.Lemmas.{some_held}
 use Rattle.node_thread.proofs.RunsTaken.{all_gone, given_same, given_gone, given_held}
@@ -19,9 +20,10 @@ loop-n-preserved c =
       same = given_same slots c.loop-n.mem.0 c.give_back-block.new.self.0 _ n c.give_back-block.result inside (some_held c.loop-n.mem.0 n (inv.held n (omega arith) inside)) c.give_back-block.ensures.slots inv.same;
       gone = given_gone slots c.loop-n.mem.0 c.give_back-block.new.self.0 n c.give_back-block.ensures.gone c.give_back-block.ensures.others inv.gone;
       held = given_held slots c.loop-n.mem.0 c.give_back-block.new.self.0 n c.give_back-block.ensures.others inv.held;
+      spare = let some = some_held c.loop-n.mem.0 n (inv.held n (omega arith) inside) in (grind (arith, common_steps, some, inv.spare, c.give_back-block.ensures.slots), grind (arith, common_steps));
     }
 
-pub returns : goal.returns
-returns c =
+pub returns-clause-slots : goal.returns-clause-slots
+returns-clause-slots c =
     let inv = c.loop-n.invariant in
     sym (all_gone c.args.slots.now c.loop-n.mem.0 (λ s h. let low = c.next_from-first.ensures.proper.small s h in inv.gone s (omega (arith, low, c.loop-n-test.false)) h)) ∙ inv.same

@@ -20,5 +20,5 @@ invariant_of-self-2 c =
     let own : IsOwn c.self.inside.stack new c.remove_all.new.self c.free.new.self =
     subst (λ (xs : List ℕ). IsOwn c.self.inside.stack new xs c.free.new.self) (sym (c.remove_all.ensures ∙ ap (minus c.self.inside.slots) given))
     (subst (λ (b : Heap). IsOwn c.self.inside.stack new (minus c.self.inside.slots (emptied c.self.inside.blocks c.args.address)) b) (sym c.in-Some.ensures.some)
-    (frees_own c.self.inside.stack c.args.address c.self.inside.hart new c.self.inside.slots c.self.inside.blocks c.self.invariant.0 (c.give_slots.ensures ∙ ap (λ xs. without_slots xs c.self.inside.hart.mem.0) given))) in
+    (frees_own c.self.inside.stack c.args.address c.self.inside.hart new c.self.inside.slots c.self.inside.blocks c.self.invariant.0 (c.give_slots.ensures.slots ∙ ap (λ xs. without_slots xs c.self.inside.hart.mem.0) given))) in
     (own, still new c.self.inside.hart c.self.inside.priority refl refl c.self.invariant.1)
