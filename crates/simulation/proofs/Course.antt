@@ -1,6 +1,6 @@
 -- What all runs have in common, whatever their acts are: lines that come, a step more, an end, and what is handed out.
 use Rattle.std.proofs.Common.{◌≡◌, ℕ, suc, ◌+◌, ◌-◌, ◌^◌, ◌<◌, ◌≤◌, List, [], ◌∷◌, ◌++◌, length, take, drop, reverse, Option, Some, None, refl, sym, ap, ◌∙◌, subst, arith, inl, inr}
-use Rattle.std.specs.Prelude.{◌⊎◌, option_map}
+use Rattle.std.specs.Prelude.{◌≢◌, ◌⊎◌, option_map}
 use Rattle.std.proofs.lemmas.List.{length-append, append_assoc, append-nil, reverse-reverse}
 use Rattle.std.proofs.Math.Seq.{drop-append_seam, take-append_seam, take-append-add}
 use Rattle.outside.specs.Outside.{Appends, AppendsPrefix}
@@ -245,3 +245,11 @@ module _ (R : Program → List Entry → RunEnd → Type 0) (p : Program) (old n
       by : HandsOut r.entries (wires_of new) end s → end ≡ ends.WriteFault
       by (inl h) = sym h.0 ∙ e
       by (inr none) = absurd (let bad : ends.WriteFault ≡ ends.NoMemory = sym e ∙ none.1 in cc)
+
+  -- and where there is a trace, another end is the run's own
+  pub uncounted_out : s.trace ≢ [] → s.end ≢ ends.WriteFault → end ≢ ends.WriteFault
+  uncounted_out some other e = by out
+    where
+      by : HandsOut r.entries (wires_of new) end s → ⊥
+      by (inl h) = other (h.0 ∙ e)
+      by (inr none) = some none.0

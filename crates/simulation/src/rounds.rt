@@ -1,6 +1,6 @@
 //! Runs of all nodes side by side.
 
-ghost use Rattle.std.specs.Prelude.{◌≡◌, ◌<◌, ◌≤◌, [], IfOk, length};
+ghost use Rattle.std.specs.Prelude.{◌≡◌, ◌≢◌, ◌<◌, ◌≤◌, [], IfOk, OnErr, length};
 ghost use Rattle.outside.specs.Outside.{Rose};
 ghost use Rattle.run_trace.specs.Legality.{boot_entries};
 ghost use Rattle.run_trace.specs.Program.{nodes_of, quantum_limit};
@@ -43,6 +43,7 @@ pub fn run_in_rounds<R: Threads + Sync, K: Sink, G: Gate>(
     ensures shown { Shows (program setup.now image) (K.written out.old) (K.written out.new) result }
     ensures carried { CarriesAt (program setup.now image) wires result }
     ensures failed { result.end ≡ RunEnd.WriteFault → Rose (K.faults out.old) (K.faults out.new) }
+    ensures uncounted { result.trace ≢ [] → result.end ≢ RunEnd.WriteFault → K.faults out.new ≡ K.faults out.old }
     ensures later { K.faults out.old ≤ K.faults out.new }
 {
     let mut cluster = match Cluster::boot(alloc, setup, image, wires) {
@@ -69,6 +70,8 @@ fn do_rounds<R: Threads + Sync, K: Sink, G: Gate>(
     requires turns { (0 < turns) × (turns ≤ 1000000) }
     ensures ran { IfOk result (λ end. HasGone turns cluster.old cluster.new (K.written out.old) (K.written out.new) end) }
     ensures failed { IfOk result (λ end. end ≡ RunEnd.WriteFault → Rose (K.faults out.old) (K.faults out.new)) }
+    ensures uncounted { IfOk result (λ end. end ≢ RunEnd.WriteFault → K.faults out.new ≡ K.faults out.old) }
+    ensures uncounted_memory { OnErr result (K.faults out.new ≡ K.faults out.old) }
     ensures later { K.faults out.old ≤ K.faults out.new }
 {
     for done in 0..turns {

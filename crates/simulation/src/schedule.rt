@@ -1,6 +1,6 @@
 //! Runs by a schedule.
 
-ghost use Rattle.std.specs.Prelude.{◌≡◌, ◌<◌, ◌≤◌, [], length};
+ghost use Rattle.std.specs.Prelude.{◌≡◌, ◌≢◌, ◌<◌, ◌≤◌, [], length};
 ghost use Rattle.outside.specs.Outside.{Rose};
 ghost use Rattle.run_trace.specs.Legality.{boot_entries};
 ghost use Rattle.run_trace.specs.Program.{nodes_of, quantum_limit};
@@ -43,6 +43,7 @@ pub fn replay<K: Sink>(
     ensures shown { Shows (program setup.now image) (K.written out.old) (K.written out.new) result }
     ensures carried { CarriesAt (program setup.now image) wires result }
     ensures failed { result.end ≡ RunEnd.WriteFault → Rose (K.faults out.old) (K.faults out.new) }
+    ensures uncounted { result.trace ≢ [] → result.end ≢ RunEnd.WriteFault → K.faults out.new ≡ K.faults out.old }
     ensures later { K.faults out.old ≤ K.faults out.new }
 {
     let mut cluster = match Cluster::boot(alloc, setup, image, wires) {
@@ -61,6 +62,7 @@ fn do_acts<K: Sink>(cluster: &mut Cluster, schedule: &[Scheduled], out: &mut K) 
     requires range { AreInRange cluster.old.program schedule.now }
     ensures ran { HasReplayed schedule.now cluster.old cluster.new (K.written out.old) (K.written out.new) result }
     ensures failed { result ≡ RunEnd.WriteFault → Rose (K.faults out.old) (K.faults out.new) }
+    ensures uncounted { result ≢ RunEnd.WriteFault → K.faults out.new ≡ K.faults out.old }
     ensures later { K.faults out.old ≤ K.faults out.new }
 {
     for next in schedule {

@@ -90,6 +90,7 @@ pub fn simulate<K: Sink>(
     ensures shown { Shows (program setup.now image) (K.written out.old) (K.written out.new) result }
     ensures carried { CarriesAt (program setup.now image) wires result }
     ensures failed { result.end ≡ RunEnd.WriteFault → Rose (K.faults out.old) (K.faults out.new) }
+    ensures uncounted { result.trace ≢ [] → result.end ≢ RunEnd.WriteFault → K.faults out.new ≡ K.faults out.old }
     ensures later { K.faults out.old ≤ K.faults out.new }
 {
     let mut cluster = match Cluster::boot(alloc, setup, image, wires) {
@@ -129,6 +130,7 @@ fn run<K: Sink>(cluster: &mut Cluster, turns: u64, seed: u64, moves: bool, out: 
     requires turns { (0 < turns) × (turns ≤ 1000000) }
     ensures ran { HasRun moves turns seed cluster.old cluster.new (K.written out.old) (K.written out.new) result }
     ensures failed { result ≡ RunEnd.WriteFault → Rose (K.faults out.old) (K.faults out.new) }
+    ensures uncounted { result ≢ RunEnd.WriteFault → K.faults out.new ≡ K.faults out.old }
     ensures later { K.faults out.old ≤ K.faults out.new }
 {
     let mut words = generator(seed);
@@ -185,6 +187,8 @@ pub(crate) fn show<K: Sink>(
     ensures ok { OnOk result (Appends (K.written out.old) (drop shown (console_in cluster.now)) (K.written out.new)) }
     ensures err { OnErr result (AppendsPrefix (K.written out.old) (drop shown (console_in cluster.now)) (K.written out.new)) }
     ensures failed { IsErrOf result WriteRefusal.Failed → Rose (K.faults out.old) (K.faults out.new) }
+    ensures uncounted { OnOk result (K.faults out.new ≡ K.faults out.old) }
+    ensures uncounted_memory { IsErrOf result WriteRefusal.NoMemory → K.faults out.new ≡ K.faults out.old }
     ensures later { K.faults out.old ≤ K.faults out.new }
 {
     write_piece(out, &cluster.console()[shown..])

@@ -1,4 +1,4 @@
-use Rattle.std.proofs.Common.{ℕ, List, [], drop, length, subst, arith}
+use Rattle.std.proofs.Common.{ℕ, List, [], drop, length, subst, arith, refl, ◌∙◌}
 use Rattle.outside.specs.Outside.{Appends, AppendsPrefix}
 use Rattle.cluster.specs.View.{console_in}
 use Rattle.simulation.proofs.Rounding.{begins_rounds, trace_in, room_for, come_now, goes_further, refused_in, is_done_in, is_stalled_in, is_out_of_turns}
@@ -7,6 +7,7 @@ use Rattle.simulation.proofs.rounds.do_rounds.Goals as goal
 pub loop-done-init : goal.loop-done-init
 loop-done-init g c = record {
   underway = begins_rounds c.args.turns c.args.cluster.now (g.K.Sink.written c.args.out.now) c.requires.begun c.requires.first.0 c.requires.first.1 c.requires.turns.0;
+  uncounted = refl;
   later = omega arith;
 }
 
@@ -59,5 +60,6 @@ loop-done-preserved g c =
           (subst (λ (xs : List ℕ). Appends (g.K.Sink.written c.loop-done.out) (drop (length xs) (console_in c.round_threads.new.self)) (g.K.Sink.written c.show.new.out)) c.console-shown.ensures.value c.in-Ok.ensures.ok)
           (c.in-Going.ensures [] _ (come_now _ _ _ _ _ _ u c.requires.turns.1 c2 d).stands)
           c.turns.ensures.value (omega (arith, c.if-turns.false));
+      uncounted = c.in-Ok.ensures.uncounted ∙ c.loop-done.invariant.uncounted;
       later = omega (arith, c.loop-done.invariant.later, c.show.ensures.later);
     }

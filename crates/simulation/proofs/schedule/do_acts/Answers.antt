@@ -1,4 +1,4 @@
-use Rattle.std.proofs.Common.{◌≡◌, ℕ, ◌<◌, ◌-◌, ◌^◌, List, [], drop, length, subst, refl, sym, arith}
+use Rattle.std.proofs.Common.{◌≡◌, ℕ, ◌<◌, ◌-◌, ◌^◌, List, [], drop, length, subst, refl, sym, arith, ◌∙◌}
 use Rattle.outside.specs.Outside.{Appends, AppendsPrefix}
 use Rattle.run_trace.specs.Program.{nodes_of}
 use Rattle.node_loop.specs.Turns.{IsActInRange}
@@ -14,6 +14,7 @@ use Rattle.simulation.proofs.schedule.do_acts.Goals as goal
 pub loop-next-init : goal.loop-next-init
 loop-next-init g c = record {
   underway = begins_by c.args.schedule.now c.args.cluster.now (g.K.Sink.written c.args.out.now) c.requires.begun c.requires.first.0 c.requires.first.1;
+  uncounted = refl;
   later = omega arith;
 }
 
@@ -69,6 +70,7 @@ loop-next-preserved g c =
     record {
       underway = goes_on_by _ _ _ _ _ _ u s c.step.new.self (item_at _ _ s c.loop-next-test.true c.next-item.is) d below (g.K.Sink.written c.show.new.out)
           (subst (λ (xs : List ℕ). Appends (g.K.Sink.written c.loop-next.out) (drop (length xs) (console_in c.step.new.self)) (g.K.Sink.written c.show.new.out)) c.console-shown.ensures.value c.in-Ok.ensures.ok);
+      uncounted = c.in-Ok.ensures.uncounted ∙ c.loop-next.invariant.uncounted;
       later = omega (arith, c.loop-next.invariant.later, c.show.ensures.later);
     }
 

@@ -1,4 +1,4 @@
-use Rattle.std.proofs.Common.{ℕ, List, [], drop, length, ap, subst, arith, ◌∷◌, ◌<◌, ◌^◌, ◌-◌}
+use Rattle.std.proofs.Common.{ℕ, List, [], drop, length, ap, subst, arith, ◌∷◌, ◌<◌, ◌^◌, ◌-◌, refl, ◌∙◌}
 use Rattle.outside.specs.Outside.{Appends, AppendsPrefix}
 use Rattle.rand_pcg.specs.Lcg.{Lcg}
 use Rattle.cluster.specs.View.{console_in}
@@ -9,6 +9,7 @@ use Rattle.simulation.proofs.simulation.run.Goals as goal
 pub loop-done-init : goal.loop-done-init
 loop-done-init g c = record {
   underway = begins c.args.moves c.args.seed c.args.cluster.now c.generator-words.result (g.K.Sink.written c.args.out.now) c.requires.begun c.requires.first.0 c.requires.first.1 c.generator-words.ensures;
+  uncounted = refl;
   later = omega arith;
 }
 
@@ -70,6 +71,7 @@ loop-done-preserved g c =
       underway = goes_on _ _ _ _ _ _ _ _ u c.next_word.result c.draw.new.cluster
           d word below c.next_word.new.self (g.K.Sink.written c.show.new.out) next
           (subst (λ (xs : List ℕ). Appends (g.K.Sink.written l.out) (drop (length xs) (console_in c.draw.new.cluster)) (g.K.Sink.written c.show.new.out)) c.console-shown.ensures.value c.in-Ok-show.ensures.ok) (c.in-Going.ensures [] (d.adds.entry ∷ trace_of u) d.adds.stands);
+      uncounted = c.in-Ok-show.ensures.uncounted ∙ l.invariant.uncounted;
       later = omega (arith, l.invariant.later, c.in-Ok-show.ensures.later);
     }
 
