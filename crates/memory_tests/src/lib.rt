@@ -4,6 +4,8 @@
 #[cfg(test)]
 mod blocks;
 #[cfg(test)]
+mod drawn;
+#[cfg(test)]
 mod moves;
 #[cfg(test)]
 mod texts;

@@ -1,7 +1,7 @@
 //! Texts of packed threads, by the table of their fields.
 
 use lrpc::{CallNo, Duty};
-use pack_thread::{Baggage, UnpackError, pack, unpack};
+use pack_thread::{Baggage, UnpackError, check_packed, pack, unpack};
 use raw_slots::Pool;
 use slot_space::{NodeNo, SLOT_SIZE, SlotNo, SlotSet, Tid};
 use std::alloc::Global;
@@ -57,7 +57,7 @@ pub(crate) fn whole_text(alloc: Global) -> Result<Vec<u8>, Fail> {
 }
 
 /// A text with the stack slot alone.
-fn small_text(alloc: Global) -> Result<Vec<u8>, Fail> {
+pub(crate) fn small_text(alloc: Global) -> Result<Vec<u8>, Fail> {
     let mut text = front(alloc)?;
     text.extend_from_slice(&[0x10, 0, 1, 0, 0, 0, 0, 0, 6, 0, 0, 0, 0, 0, 0, 0])?;
     for place in 0..SLOT_SIZE as u32 {
@@ -79,10 +79,10 @@ fn patched(alloc: Global, text: &[u8], at: usize, new: &[u8]) -> Result<Vec<u8>,
     Ok(other)
 }
 
-/// Where the text is refused; none where it isn't refused as no thread.
+/// Where the text is refused, with and without memory; none where it isn't refused as no thread, or at two places.
 fn refused_at(alloc: Global, text: &[u8], pool: &mut Pool) -> Option<u64> {
     match unpack(alloc, text, pool) {
-        Err(UnpackError::BadImage { offset }) => Some(offset),
+        Err(UnpackError::BadImage { offset }) if check_packed(text) == Some(offset) => Some(offset),
         _ => None,
     }
 }
@@ -147,7 +147,8 @@ fn gives_its_thread(alloc: Global, text: &[u8]) -> Result<bool, UnpackError> {
     let thread = unpack(alloc, text, &mut pool)?;
     let again = pack(alloc, &thread)?;
     Ok(
-        again.as_slice() == text
+        check_packed(text).is_none()
+            && again.as_slice() == text
             && has_its_name(&thread)
             && has_its_place(&thread)
             && has_its_bytes(&thread),

@@ -22,4 +22,4 @@ pub use packed::Packed;
 pub use packing::pack;
 pub use rejoining::rejoin;
 pub use splitting::split;
-pub use unpacking::unpack;
+pub use unpacking::{check_packed, unpack};

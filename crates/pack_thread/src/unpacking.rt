@@ -1,6 +1,6 @@
 //! A thread from its text.
 
-ghost use Rattle.std.specs.Prelude.{◌≡◌, ℕ, ◌+◌, ◌*◌, ◌<◌, ◌≤◌, max, OnOk, OnErr, Err, IfOk, ◌↔◌, length, drop, slice_index};
+ghost use Rattle.std.specs.Prelude.{◌≡◌, ℕ, ◌+◌, ◌*◌, ◌<◌, ◌≤◌, max, OnOk, OnErr, Err, IfOk, IsOk, ◌↔◌, length, drop, slice_index};
 ghost use Rattle.slot_space.specs.Limits.{slot_limit, slot_size};
 ghost use Rattle.slot_space.specs.Sets.{insert, IsAscending};
 ghost use Rattle.rv_step.specs.Memory.{slots_of};
@@ -19,6 +19,17 @@ use slot_space::{SLOT_SIZE, SlotNo};
 use std::alloc::Global;
 use thread_text::{Opened, open_text};
 
+/// Where bytes are refused as no packed thread's text; none where they are one. It takes no memory.
+pub fn check_packed(bytes: &[u8]) -> Option<u64>
+    ensures refused { (offset : ℕ) → (result ≡ Some offset) ↔ (read_text bytes.now ≡ Err offset) }
+    ensures good { (result ≡ None) ↔ IsOk (read_text bytes.now) }
+{
+    match open_text(bytes) {
+        Ok(_) => None,
+        Err(offset) => Some(offset),
+    }
+}
+
 /// The thread of a text. Its slots' blocks are taken from the pool; where no thread is given, the pool has at least what
 /// it had.
 pub fn unpack(alloc: Global, bytes: &[u8], pool: &mut Pool) -> Result<Baggage, UnpackError>
@@ -31,9 +42,12 @@ pub fn unpack(alloc: Global, bytes: &[u8], pool: &mut Pool) -> Result<Baggage, U
     ensures taken { IfOk result (λ b. pool.new + (length b.blocks.slots + 1) ≡ max pool.old (length b.blocks.slots + 1)) }
     ensures kept { OnErr result (pool.old ≤ pool.new) }
 {
+    if let Some(offset) = check_packed(bytes) {
+        return Err(UnpackError::BadImage { offset });
+    }
     let opened = match open_text(bytes) {
         Ok(opened) => opened,
-        Err(offset) => return Err(UnpackError::BadImage { offset }),
+        Err(_) => unreachable!(),
     };
     let thread = build(alloc, bytes, opened, pool)?;
     Ok(thread)

@@ -1,4 +1,4 @@
-use Rattle.std.proofs.Common.{◌≡◌, length, Ok, Err, ap, sym, ◌∙◌, ◌+◌, arith}
+use Rattle.std.proofs.Common.{◌≡◌, length, Ok, Err, refl, ap, sym, ◌∙◌, ◌+◌, arith}
 use Rattle.thread_text.specs.Grammar.{read_text}
 use Rattle.thread_text.specs.Opened.{slots_at, opened_numbers}
 use Rattle.pack_thread.specs.Threads.{thread_of, IsTextOf}
@@ -12,9 +12,17 @@ whole c =
     found c.args.bytes.now (opened_numbers c.args.bytes.now o) (slots_at o) (length o.slots + 1) (thread_of c.in_ok-thread.thread) (λ i. omega (arith, c.type_inv.bytes i))
     c.in-Ok.ensures.reading e.numbers e.regs e.holds e.memory
 
-pub returns-in-Err-clause-again : goal.returns-in-Err-clause-again
-returns-in-Err-clause-again c = λ t rules typed text.
-    let refused : read_text c.args.bytes.now ≡ Err c.in-Err.offset = c.in-Err.ensures.reading in
+refused_there : (c : goal.In-Some) → read_text c.args.bytes.now ≡ Err c.in-Some.offset
+refused_there c = (c.in-Some.ensures.refused c.in-Some.offset).0 refl
+
+pub returns-in-Some-clause-refused : goal.returns-in-Some-clause-refused
+returns-in-Some-clause-refused c =
+    let there = refused_there c in
+    λ offset. (λ same. cc (there, same), λ read. cc (there, read))
+
+pub returns-in-Some-clause-again : goal.returns-in-Some-clause-again
+returns-in-Some-clause-again c = λ t rules typed text.
+    let refused = refused_there c in
     let good : read_text c.args.bytes.now ≡ Ok (reading t) = ap read_text text ∙ text_read t rules typed in
     cc
 
