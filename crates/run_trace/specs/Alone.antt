@@ -4,7 +4,7 @@ use Rattle.std.specs.Prelude.{◌≡◌, List, [], ◌∷◌, Option, Some, None
 use Rattle.slot_space.specs.declared.names.Tid.{Tid}
 use Rattle.run_trace.specs.declared.entry.Entry.{Entry}
 use Rattle.run_trace.specs.declared.label.Label.{Label}
-use Rattle.run_trace.specs.declared.label.Label.TheVariants.{Born, Ran, Asked, Judged, Told, Took, Gave}
+use Rattle.run_trace.specs.declared.label.Label.TheVariants.{Born, Ran, Asked, Judged, Told, Took, Gave, Decided}
 use Rattle.run_trace.specs.Names.{is_tid}
 use Rattle.run_trace.specs.Program.{Program, code_of}
 use Rattle.slot_space.specs.Sets.{run}
@@ -16,12 +16,13 @@ use Rattle.run_trace.specs.Calls.{call_of, refusal}
 use Rattle.run_trace.specs.Guests.{Solo, Guest, newborn, with_bytes, with_zero_slots, without_slots, heap_of}
 use Rattle.run_trace.specs.Cluster.{Net}
 use Rattle.run_trace.specs.Holding.{Location, IsAt}
-use Rattle.run_trace.specs.Spots.{Remote, remote_after, stack_bytes, Response, no_response, stepped, told_state, Life, On, Served, Spot, unborn}
-use Rattle.run_trace.specs.Items.{Subject, Thread, subject}
+use Rattle.run_trace.specs.Spots.{Remote, remote_after, stack_bytes, Response, no_response, stepped, told_state, Life, On, Served, Seeks, Spot, unborn}
+use Rattle.run_trace.specs.Items.{Subject, Thread, Turns, subject}
 
 abbrev pub is_about : Tid → Option Subject → Bool
 is_about t None = false
 is_about t (Some (Thread u)) = is_tid u t
+is_about t (Some Turns) = false
 
 -- the bytes that the remote calls of each thread named in a trace, newest entry first
 abbrev pub remote_in : List Label → Remote → Remote
@@ -65,6 +66,7 @@ alone_then p remote t (Asked u call args bytes) a =
     record a { asked = unless_refused (refusal p t a.solo (call_of a.solo.state)) (heap_call (call_of a.solo.state)) }
 alone_then p remote t (Judged u reply extra) a =
     record { solo = answered a.asked a.solo; asked = None; reply = record { code = reply; extra = extra } }
+alone_then p remote t (Decided u count None) a = record a { asked = None }
 alone_then p remote t (Told u) a = record a { solo = record a.solo { state = told_state a.reply a.solo.state } }
 alone_then p remote t (Took u first count) a =
     record a { solo = record a.solo { state = record a.solo.state { memory = with_zero_slots (run first count) a.solo.state.memory } } }
@@ -77,12 +79,13 @@ abbrev pub alone_after : Program → Remote → Tid → List Label → Alone →
 alone_after p remote t [] a = a
 alone_after p remote t (l ∷ ls) a = alone_after p (remote_after l remote) t ls (if is_about t (subject l) then alone_then p remote t l a else a)
 
-abbrev pub asked_in : Life → Option Call
-asked_in (On n (Served c)) = heap_call c
-asked_in _ = None
+abbrev pub asked_in : Life → Solo → Option Call
+asked_in (On n (Served c)) x = heap_call c
+asked_in (On n Seeks) x = heap_call (call_of x.state)
+asked_in _ x = None
 
 abbrev pub alone_in : Spot → Alone
-alone_in s = record { solo = s.guest.solo; asked = asked_in s.life; reply = s.verdict }
+alone_in s = record { solo = s.guest.solo; asked = asked_in s.life s.guest.solo; reply = s.verdict }
 
 -- thread t by its labels in a trace, newest entry first
 abbrev pub alone_of : Program → Tid → List Entry → Alone

@@ -1,19 +1,22 @@
--- What an entry has still to do, in the midst of it, by what the labels tell.
-use Rattle.std.specs.Prelude.{ℕ, List, [], ◌∷◌, ◌++◌, Option, Some, None, Bool, false, ◌==◌, if◌then◌else◌}
+-- What an entry has sent and has still to do, in the midst of it, by what the labels tell.
+use Rattle.std.specs.Prelude.{ℕ, List, [], ◌∷◌, ◌++◌, Option, Some, None, is_some, Bool, true, false, ◌==◌, if◌then◌else◌}
 use Rattle.slot_space.specs.declared.names.Tid.{Tid}
 use Rattle.run_trace.specs.declared.entry.Act.{Act}
+use Rattle.run_trace.specs.declared.entry.Act.TheVariants.{Take}
 use Rattle.run_trace.specs.declared.label.Label.{Label}
-use Rattle.run_trace.specs.declared.label.Label.TheVariants.{Born, Ran, Asked, Heard, Judged, Told, Took, Gave, Ended, Known, Left, Came, Shown, Halted}
+use Rattle.run_trace.specs.declared.label.Label.TheVariants.{Born, Ran, Asked, Heard, Judged, Told, Took, Gave, Ended, Known, Left, Came, Decided, Shown, Halted}
 use Rattle.run_trace.specs.declared.label.Why.TheVariants as why
 use Rattle.run_trace.specs.declared.packet.Body.{Body}
-use Rattle.run_trace.specs.declared.packet.Body.TheVariants.{Mover, Show, ShowDone, JoinAsk, DetachAsk, SemAsk, Answer, EndNote}
+use Rattle.run_trace.specs.declared.packet.Body.TheVariants.{Mover, Show, ShowDone, JoinAsk, DetachAsk, SemAsk, Answer, EndNote, Want, Turn, Over}
 use Rattle.run_trace.specs.declared.packet.Packet.{Packet}
 use Rattle.run_trace.specs.declared.packet.Send.{Send}
 use Rattle.run_trace.specs.Names.{tid, is_tid}
 use Rattle.run_trace.specs.Program.{Program}
-use Rattle.run_trace.specs.Links.{taken_packet}
-use Rattle.run_trace.specs.Causes.{send_to, causes}
-use Rattle.run_trace.specs.Spots.{Running, Due, Served, Told_next, Told_then, Departs, Ends, Leaves, Halts, Showing, Answers, Life, On, Going, Spots, sets_going, after_label}
+use Rattle.run_trace.specs.Links.{first_of}
+use Rattle.run_trace.specs.Causes.{causes}
+use Rattle.run_trace.specs.Calls.{slots_wanted}
+use Rattle.run_trace.specs.Talks.{Talk, one_send, want_sends, claiming, with_claims, after_turn, again_sends, again, listing_sends, listing, turn_to, next_turn, without_first}
+use Rattle.run_trace.specs.Spots.{Running, Due, Served, Seeks, Told_next, Told_then, Departs, Ends, Leaves, Halts, Showing, Answers, Life, On, Going, Spots, sets_going, its_call, lowest_free, after_label, after_labels}
 
 -- ## Whom an entry is busy with
 
@@ -32,15 +35,25 @@ is_busy n (On m Showing) = 0 == n
 is_busy n (On m (Answers h reply second)) = h == n
 is_busy n _ = false
 
--- for whom an entry may have something to do
+-- what labels and packets are about
 pub data Subject : Type 0 where
   Thread : (t : Tid) → Subject
+  -- the turns to come to slots of other nodes
+  Turns : Subject
 
 abbrev pub same_subject : Subject → Subject → Bool
 same_subject (Thread t) (Thread u) = is_tid t u
+same_subject Turns Turns = true
+same_subject _ _ = false
 
 abbrev pub is_busy_with : ℕ → Subject → Spots → Bool
 is_busy_with n (Thread t) w = is_busy n (w.threads t).life
+is_busy_with n Turns w = false
+
+-- it seeks slots on node n
+abbrev pub is_seeking : ℕ → Life → Bool
+is_seeking n (On m Seeks) = m == n
+is_seeking n _ = false
 
 -- what a label is about
 abbrev pub subject : Label → Option Subject
@@ -56,12 +69,14 @@ subject (Ended t end) = Some (Thread t)
 subject (Known t) = Some (Thread t)
 subject (Left t to) = Some (Thread t)
 subject (Came t) = Some (Thread t)
+subject (Decided t count first) = Some (Thread t)
 subject (Shown t) = Some (Thread t)
 subject (Halted t) = Some (Thread t)
 subject _ = None
 
--- who does what the label says: at a birth the creator
+-- who does what the label says: at a birth the creator; a decision is its node's
 abbrev pub doer : Label → Option Subject
+doer (Decided t count first) = None
 doer (Born t why.Main entry a0 a1 sp slot) = None
 doer (Born t (why.Create by) entry a0 a1 sp slot) = Some (Thread by)
 doer l = subject l
@@ -81,38 +96,89 @@ goes_on_with p n l w = as_list (one_going (sets_going p n l w)) ++ as_list (doer
 -- ## What there is to do
 
 pub data Item : Type 0 where
-  -- to send this, and say nothing
-  Sends : (to : ℕ) (body : Body) → Item
   -- to say just this
   Says : (label : Label) → Item
   -- a run of this thread on this processor
   Runs : (t : Tid) (vp : ℕ) → Item
   -- what comes next for this one
   Does : (s : Subject) → Item
+  -- to give this thread, which seeks slots, a run of the node's own; where there is none, it claims one
+  Serves : (t : Tid) → Item
+  -- the node has the turn: to serve its claims from the front, while it has slots for the first
+  Grants : Item
+  -- to decide about the claim of this thread
+  Decides : (t : Tid) → Item
+  -- to end the turn, and to want another one where claims are left
+  Ends_turn : Item
+  Wants_again : Item
 
--- what is sent before anything is said, and what is to be done then
-abbrev pub sends_first : List Item → List Send
-sends_first (Sends to body ∷ is) = send_to to body ++ sends_first is
-sends_first _ = []
+-- what an entry has sent, what it has still to do, the next first, and what its node keeps of the negotiation by then
+pub record Progress : Type 0 where
+  pub sends : List Send
+  pub to_do : List Item
+  pub talk : Talk
 
-abbrev pub past_sends : List Item → List Item
-past_sends [] = []
-past_sends (Sends to body ∷ is) = past_sends is
-past_sends (i ∷ is) = i ∷ is
+abbrev pub has_to : List Item → Talk → Progress
+has_to to_do talk = record { sends = []; to_do = to_do; talk = talk }
+
+-- ## What is done without a word
+
+-- there is a run of the node's slots for the thread
+abbrev pub has_slots : ℕ → Tid → Spots → Bool
+has_slots n t w = is_some (lowest_free n (slots_wanted (its_call t w)) w)
+
+-- the first claim is served, or decided; where none is left, the turn is over
+abbrev pub grants_first : ℕ → Spots → List Item → List Tid → Progress → Progress → Progress
+grants_first n w is [] r over = over
+grants_first n w is (t ∷ ts) r over = record r {
+  to_do = if has_slots n t w then Serves t ∷ Grants ∷ is else Decides t ∷ Ends_turn ∷ Wants_again ∷ is;
+  talk = with_claims ts r.talk;
+}
+
+-- the items at the front that say nothing are worked off
+abbrev pub works_off : ℕ → Spots → List Item → List Send → Talk → Progress
+works_off n w (Serves t ∷ is) sends talk =
+    if has_slots n t w then (record { sends = sends; to_do = Serves t ∷ is; talk = talk })
+    else works_off n w is (sends ++ want_sends talk) (claiming t talk)
+works_off n w (Grants ∷ is) sends talk =
+    grants_first n w is talk.claims (record { sends = sends; to_do = []; talk = talk })
+    (works_off n w is (sends ++ one_send 0 Over) (after_turn talk))
+works_off n w (Ends_turn ∷ is) sends talk = works_off n w is (sends ++ one_send 0 Over) (after_turn talk)
+works_off n w (Wants_again ∷ is) sends talk = works_off n w is (sends ++ again_sends talk.claims talk) (again talk.claims talk)
+works_off n w is sends talk = record { sends = sends; to_do = is; talk = talk }
+
+abbrev pub worked_off : ℕ → Spots → Progress → Progress
+worked_off n w r = works_off n w r.to_do r.sends r.talk
+
+-- ## After a label
 
 abbrev pub all_but_first : List Item → List Item
 all_but_first [] = []
 all_but_first (i ∷ is) = is
 
-abbrev pub busy_among : ℕ → List Subject → Spots → List Item
-busy_among n [] w = []
-busy_among n (s ∷ ss) w = if is_busy_with n s w then Does s ∷ busy_among n ss w else busy_among n ss w
+-- what there is to do for a thread in this life
+abbrev pub items_in : ℕ → Tid → Life → List Item
+items_in n t life = if is_busy n life then Does (Thread t) ∷ [] else if is_seeking n life then Serves t ∷ [] else []
+
+abbrev pub items_for : ℕ → List Subject → Spots → List Item
+items_for n [] w = []
+items_for n (Thread t ∷ ss) w = items_in n t (w.threads t).life ++ items_for n ss w
+items_for n (Turns ∷ ss) w = items_for n ss w
 
 -- what there is to do after a label, the next first
 abbrev pub to_do_after : Program → ℕ → Label → Spots → List Item → List Item
-to_do_after p n l w to_do = busy_among n (goes_on_with p n l w) (after_label p n l w) ++ all_but_first to_do
+to_do_after p n l w to_do = items_for n (goes_on_with p n l w) (after_label p n l w) ++ all_but_first to_do
 
--- ## How an act begins, where it takes a packet, and all that it sends
+-- the label is said, and what it causes is sent
+abbrev pub said : Program → ℕ → Label → Spots → Progress → Progress
+said p n l w r = record { sends = r.sends ++ causes p n l w; to_do = to_do_after p n l w r.to_do; talk = r.talk }
+
+-- after each of these labels, with what is done without a word before each; what is done after the last isn't done yet
+abbrev pub said_all : Program → ℕ → List Label → Spots → Progress → Progress
+said_all p n [] w r = r
+said_all p n (l ∷ ls) w r = said_all p n ls (after_label p n l w) (said p n l w (worked_off n w r))
+
+-- ## How an act begins, where it takes a packet
 
 abbrev pub for_packet : ℕ → Body → List Item
 for_packet n (Mover x) = Says (Came x.tid) ∷ []
@@ -123,16 +189,33 @@ for_packet n (DetachAsk by seq) = Says (Heard by) ∷ []
 for_packet n (SemAsk by id up) = Says (Heard by) ∷ []
 for_packet n (Answer t reply second) = Says (Told t) ∷ []
 for_packet n (EndNote seq end) = Says (Known (tid n seq)) ∷ []
+for_packet n Want = []
+for_packet n Turn = Grants ∷ []
+for_packet n Over = []
 
--- what is to be done for the packet, if the act takes one
-abbrev pub for_taken : ℕ → Option Packet → List Item
-for_taken n None = []
-for_taken n (Some x) = for_packet n x.body
+-- what is sent for it at once, and what the node keeps of it
+abbrev pub packet_sends : ℕ → Body → Talk → List Send
+packet_sends from Want talk = listing_sends from talk.wanting
+packet_sends from Over talk = turn_to (without_first talk.wanting)
+packet_sends from _ talk = []
 
-abbrev pub taken_items : ℕ → Act → (ℕ → ℕ → List Packet) → List Item
-taken_items n act links = for_taken n (taken_packet n act links)
+abbrev pub packet_talk : ℕ → Body → Talk → Talk
+packet_talk from Want talk = listing from talk
+packet_talk from Over talk = next_turn talk
+packet_talk from _ talk = talk
 
-abbrev pub all_sent : Program → ℕ → List Label → Spots → List Item → List Send
-all_sent p n [] w to_do = sends_first to_do
-all_sent p n (l ∷ ls) w to_do =
-    sends_first to_do ++ (causes p n l w ++ all_sent p n ls (after_label p n l w) (to_do_after p n l w (past_sends to_do)))
+abbrev pub begins_with : (n from : ℕ) → Body → Talk → Progress
+begins_with n from body talk = record { sends = packet_sends from body talk; to_do = for_packet n body; talk = packet_talk from body talk }
+
+-- what an act begins with, where it takes a packet
+abbrev pub takes_packet : (n from : ℕ) → Option Packet → Talk → Progress
+takes_packet n from None talk = has_to [] talk
+takes_packet n from (Some x) talk = begins_with n from x.body talk
+
+abbrev pub taking : ℕ → Act → (ℕ → ℕ → List Packet) → Talk → Progress
+taking n (Take from) links talk = takes_packet n from (first_of (links from n)) talk
+taking n _ links talk = has_to [] talk
+
+-- all that an entry with these labels has sent, and what its node keeps then
+abbrev pub ended_with : Program → ℕ → Act → List Label → Spots → (ℕ → ℕ → List Packet) → Talk → Progress
+ended_with p n act ls w links talk = worked_off n (after_labels p n ls w) (said_all p n ls w (taking n act links talk))

@@ -55,6 +55,7 @@ pub record IsTold (p : Program) (w : World) (net : Net) : Type 0 where
   pub lists : (n : ℕ) → map listed (net.nodes n).run_lists.rows ≡ w.lists n
   pub links : (i j : ℕ) → net.links i j ≡ w.links i j
   pub begun : (n : ℕ) → (net.nodes n).booted ≡ w.begun n
+  pub talks : (n : ℕ) → (net.nodes n).talk ≡ w.talks n
 
 pub record Legal (p : Program) (trace : List Entry) : Type 0 where
   -- it is a trace

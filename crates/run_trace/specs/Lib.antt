@@ -3,6 +3,7 @@ pub mod Trees
 pub mod Program
 pub mod Guests
 pub mod Calls
+pub mod Talks
 pub mod RunLists
 pub mod Local
 pub mod Steps

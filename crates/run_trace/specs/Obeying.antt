@@ -5,7 +5,7 @@ use Rattle.run_trace.specs.declared.entry.Act.{Act}
 use Rattle.run_trace.specs.declared.entry.Act.TheVariants.{Boot, Run, Take, Move}
 use Rattle.run_trace.specs.declared.entry.Entry.{Entry}
 use Rattle.run_trace.specs.declared.label.Label.{Label}
-use Rattle.run_trace.specs.declared.label.Label.TheVariants.{Born, Ran, Left}
+use Rattle.run_trace.specs.declared.label.Label.TheVariants.{Born, Ran, Left, Decided}
 use Rattle.run_trace.specs.declared.label.Why.TheVariants as why
 use Rattle.run_trace.specs.declared.packet.Packet.{Packet}
 use Rattle.run_trace.specs.Names.{tid, is_tid}
@@ -13,10 +13,10 @@ use Rattle.run_trace.specs.Program.{Program, nodes_of, tree_of, processors_of, q
 use Rattle.run_trace.specs.Trees.{Tree, depth_of, covers}
 use Rattle.rv_step.specs.declared.hart.Stop.{Stop}
 use Rattle.run_trace.specs.Guests.{stack_end}
-use Rattle.run_trace.specs.Spots.{Spots}
-use Rattle.run_trace.specs.Rules.{SoloRule, HoldersRule, LifeRule, RepliesRule, GrantsRule, Occasion, saying, lowest_free}
+use Rattle.run_trace.specs.Spots.{Spots, lowest_free}
+use Rattle.run_trace.specs.Rules.{SoloRule, HoldersRule, LifeRule, RepliesRule, GrantsRule, Occasion, saying}
 use Rattle.run_trace.specs.World.{Listed, World, world_after}
-use Rattle.run_trace.specs.Items.{Runs, Sends, past_sends, for_packet, is_busy_with, doer, Item, Says, Does, to_do_after}
+use Rattle.run_trace.specs.Items.{Item, Says, Runs, Does, Serves, Decides, Progress, has_to, is_busy_with, is_seeking, Thread, doer, worked_off, said, begins_with}
 use Rattle.run_trace.specs.Links.{first_of, taken_packet}
 use Rattle.run_trace.specs.Telling.{world_of}
 
@@ -64,11 +64,12 @@ first_birth p n (Some slot) w = Says (Born (tid n (length (w.births n))) why.Mai
 
 -- node 0 begins with the main thread; the one that is picked runs; the first packet of the link is taken, which was sent before;
 -- a thread that is sent away is on the run list
-abbrev pub Starts : Program → (stamp n : ℕ) → Act → World → List Item → Type 0
-Starts p stamp n Boot w to_do = to_do ≡ (if n == 0 then first_birth p n (lowest_free n 1 w.spots) w.spots else [])
-Starts p stamp n (Run vp quantum) w to_do = (x : Listed) × IsPicked (tree_of p) vp x (w.lists n) × (to_do ≡ Runs x.tid vp ∷ [])
-Starts p stamp n (Take from) w to_do = (x : Packet) × (first_of (w.links from n) ≡ Some x) × (x.stamp < stamp) × (to_do ≡ for_packet n x.body)
-Starts p stamp n (Move t to) w to_do = (is_on_list t (w.lists n) ≡ true) × (to_do ≡ Says (Left t to) ∷ [])
+abbrev pub Starts : Program → (stamp n : ℕ) → Act → World → Progress → Type 0
+Starts p stamp n Boot w r = r ≡ has_to (if n == 0 then first_birth p n (lowest_free n 1 w.spots) w.spots else []) (w.talks n)
+Starts p stamp n (Run vp quantum) w r = (x : Listed) × IsPicked (tree_of p) vp x (w.lists n) × (r ≡ has_to (Runs x.tid vp ∷ []) (w.talks n))
+Starts p stamp n (Take from) w r =
+    (x : Packet) × (first_of (w.links from n) ≡ Some x) × (x.stamp < stamp) × (r ≡ begins_with n from x.body (w.talks n))
+Starts p stamp n (Move t to) w r = (is_on_list t (w.lists n) ≡ true) × (r ≡ has_to (Says (Left t to) ∷ []) (w.talks n))
 
 -- ## How it goes on: each label is what is to be done next, until there is nothing to do
 
@@ -81,20 +82,22 @@ pub record Allows (p : Program) (o : Occasion) (n : ℕ) (l : Label) (w : World)
   pub grants : GrantsRule p o n l w
 
 abbrev pub IsBy : ℕ → Label → Spots → Item → Type 0
-IsBy n l w (Sends to body) = ⊥
 IsBy n l w (Says m) = l ≡ m
 IsBy n l w (Runs t vp) = (count : ℕ) × (stop : Stop) × (l ≡ Ran t vp count stop)
 IsBy n l w (Does s) = (doer l ≡ Some s) × (is_busy_with n s w ≡ true)
+IsBy n l w (Serves t) = (doer l ≡ Some (Thread t)) × (is_seeking n (w.threads t).life ≡ true)
+IsBy n l w (Decides t) = (count : ℕ) × (first : Option ℕ) × (l ≡ Decided t count first)
+IsBy n l w _ = ⊥
 
 abbrev pub IsNext : ℕ → Label → Spots → List Item → Type 0
 IsNext n l w [] = ⊥
 IsNext n l w (i ∷ is) = IsBy n l w i
 
-abbrev pub GoesOn : Program → Occasion → (n : ℕ) → List Label → World → List Item → Type 0
-GoesOn p o n [] w to_do = past_sends to_do ≡ []
-GoesOn p o n (l ∷ ls) w to_do =
-    IsNext n l w.spots (past_sends to_do) × Allows p o n l w
-    × GoesOn p (saying l o) n ls (world_after p n l w) (to_do_after p n l w.spots (past_sends to_do))
+abbrev pub GoesOn : Program → Occasion → (n : ℕ) → List Label → World → Progress → Type 0
+GoesOn p o n [] w r = (worked_off n w.spots r).to_do ≡ []
+GoesOn p o n (l ∷ ls) w r =
+    IsNext n l w.spots (worked_off n w.spots r).to_do × Allows p o n l w
+    × GoesOn p (saying l o) n ls (world_after p n l w) (said p n l w.spots (worked_off n w.spots r))
 
 -- ## An entry, and a trace
 
@@ -103,9 +106,9 @@ occasion x w = record { act = x.act; took = taken_packet x.node x.act w.links; s
 
 pub record IsEntry (p : Program) (w : World) (x : Entry) : Type 0 where
   pub may : may_act p x.node (w.begun x.node) x.act ≡ true
-  pub to_do : List Item
-  pub starts : Starts p x.stamp x.node x.act w to_do
-  pub goes : GoesOn p (occasion x w) x.node x.labels w to_do
+  pub first : Progress
+  pub starts : Starts p x.stamp x.node x.act w first
+  pub goes : GoesOn p (occasion x w) x.node x.labels w first
 
 abbrev pub KeepsRules : Program → World → List Entry → Type 0
 KeepsRules p old [] = ⊤

@@ -1,11 +1,9 @@
 -- The rules of a trace, each by what the labels before tell: what a label on node n must have found.
-use Rattle.std.specs.Prelude.{◌≡◌, ◌<◌, ◌==◌, ℕ, List, [], ◌∷◌, ◌++◌, length, Option, Some, None, Bool, true, false, slice_get, ⊤}
-use Rattle.slot_space.specs.Limits.{slot_limit}
+use Rattle.std.specs.Prelude.{◌≡◌, ◌<◌, ℕ, List, [], ◌∷◌, ◌++◌, length, Option, Some, None, true, slice_get, ⊤}
 use Rattle.slot_space.specs.Replies.{reply_code}
-use Rattle.slot_space.specs.Sets.{has, run, lowest_run}
+use Rattle.slot_space.specs.Sets.{has, run}
 use Rattle.iso_blocks.specs.Heap.{rounded, place, emptied}
 use Rattle.slot_space.specs.declared.names.Tid.{Tid}
-use Rattle.slot_space.specs.declared.names.Reply.TheVariants as replies
 use Rattle.rv_step.specs.Run.{after, StopsBy}
 use Rattle.marcel_core.specs.Homes.{joiner}
 use Rattle.marcel_sync.specs.Semaphores.{node_in}
@@ -14,19 +12,19 @@ use Rattle.run_trace.specs.declared.entry.Act.{Act}
 use Rattle.run_trace.specs.declared.entry.Act.TheVariants.{Run}
 use Rattle.run_trace.specs.declared.entry.Entry.{Entry}
 use Rattle.run_trace.specs.declared.label.Label.{Label}
-use Rattle.run_trace.specs.declared.label.Label.TheVariants.{Born, Ran, Asked, Heard, Judged, Told, Took, Gave, Ended, Known, Left, Came, Shown, Halted}
+use Rattle.run_trace.specs.declared.label.Label.TheVariants.{Born, Ran, Asked, Heard, Judged, Told, Took, Gave, Ended, Known, Left, Came, Decided, Shown, Halted}
 use Rattle.run_trace.specs.declared.label.Why.{Why}
 use Rattle.run_trace.specs.declared.label.Why.TheVariants as why
 use Rattle.run_trace.specs.declared.label.Extra.{Extra}
 use Rattle.run_trace.specs.declared.packet.Packet.{Packet}
 use Rattle.run_trace.specs.Names.{tid}
 use Rattle.run_trace.specs.Program.{Program, nodes_of, code_of}
-use Rattle.run_trace.specs.Guests.{Solo, Guest, stack_start, guest_slots, heap_of, slots_for}
+use Rattle.run_trace.specs.Guests.{Solo, Guest, stack_start, guest_slots, heap_of}
 use Rattle.run_trace.specs.declared.call.Call.{Call}
 use Rattle.run_trace.specs.declared.call.Call.TheVariants.{Create, Isomalloc, Isofree, MigrateSelf}
-use Rattle.run_trace.specs.Calls.{extra_of, place_code, call_of, number_of, args_of, refusal, said_bytes}
+use Rattle.run_trace.specs.Calls.{extra_of, slots_wanted, call_of, number_of, args_of, refusal, said_bytes}
 use Rattle.run_trace.specs.World.{World}
-use Rattle.run_trace.specs.Spots.{Ready, Running, Due, Served, Told_next, Told_then, Departs, Ends, Leaves, Halts, Shows, Showing, Shown_there, Asks, Awaits, Answers, Answered, Detaches, Signals, Life, Unborn, On, Moving, Noting, Spots, Holder, Of_node, Of_thread, stack_bytes, stepped, after_labels}
+use Rattle.run_trace.specs.Spots.{Ready, Running, Due, Served, Seeks, Told_next, Told_then, Departs, Ends, Leaves, Halts, Shows, Showing, Shown_there, Asks, Awaits, Answers, Answered, Detaches, Signals, Life, Unborn, On, Moving, Noting, Spots, Of_node, Of_thread, stack_bytes, stepped, its_call, lowest_free, after_labels}
 
 abbrev pub quantum_in : Act → ℕ
 quantum_in (Run vp quantum) = quantum
@@ -50,7 +48,7 @@ Rule = Program → Occasion → (n : ℕ) → Label → World → Type 0
 -- with what a thread is born
 abbrev pub IsBorn : Program → ℕ → Why → (entry a0 : ℕ) → Spots → Type 0
 IsBorn p n why.Main entry a0 w = (entry ≡ p.image.main) × (a0 ≡ 0) × (n ≡ 0)
-IsBorn p n (why.Create by) entry a0 w = (priority : ℕ) × ((w.threads by).life ≡ On n (Served (Create entry a0 priority)))
+IsBorn p n (why.Create by) entry a0 w = ((w.threads by).life ≡ On n Seeks) × (priority : ℕ) × (its_call by w ≡ Create entry a0 priority)
 IsBorn p n _ entry a0 w = ⊥
 
 abbrev pub SoloRule : Rule
@@ -97,7 +95,7 @@ MayHear n (On m (Signals id up)) = node_in id ≡ n
 MayHear n _ = ⊥
 
 abbrev pub MayTake : ℕ → Life → Type 0
-MayTake n (On m (Served (Isomalloc len))) = m ≡ n
+MayTake n (On m Seeks) = m ≡ n
 MayTake n _ = ⊥
 
 -- a thread that ends gives all its slots; one that frees a block gives the heap slots that no other block meets, where there are any
@@ -144,17 +142,17 @@ LifeRule p o n (Known t) w =
     MayKnow (w.spots.threads t).life × (t.home ≡ n) × JoinerAwaits t (joiner (slice_get (w.spots.births t.home) t.seq)) w.spots
 LifeRule p o n (Left t to) w = MayLeave n to (w.spots.threads t).life × (to < nodes_of p) × (to ≡ n → ⊥)
 LifeRule p o n (Came t) w = MayCome n (w.spots.threads t).life
+LifeRule p o n (Decided t count first) w = (w.spots.threads t).life ≡ On n Seeks
 LifeRule p o n (Shown t) w = MayShow n (w.spots.threads t).life
 LifeRule p o n (Halted t) w = (w.spots.threads t).life ≡ On n Halts
 LifeRule p o n _ w = ⊥
 
 -- ## Replies: each is the library's
 
--- the reply of a call that its node serves: to create it is Full, since where there is a slot the birth makes the new name due; to
--- isomalloc the place of its block; to isofree 0, once no slot is left to be given; to migrate_self 0, before the thread leaves
+-- the reply of a call that its node serves: to isomalloc the place of its block; to isofree 0, once no slot is left to be given; to
+-- migrate_self 0, before the thread leaves
 abbrev pub IsServed : Call → Guest → ℕ → Type 0
-IsServed (Create entry argument priority) g reply = reply ≡ reply_code replies.Full
-IsServed (Isomalloc len) g reply = reply ≡ place_code (place (heap_of g.solo) (rounded len))
+IsServed (Isomalloc len) g reply = place (heap_of g.solo) (rounded len) ≡ Some reply
 IsServed (Isofree address) g reply = (reply ≡ 0) × (emptied (heap_of g.solo) address ≡ [])
 IsServed (MigrateSelf to) g reply = reply ≡ 0
 IsServed _ g reply = ⊥
@@ -170,35 +168,19 @@ abbrev pub RepliesRule : Rule
 RepliesRule p o n (Judged t reply extra) w = IsReply (w.spots.threads t).life (w.spots.threads t).guest reply extra
 RepliesRule p o n _ w = ⊤
 
--- ## Grants: the lowest run of slots that no thread holds, of the node; Full only where it has none
+-- ## Grants: the lowest run of the node's slots; it is decided that there is none only where it has none
 
-abbrev pub is_free : ℕ → Holder → Bool
-is_free n (Of_node m) = m == n
-is_free n _ = false
-
--- the lowest run of so many slots of node n
-abbrev pub lowest_free : ℕ → ℕ → Spots → Option ℕ
-lowest_free n count w = lowest_run (λ s. is_free n (w.slots s)) count slot_limit
-
--- a block takes as many slots as it needs, and only where it has no place
-abbrev pub IsClaim : Life → Guest → ℕ → Type 0
-IsClaim (On m (Served (Isomalloc len))) g count = (place (heap_of g.solo) (rounded len) ≡ None) × (count ≡ slots_for (rounded len))
-IsClaim _ g count = ⊥
-
-abbrev pub IsRefusedFull : ℕ → Spots → Call → Guest → Type 0
-IsRefusedFull n w (Create entry argument priority) g = lowest_free n 1 w ≡ None
-IsRefusedFull n w (Isomalloc len) g = place (heap_of g.solo) (rounded len) ≡ None → lowest_free n (slots_for (rounded len)) w ≡ None
-IsRefusedFull n w _ g = ⊤
-
-abbrev pub IsRefusedRightly : ℕ → Spots → Life → Guest → Type 0
-IsRefusedRightly n w (On m (Served c)) g = IsRefusedFull n w c g
-IsRefusedRightly n w _ g = ⊤
+-- a block takes as many slots as it needs
+abbrev pub IsForBlock : Call → ℕ → Type 0
+IsForBlock (Isomalloc len) count = count ≡ slots_wanted (Isomalloc len)
+IsForBlock _ count = ⊥
 
 abbrev pub GrantsRule : Rule
 GrantsRule p o n (Born t why entry a0 a1 sp slot) w = lowest_free n 1 w.spots ≡ Some slot
 GrantsRule p o n (Took t first count) w =
-    IsClaim (w.spots.threads t).life (w.spots.threads t).guest count × (lowest_free n count w.spots ≡ Some first)
-GrantsRule p o n (Judged t reply extra) w = IsRefusedRightly n w.spots (w.spots.threads t).life (w.spots.threads t).guest
+    IsForBlock (its_call t w.spots) count × (lowest_free n count w.spots ≡ Some first)
+GrantsRule p o n (Decided t count first) w =
+    (count ≡ slots_wanted (its_call t w.spots)) × (lowest_free n count w.spots ≡ None) × (first ≡ None)
 GrantsRule p o n _ w = ⊤
 
 -- what the labels of a trace tell, newest entry first

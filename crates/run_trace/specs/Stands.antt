@@ -1,5 +1,5 @@
 -- What it means that nodes and links stand for what the labels tell: each list has exactly its part of it.
-use Rattle.std.specs.Prelude.{◌≡◌, ℕ, List, [], ◌∷◌, All, map, Option, Some, None, true, Bool, false, ◌==◌, ◌&&◌, nat_lt, if◌then◌else◌, slice_get, ⊤}
+use Rattle.std.specs.Prelude.{◌≡◌, ◌≤◌, ◌+◌, ℕ, List, [], ◌∷◌, ◌++◌, All, map, Option, Some, None, true, Bool, false, ◌==◌, ◌&&◌, nat_lt, if◌then◌else◌, slice_get, ⊤}
 use Rattle.slot_space.specs.Replies.{reply_code}
 use Rattle.slot_space.specs.Sets.{has, minus}
 use Rattle.iso_blocks.specs.Bytes.{in_blocks, in_slots}
@@ -13,7 +13,7 @@ use Rattle.pack_thread.specs.Threads.{PackedThread as Packed}
 use Rattle.run_trace.specs.declared.label.Extra.{Extra}
 use Rattle.run_trace.specs.declared.label.Extra.TheVariants.{Nothing}
 use Rattle.run_trace.specs.declared.packet.Body.{Body}
-use Rattle.run_trace.specs.declared.packet.Body.TheVariants.{Mover, Show, ShowDone, JoinAsk, DetachAsk, SemAsk, Answer, EndNote}
+use Rattle.run_trace.specs.declared.packet.Body.TheVariants.{Mover, Show, ShowDone, JoinAsk, DetachAsk, SemAsk, Answer, EndNote, Want, Turn, Over}
 use Rattle.run_trace.specs.declared.packet.Packet.{Packet}
 use Rattle.run_trace.specs.declared.node.ReadyRow.{ReadyRow}
 use Rattle.run_trace.specs.declared.node.Wait.{Wait}
@@ -26,12 +26,12 @@ use Rattle.run_trace.specs.RunLists.{IsRising}
 use Rattle.run_trace.specs.Calls.{extra_of}
 use Rattle.run_trace.specs.Cluster.{Net}
 use Rattle.run_trace.specs.Keyed.{about, StandsFor, MapStandsFor}
-use Rattle.run_trace.specs.Rules.{is_free}
+use Rattle.run_trace.specs.Talks.{Talk, is_first}
 use Rattle.run_trace.specs.declared.call.Call.{Call}
-use Rattle.run_trace.specs.declared.call.Call.TheVariants.{Isofree}
-use Rattle.run_trace.specs.Spots.{Stage, Ready, Served, Departs, Leaves, Stays, Shows, Showing, Shown_there, Asks, Awaits, Answers, Answered, Detaches, Signals, Queues, Life, Unborn, On, Moving, Noting, Gone, Response, Spot, Spots, Holder, Of_thread}
+use Rattle.run_trace.specs.declared.call.Call.TheVariants.{Create, Isomalloc, Isofree}
+use Rattle.run_trace.specs.Spots.{Stage, Ready, Served, Seeks, Departs, Leaves, Stays, Shows, Showing, Shown_there, Asks, Awaits, Answers, Answered, Detaches, Signals, Queues, Life, Unborn, On, Moving, Noting, Gone, Response, Spot, Spots, Holder, Of_thread, is_free, its_call}
 use Rattle.run_trace.specs.World.{Listed}
-use Rattle.run_trace.specs.Items.{is_busy, Subject, Thread as Thread_of, same_subject}
+use Rattle.run_trace.specs.Items.{Item, Serves, Grants, Decides, Ends_turn, Wants_again, is_busy, is_seeking, Subject, Thread as Thread_of, Turns, same_subject}
 
 -- ## The threads of a node: those that are there, but one that has given its slots
 
@@ -47,6 +47,7 @@ wait_of n (Answered h) = wait.ForAnswer
 wait_of n (Detaches u) = wait.ForAnswer
 wait_of n (Signals id up) = wait.ForAnswer
 wait_of n (Queues id) = if node_in id == n then wait.ForSemaphore else wait.ForAnswer
+wait_of n Seeks = wait.ForSlots
 wait_of n Stays = wait.Halted
 wait_of n _ = wait.No
 
@@ -96,9 +97,23 @@ busy_name x = x.tid
 abbrev pub busy_part : ℕ → Tid → Spot → Option Busy
 busy_part n t s = if is_busy n s.life then Some (busy t s.life) else None
 
+-- ## In its midst: the threads that seek slots on node n, those that the event is to serve and those that claim them
+
+abbrev pub itself : Tid → Tid
+itself t = t
+
+abbrev pub seeker_part : ℕ → Tid → Spot → Option Tid
+seeker_part n t s = if is_seeking n s.life then Some t else None
+
+abbrev pub serving : List Item → List Tid
+serving [] = []
+serving (Serves t ∷ is) = t ∷ serving is
+serving (Decides t ∷ is) = t ∷ serving is
+serving (i ∷ is) = serving is
+
 -- ## Links: what is under way of each subject; of a thread at most one packet as yet, which is the thread itself where it moves
 
--- what a packet says of a thread
+-- what a packet says of a thread, or of a turn to come to slots of other nodes
 pub data Word : Type 0 where
   Travels : (x : Packed) → Word
   Line : (t : Tid) (bytes : List ℕ) → Word
@@ -108,6 +123,9 @@ pub data Word : Type 0 where
   Signalling : (t : Tid) (id : ℕ) (up : Bool) → Word
   Reply : (t : Tid) (code : ℕ) (extra : Extra) → Word
   Ended_word : (t : Tid) (end : End) → Word
+  A_want : Word
+  A_turn : Word
+  An_over : Word
 
 abbrev pub word_subject : Word → Subject
 word_subject (Travels x) = Thread_of x.tid
@@ -118,6 +136,9 @@ word_subject (Detaching t u) = Thread_of t
 word_subject (Signalling t id up) = Thread_of t
 word_subject (Reply t code extra) = Thread_of t
 word_subject (Ended_word t end) = Thread_of t
+word_subject A_want = Turns
+word_subject A_turn = Turns
+word_subject An_over = Turns
 
 -- of a packet on a link to node j
 abbrev pub word_of : ℕ → Body → Word
@@ -129,6 +150,9 @@ word_of j (DetachAsk by seq) = Detaching by (tid j seq)
 word_of j (SemAsk by id up) = Signalling by id up
 word_of j (Answer t reply second) = Reply t (reply_code reply) (extra_of second)
 word_of j (EndNote seq end) = Ended_word (tid j seq) end
+word_of j Want = A_want
+word_of j Turn = A_turn
+word_of j Over = An_over
 
 abbrev pub words_of : ℕ → List Packet → List Word
 words_of j [] = []
@@ -162,17 +186,81 @@ on_link i j (x ∷ xs) = if x.from == i && x.to == j then x.word ∷ on_link i j
 abbrev pub words_about : List Word → Subject → List Word
 words_about xs s = about same_subject word_subject xs s
 
--- the packets of a subject on the link from i to j
-abbrev pub link_part : ℕ → ℕ → Subject → (Tid → Spot) → List Word
-link_part i j (Thread_of t) w = on_link i j (ways_of t (w t).life (w t).verdict (w t).guest)
+-- the packets of a thread on the link from i to j
+abbrev pub link_part : ℕ → ℕ → Tid → (Tid → Spot) → List Word
+link_part i j t w = on_link i j (ways_of t (w t).life (w t).verdict (w t).guest)
+
+-- ## Turns: which packets of turns are under way, and what the nodes keep of them
+
+abbrev pub count_by : (Word → ℕ) → List Word → ℕ
+count_by f [] = 0
+count_by f (x ∷ xs) = f x + count_by f xs
+
+abbrev pub one_want : Word → ℕ
+one_want A_want = 1
+one_want _ = 0
+
+abbrev pub one_turn : Word → ℕ
+one_turn A_turn = 1
+one_turn _ = 0
+
+abbrev pub one_over : Word → ℕ
+one_over An_over = 1
+one_over _ = 0
+
+-- how many ends of a turn stand behind a wish for one
+abbrev pub late_overs : List Word → ℕ
+late_overs [] = 0
+late_overs (A_want ∷ xs) = count_by one_over xs
+late_overs (x ∷ xs) = late_overs xs
+
+abbrev pub one_if : Bool → ℕ
+one_if true = 1
+one_if false = 0
+
+abbrev pub some_of : List Tid → ℕ
+some_of [] = 0
+some_of (t ∷ ts) = 1
+
+-- how often a node stands in the list
+abbrev pub times_in : ℕ → List ℕ → ℕ
+times_in n [] = 0
+times_in n (k ∷ ks) = one_if (k == n) + times_in n ks
+
+-- the event is to end the turn of its node; it is to want another one
+abbrev pub turns_among : List Item → ℕ
+turns_among [] = 0
+turns_among (Grants ∷ is) = 1 + turns_among is
+turns_among (Ends_turn ∷ is) = 1 + turns_among is
+turns_among (i ∷ is) = turns_among is
+
+abbrev pub wants_among : List Item → ℕ
+wants_among [] = 0
+wants_among (Wants_again ∷ is) = 1 + wants_among is
+wants_among (i ∷ is) = wants_among is
+
+-- An event may be in its midst: to_do is what each node's has still to do. Each is one equation of a node, or of a link.
+pub record AreInTurn (talks : ℕ → Talk) (links : ℕ → ℕ → List Word) (to_do : ℕ → List Item) : Type 0 where
+  -- the first of the list has the turn: it is under way to it, or there, or its end is under way; no other node has one
+  pub turn : (i : ℕ) → count_by one_turn (links 0 i) + turns_among (to_do i) + count_by one_over (links i 0) ≡ one_if (is_first i (talks 0).wanting)
+  -- a node that wants a turn is in the list, or its wish is under way
+  pub want : (i : ℕ) → times_in i (talks 0).wanting + count_by one_want (links i 0) ≡ one_if (talks i).wants + count_by one_over (links i 0)
+  pub once : (i : ℕ) → times_in i (talks 0).wanting ≤ 1
+  pub order : (i : ℕ) → late_overs (links i 0) ≡ 0
+  -- a node with a claim wants a turn
+  pub claims : (i : ℕ) → some_of (talks i).claims ≤ one_if (talks i).wants + wants_among (to_do i)
+  -- only node 0 sends turns, and only to it the others go
+  pub to_zero : (i j : ℕ) → (j ≡ 0 → ⊥) → count_by one_want (links i j) + count_by one_over (links i j) ≡ 0
+  pub from_zero : (i j : ℕ) → (i ≡ 0 → ⊥) → count_by one_turn (links i j) ≡ 0
 
 -- ## A node, and what all nodes share
 
--- node n in the state s, busy with these
-pub record Here (n : ℕ) (w : Spots) (s : Local) (hand : List Busy) : Type 0 where
+-- node n in the state s, busy with these, and about to serve those
+pub record Here (n : ℕ) (w : Spots) (s : Local) (hand : List Busy) (served : List Tid) : Type 0 where
   pub threads : MapStandsFor is_tid (thread_part n) s.threads w.threads
   pub rows : StandsFor is_tid listed_name (row_part n) (map listed s.run_lists.rows) w.threads
   pub busy : StandsFor is_tid busy_name (busy_part n) hand w.threads
+  pub seekers : StandsFor is_tid itself (seeker_part n) (served ++ s.talk.claims) w.threads
   pub births : s.births ≡ w.births n
   pub sems : s.sems ≡ w.sems n
   pub free : (x : ℕ) → has x s.slots.free ≡ is_free n (w.slots x)
@@ -254,7 +342,13 @@ abbrev pub IsWellHeld : Option Holding → Type 0
 IsWellHeld None = ⊤
 IsWellHeld (Some h) = IsWell h
 
--- homes, births, joiners, semaphores, halts, slots and blocks agree
+-- a call for which its thread may seek slots
+abbrev pub WantsSlots : Call → Type 0
+WantsSlots (Create entry argument priority) = ⊤
+WantsSlots (Isomalloc len) = ⊤
+WantsSlots _ = ⊥
+
+-- homes, births, joiners, semaphores, halts, those that seek slots, slots and blocks agree
 pub record Agrees (p : Program) (w : Spots) : Type 0 where
   pub homes : (t : Tid) → nat_lt t.home (nodes_of p) ≡ false → (w.threads t).life ≡ Unborn
   pub named : (t : Tid) → phase_at (slice_get (w.births t.home) t.seq) ≡ phase_of (w.threads t).life
@@ -264,12 +358,14 @@ pub record Agrees (p : Program) (w : Spots) : Type 0 where
   pub queues : (h k : ℕ) → StandsFor is_tid waiter_name (waiter_part h k) (waiters_at k (w.sems h)) w.threads
   pub signals : (t : Tid) (n id : ℕ) (up : Bool) → (w.threads t).life ≡ On n (Signals id up) → (node_in id == n) ≡ false
   pub stays : (t : Tid) (n : ℕ) → (w.threads t).life ≡ On n Stays → w.halts n ≡ true
+  pub seeks : (t : Tid) (n : ℕ) → (w.threads t).life ≡ On n Seeks → WantsSlots (its_call t w)
   pub slots : (t : Tid) (x : ℕ) → has x (slots_held (held (w.threads t).life (w.threads t).guest)) ≡ is_thread t (w.slots x)
   pub blocks : (t : Tid) → IsWellHeld (held (w.threads t).life (w.threads t).guest)
 
 -- the nodes and links are exactly their parts of what the labels tell
 pub record Stands (p : Program) (w : Spots) (net : Net) : Type 0 where
-  pub nodes : (n : ℕ) → Here n w (net.nodes n) []
-  pub links : (i j : ℕ) (s : Subject) → words_about (words_of j (net.links i j)) s ≡ link_part i j s w.threads
+  pub nodes : (n : ℕ) → Here n w (net.nodes n) [] []
+  pub links : (i j : ℕ) (t : Tid) → words_about (words_of j (net.links i j)) (Thread_of t) ≡ link_part i j t w.threads
+  pub turns : AreInTurn (λ n. (net.nodes n).talk) (λ i j. words_about (words_of j (net.links i j)) Turns) (λ n. [])
   pub agrees : Agrees p w
   pub rising : (n : ℕ) → IsRising (net.nodes n).run_lists

@@ -9,6 +9,7 @@ use Rattle.run_trace.specs.declared.label.Label.TheVariants.{Born, Ran, Told, Le
 use Rattle.run_trace.specs.declared.packet.Packet.{Packet}
 use Rattle.run_trace.specs.Names.{is_tid}
 use Rattle.run_trace.specs.Program.{Program}
+use Rattle.run_trace.specs.Talks.{Talk}
 use Rattle.run_trace.specs.Spots.{Spots, priority_by, after_label}
 
 -- a thread on a run list of the tree
@@ -22,8 +23,9 @@ pub record World : Type 0 where
   pub lists : ℕ → List Listed  -- who is on each node's run lists, in the order of arrival
   pub links : ℕ → ℕ → List Packet  -- from one node to another, oldest first
   pub begun : ℕ → Bool
+  pub talks : ℕ → Talk  -- what each node keeps of the negotiation of slots
 
--- in the midst of an entry, after one more label on node n; run lists and links become at its end what they become
+-- in the midst of an entry, after one more label on node n; run lists, links and talks become at its end what they become
 abbrev pub world_after : Program → ℕ → Label → World → World
 world_after p n l w = record w { spots = after_label p n l w.spots }
 

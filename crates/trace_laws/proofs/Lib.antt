@@ -1,7 +1,7 @@
 -- Where each law of `src/laws.rt` is proved.
 --   alone               Outcomes.Wholes
 --   begun               Outcomes.Beginnings
---   expected            Strays.NoStrays
+--   expected            Strays.NoStrays, over Underway.Turns
 --   gathered            Merging.Bounded
 --   ignored             Strays.Unexpected
 --   inside              Outcomes.NothingOutside
@@ -13,7 +13,7 @@
 --   one_holder          Outcomes.Consequences, Outcomes.Wholes
 --   one_trace           Rules.OneTrace
 --   picked              Outcomes.RunLists, Outcomes.Stillness
---   quiet               Outcomes.Stillness
+--   quiet               Outcomes.Stillness, over Lists.InTurn
 --   ran                 Lives.RunLemmas
 --   ready               Outcomes.RunLists, Outcomes.Legals
 --   rules_and_machine   Outcomes.Legals, over Rules.Entries

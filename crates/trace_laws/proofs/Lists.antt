@@ -8,3 +8,4 @@ pub mod Parts
 pub mod Picking
 pub mod Arriving
 pub mod ListTrees
+pub mod InTurn

@@ -1,4 +1,6 @@
 -- Packets that no run has.
 pub mod NoStrays
 pub mod Unexpected
+pub mod Holdings
+pub mod Grants
 pub mod Strangers

@@ -1,9 +1,13 @@
 -- An event of the machine, from its start through its midst to its end.
 pub mod Midst
+pub mod Carried
 pub mod Steps
 pub mod ReplySteps
 pub mod RunSteps
 pub mod CallSteps
+pub mod Seeking
+pub mod Turns
+pub mod Grants
 pub mod Lifetimes
 pub mod HeapSteps
 pub mod Takes

@@ -1,5 +1,7 @@
 -- Consequences of a run, said of the machine's nets: who was picked, what was sent, that nothing is left open.
-use Rattle.std.specs.Prelude.{◌≡◌, ℕ, List, [], ◌∷◌, ◌++◌, Bool, true, false, ⊤, map}
+use Rattle.std.specs.Prelude.{◌≡◌, ℕ, List, [], ◌∷◌, ◌++◌, Bool, true, false, if◌then◌else◌, ⊤, map}
+use Rattle.run_trace.specs.declared.packet.Body.{Body}
+use Rattle.run_trace.specs.declared.packet.Body.TheVariants.{Want, Turn, Over}
 use Rattle.run_trace.specs.declared.packet.Send.{Send}
 use Rattle.slot_space.specs.declared.names.Tid.{Tid}
 use Rattle.rv_step.specs.declared.hart.Stop.{Stop}
@@ -48,7 +50,17 @@ abbrev pub Picks : Program → Net → List Entry → Type 0
 Picks p base [] = ⊤
 Picks p base (x ∷ xs) = Picks p base xs × PicksBest p x.act ((net_after_trace p base xs).nodes x.node).run_lists.rows x.labels
 
--- ## Carried: an entry sends what its labels cause, and nothing else
+-- ## Carried: but for turns, an entry sends what its labels cause, and nothing else
+
+abbrev pub is_of_turns : Body → Bool
+is_of_turns Want = true
+is_of_turns Turn = true
+is_of_turns Over = true
+is_of_turns _ = false
+
+abbrev pub apart_from_turns : List Send → List Send
+apart_from_turns [] = []
+apart_from_turns (x ∷ xs) = if is_of_turns x.body then apart_from_turns xs else x ∷ apart_from_turns xs
 
 abbrev pub all_causes : Program → ℕ → List Label → Spots → List Send
 all_causes p n [] w = []
@@ -57,7 +69,7 @@ all_causes p n (l ∷ ls) w = causes p n l w ++ all_causes p n ls (after_label p
 abbrev pub Carried : Program → Spots → Net → List Entry → Type 0
 Carried p old base [] = ⊤
 Carried p old base (x ∷ xs) = Carried p old base xs
-    × (sends_or (done_for p (net_after_trace p base xs) x) ≡ all_causes p x.node x.labels (spots_of p old xs))
+    × (apart_from_turns (sends_or (done_for p (net_after_trace p base xs) x)) ≡ all_causes p x.node x.labels (spots_of p old xs))
 
 -- ## Settled: nothing is missing. At the end of an entry no thread is in the midst of a call, a reply or its end
 
@@ -84,6 +96,7 @@ world_at w net = record {
   lists = λ n. map listed (net.nodes n).run_lists.rows;
   links = net.links;
   begun = λ n. (net.nodes n).booted;
+  talks = λ n. (net.nodes n).talk;
 }
 
 -- each label of a trace obeys the rule, by what was told and what the cluster had come to

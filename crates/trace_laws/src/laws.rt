@@ -40,7 +40,7 @@ ghost use Rattle.run_trace.specs.World.{World};
 ghost use Rattle.trace_laws.specs.Headings.{heading};
 ghost use Rattle.trace_laws.specs.Obeys.{world_at};
 ghost use Rattle.run_trace.specs.Telling.{first_world, world_of};
-ghost use Rattle.run_trace.specs.Items.{Item};
+ghost use Rattle.run_trace.specs.Items.{Progress};
 
 /// Whatever local runs are merged: in the order of stamps they are one run of the cluster.
 pub fn merged()
@@ -90,7 +90,7 @@ pub fn one_trace()
 pub fn rules_and_machine()
     ensures same { (p : Program) (old : Spots) (base : Net) → Stands p old base → (trace : List Entry) → KeepsRules p (world_at old base) trace ↔ IsRun p base trace }
     ensures entry { (p : Program) (old : Spots) (base : Net) → Stands p old base → (x : Entry) (xs : List Entry) → IsRun p base xs → IsEntry p (world_of p (world_at old base) xs) x ↔ Fits p (net_after_trace p base xs) x }
-    ensures goes_on { (p : Program) (old : Spots) (base : Net) → Stands p old base → (trace : List Entry) → KeepsRules p (world_at old base) trace → (stamp n round : ℕ) (a : Act) (to_do : List Item) → may_act p n ((world_of p (world_at old base) trace).begun n) a ≡ true → Starts p stamp n a (world_of p (world_at old base) trace) to_do → (ls : List Label) × KeepsRules p (world_at old base) ((record { stamp = stamp; node = n; round = round; act = a; labels = ls }) ∷ trace) }
+    ensures goes_on { (p : Program) (old : Spots) (base : Net) → Stands p old base → (trace : List Entry) → KeepsRules p (world_at old base) trace → (stamp n round : ℕ) (a : Act) (first : Progress) → may_act p n ((world_of p (world_at old base) trace).begun n) a ≡ true → Starts p stamp n a (world_of p (world_at old base) trace) first → (ls : List Label) × KeepsRules p (world_at old base) ((record { stamp = stamp; node = n; round = round; act = a; labels = ls }) ∷ trace) }
 {}
 
 /// After a run nodes and links are exactly what the labels tell.
@@ -157,11 +157,13 @@ pub fn unforged()
 
 /// Where no thread is on a run list, nothing is under way and no node has halted, a thread that lives makes the trace stuck:
 /// each that lives joins one that hasn't ended, or waits for a semaphore of value 0. A thread that is on a node lives, and where
-/// nothing is under way each that lives is on one.
+/// nothing is under way each that lives is on one. And where nothing is under way no thread waits for slots, and no node wants a turn
+/// or has one.
 pub fn quiet()
     ensures stuck { (p : Program) (w : Spots) (net : Net) → Stands p w net → ((n : ℕ) → (net.nodes n).run_lists.rows ≡ []) → AllLinksEmpty net → ((n : ℕ) → (net.nodes n).halted ≡ false) → (t : Tid) → Lives (w.threads t).life → IsStuck w net }
     ensures somewhere { (p : Program) (w : Spots) (net : Net) → Stands p w net → AllLinksEmpty net → (t : Tid) → Lives (w.threads t).life → (n : ℕ) × (x : Thread) × IsOn net n t x }
     ensures lives { (p : Program) (w : Spots) (net : Net) → Stands p w net → (t : Tid) (n : ℕ) (x : Thread) → IsOn net n t x → Lives (w.threads t).life }
+    ensures no_claims { (p : Program) (w : Spots) (net : Net) → Stands p w net → AllLinksEmpty net → (n : ℕ) → ((net.nodes n).talk.claims ≡ []) × ((net.nodes n).talk.wants ≡ false) × ((net.nodes 0).talk.wanting ≡ []) }
 {}
 
 /// In a run from the beginning, whatever is no node of the cluster is as before the first event: nothing is there, and no link

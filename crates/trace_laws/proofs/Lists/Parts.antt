@@ -7,18 +7,17 @@ use Rattle.slot_space.specs.declared.names.Tid.{Tid}
 use Rattle.marcel_sync.specs.Semaphores.{node_in}
 use Rattle.run_trace.specs.declared.node.ReadyRow.{ReadyRow}
 use Rattle.run_trace.specs.Names.{is_tid}
-use Rattle.run_trace.specs.Rules.{is_free}
 use Rattle.run_trace.specs.Guests.{Guest, packed}
 use Rattle.run_trace.specs.RunLists.{RunLists, arrived, without_row, is_listed, IsIn}
 use Rattle.run_trace.specs.Keyed.{AreApart, StandsFor, item_of}
-use Rattle.run_trace.specs.Spots.{Stage, Ready, Departs, Shows, Shown_there, Asks, Detaches, Signals, Answered, Life, Unborn, On, Moving, Noting, Gone, Response, Spot, update, Holder, Of_node, Of_thread}
-use Rattle.run_trace.specs.Stands.{listed, listed_name, Busy, busy, busy_part, thread_part, thread_in_life, thread_in_stage, row_part, row_in_life, row_in_stage, Word, Travels, Line, Line_shown, Joins, Detaching, Signalling, Reply, Ended_word, Way, ways_of, is_thread}
+use Rattle.run_trace.specs.Spots.{Stage, Ready, Departs, Shows, Shown_there, Asks, Detaches, Signals, Answered, Life, Unborn, On, Moving, Noting, Gone, Response, Spot, update, Holder, Of_node, Of_thread, is_free, Seeks}
+use Rattle.run_trace.specs.Stands.{listed, listed_name, Busy, busy, busy_part, thread_part, thread_in_life, thread_in_stage, row_part, row_in_life, row_in_stage, Word, Travels, Line, Line_shown, Joins, Detaching, Signalling, Reply, Ended_word, A_want, A_turn, An_over, Way, ways_of, is_thread, seeker_part}
 use Rattle.run_trace.proofs.Lemmas.{is-true, is-refl}
 use Rattle.trace_laws.proofs.Lists.KeyedLemmas.{without, added, removed}
 use Rattle.trace_laws.proofs.Lists.Subjects.{IsOneOf}
-use Rattle.trace_laws.proofs.Underway.Midst.{Frame}
+use Rattle.trace_laws.proofs.Underway.Midst.{Frame, no_seeker}
 use Rattle.run_trace.specs.World.{Listed}
-use Rattle.run_trace.specs.Items.{is_busy}
+use Rattle.run_trace.specs.Items.{is_busy, is_seeking}
 use Rattle.trace_laws.proofs.Lists.Stages.{is_home, home_busy}
 
 -- ## Rows
@@ -119,6 +118,9 @@ Tells t i j (Detaching u target) life v g = (u ≡ t) × (life ≡ On i (Detache
 Tells t i j (Signalling u id up) life v g = (u ≡ t) × (life ≡ On i (Signals id up)) × (j ≡ node_in id)
 Tells t i j (Reply u code extra) life v g = (u ≡ t) × (life ≡ On j (Answered i)) × (v.code ≡ code) × (v.extra ≡ extra)
 Tells t i j (Ended_word u end) life v g = (u ≡ t) × (life ≡ Noting i end) × (j ≡ t.home)
+Tells t i j A_want life v g = ⊥
+Tells t i j A_turn life v g = ⊥
+Tells t i j An_over life v g = ⊥
 
 pub at_way : (t : Tid) (life : Life) (v : Response) (g : Guest) (x : Way) → IsOneOf x (ways_of t life v g) → Tells t x.from x.to x.word life v g
 at_way t (Moving m to) v g x (inl e) = subst (λ (y : Way). Tells t y.from y.to y.word (Moving m to) v g) e (refl, refl)
@@ -161,9 +163,26 @@ away_row n k t s stage p e = ap (λ l. row_in_life k t l s.guest.priority) p ∙
 pub busy_none : (k : ℕ) (t : Tid) (s : Spot) (life : Life) → s.life ≡ life → is_busy k life ≡ false → busy_part k t s ≡ None
 busy_none k t s life p e = ap (λ l. cond (is_busy k l) (Some (busy t l)) None) p ∙ (rw e refl)
 
+away_seeking : (n k : ℕ) (stage : Stage) → eqb n k ≡ false → is_seeking k (On n stage) ≡ false
+away_seeking n k Seeks e = e
+away_seeking n k stage e = grind arith
+
+-- nor on its list of those that seek slots
+pub away_seeker : (n k : ℕ) (t : Tid) (s : Spot) (stage : Stage) → s.life ≡ On n stage → eqb n k ≡ false → seeker_part k t s ≡ None
+away_seeker n k t s stage p e = no_seeker k t s (ap (is_seeking k) p ∙ away_seeking n k stage e)
+
+-- a life that seeks slots on node n
+pub seeker_was : (n : ℕ) (t : Tid) (s : Spot) → s.life ≡ On n Seeks → seeker_part n t s ≡ Some t
+seeker_was n t s p = ap (λ l. cond (is_seeking n l) (Some t) None) p ∙ (rw (eq-eqb n n refl) refl)
+
+-- two that seek none
+pub both_idle : (k : ℕ) (t : Tid) (r s : Spot) → is_seeking k r.life ≡ false → is_seeking k s.life ≡ false → seeker_part k t s ≡ seeker_part k t r
+both_idle k t r s old new = no_seeker k t s new ∙ sym (no_seeker k t r old)
+
 pub frame_home : (n k : ℕ) (t : Tid) (r s : Spot) (a b : Stage) → r.life ≡ On n a → s.life ≡ On n b → is_home a ≡ true → is_home b ≡ true → eqb n k ≡ false → Frame k t r s
 frame_home n k t r s a b p q g h e = record {
   thread = away_thread n k t s b q e ∙ sym (away_thread n k t r a p e);
   row = away_row n k t s b q e ∙ sym (away_row n k t r a p e);
   busy = busy_none k t s (On n b) q (home_busy n k b h e) ∙ sym (busy_none k t r (On n a) p (home_busy n k a g e));
+  seeker = away_seeker n k t s b q e ∙ sym (away_seeker n k t r a p e);
 }

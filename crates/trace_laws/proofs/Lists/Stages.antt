@@ -9,7 +9,7 @@ use Rattle.run_trace.specs.declared.node.Wait.TheVariants as wait
 use Rattle.run_trace.specs.Rules.{MayLeave}
 use Rattle.trace_laws.specs.Obeys.{IsSettled}
 use Rattle.run_trace.specs.Guests.{Guest, waits, is_unwaiting}
-use Rattle.run_trace.specs.Spots.{Stage, Ready, Running, Due, Served, Told_next, Told_then, Departs, Ends, Leaves, Halts, Stays, Shows, Shown_there, Asks, Awaits, Answered, Detaches, Signals, Queues, Life, On, Response, told_stage, Showing, Answers}
+use Rattle.run_trace.specs.Spots.{Stage, Ready, Running, Due, Served, Seeks, Told_next, Told_then, Departs, Ends, Leaves, Halts, Stays, Shows, Shown_there, Asks, Awaits, Answered, Detaches, Signals, Queues, Life, On, Response, told_stage, Showing, Answers}
 use Rattle.run_trace.specs.Stands.{thread_in_stage, row_in_stage, ways_of, held_in_stage, holding_of, wait_of}
 use Rattle.trace_laws.proofs.Underway.Midst.{Quiet, quiet, Plain, plain, is_plain}
 use Rattle.run_trace.specs.Items.{is_busy}
@@ -54,6 +54,7 @@ is_resting (Answered h) = true
 is_resting (Detaches u) = true
 is_resting (Signals id up) = true
 is_resting (Queues id) = true
+is_resting Seeks = true
 is_resting _ = false
 
 pub resting : (n : ℕ) (stage : Stage) → IsSettled (On n stage) → is_resting stage ≡ true
@@ -67,6 +68,7 @@ resting n (Answered h) k = refl
 resting n (Detaches u) k = refl
 resting n (Signals id up) k = refl
 resting n (Queues id) k = refl
+resting n Seeks k = refl
 resting n Showing k = absurd (cc (k 0))
 resting n (Answers h reply second) k = absurd (cc (k h, eq-eqb h h refl))
 resting n stage k = absurd (cc (k n, eq-eqb n n refl))

@@ -1,15 +1,19 @@
 -- What a link has of one subject, in order, when a packet comes as the last or the first is taken.
 use Rattle.std.proofs.Common.{◌≡◌, ◌⊎◌, inl, inr, ℕ, List, [], ◌∷◌, ◌++◌, Bool, true, false, eqb, cond, ◌&&◌, refl, sym, ap, ◌∙◌}
 use Rattle.std.proofs.lemmas.Bool.{eqb-true}
-use Rattle.run_trace.specs.Items.{Subject, Thread, same_subject}
+use Rattle.run_trace.specs.Items.{Subject, Thread, Turns, same_subject}
 use Rattle.run_trace.specs.Stands.{Word, word_subject, words_about, Way, on_link}
 use Rattle.run_trace.proofs.Lemmas.{is-true, is-refl}
 
 pub subject-true : (a b : Subject) → same_subject a b ≡ true → a ≡ b
 subject-true (Thread t) (Thread u) e = ap Thread (is-true t u e)
+subject-true (Thread t) Turns e = absurd (cc e)
+subject-true Turns (Thread u) e = absurd (cc e)
+subject-true Turns Turns e = refl
 
 pub subject-refl : (a : Subject) → same_subject a a ≡ true
 subject-refl (Thread t) = is-refl t
+subject-refl Turns = refl
 
 -- all but the first word of this subject
 abbrev pub less_word : Subject → List Word → List Word

@@ -1,4 +1,5 @@
--- Whom a label sets going, and where that thread was: it waited for a semaphore or for an end, or was ready.
+-- What other thread a label sets going, and where that one was: it waited for a semaphore or for an end, or was ready. Whoever waits for
+-- slots goes by the decision about it, which is its own label.
 use Rattle.std.proofs.Common.{◌≡◌, ℕ, List, [], ◌∷◌, Option, Some, None, Bool, true, false, eqb, cond, refl, sym, ap, ◌∙◌, arith}
 use Rattle.std.specs.Prelude.{◌-◌, ◌^◌, slice_get, option_map, unwrap_or, ◌&&◌, not, ⊤}
 use Rattle.std.proofs.lemmas.Bool.{eqb-true}
@@ -15,12 +16,11 @@ use Rattle.marcel_sync.specs.declared.sem.Vgot.TheVariants as raising
 use Rattle.marcel_sync.specs.Semaphores.{node_in, number_in, v_of, v_answer, waiters_of, waiters_at}
 use Rattle.run_trace.specs.declared.call.Call.{Call}
 use Rattle.run_trace.specs.declared.call.Call.TheVariants.{SemV, Migrate}
-use Rattle.run_trace.specs.declared.label.Label.{Label}
-use Rattle.run_trace.specs.declared.label.Label.TheVariants.{Asked, Heard, Known}
+use Rattle.run_trace.specs.declared.label.Label.TheVariants.{Known}
 use Rattle.run_trace.specs.Names.{is_tid, tid_of}
 use Rattle.run_trace.specs.Program.{Program}
 use Rattle.run_trace.specs.Keyed.{item_of}
-use Rattle.run_trace.specs.Spots.{Ready, Departs, Awaits, Answers, Signals, Queues, Life, On, Spot, Spots, Going, answered_stage, woken, signal_wakes, is_ready, sent_away, passed_going, asked_going, its_call, its_refusal, wakes_heard, end_in, joiner_going, sets_going}
+use Rattle.run_trace.specs.Spots.{Ready, Departs, Awaits, Answers, Signals, Queues, Life, On, Spot, Spots, Going, answered_stage, woken, signal_wakes, is_ready, sent_away, passed_going, asked_going, going_by_call, its_call, its_refusal, wakes_heard, end_in, joiner_going, sets_going}
 use Rattle.run_trace.specs.Stands.{Agrees, waiter_name, waiter_in_life}
 use Rattle.run_trace.proofs.Lemmas.{is-refl}
 
@@ -94,10 +94,6 @@ module _ (p : Program) (w : Spots) (a : Agrees p w) where
   asked_goes n t c None = passed_goes n t c
   asked_goes n t c (Some reply) = tt
 
-  heard_goes : (life : Life) → GoesRightly (wakes_heard w.sems life) w.threads
-  heard_goes (On m (Signals id up)) = woken_goes (node_in id) id up
-  heard_goes life = grind arith
-
   joiner_goes : (t : Tid) (end : End) (o : Option Birth) → slice_get (w.births t.home) t.seq ≡ o → GoesRightly (joiner_going t end (joiner o)) w.threads
   joiner_goes t end (Some (Awaited by at)) e = Joins at t _ _ (a.awaits t by at e) refl
   joiner_goes t end (Some Lives) e = tt
@@ -106,9 +102,13 @@ module _ (p : Program) (w : Spots) (a : Agrees p w) where
   joiner_goes t end (Some Over) e = tt
   joiner_goes t end None e = tt
 
-  -- whom a label sets going may go
-  pub label_goes : (n : ℕ) (l : Label) → GoesRightly (sets_going p n l w) w.threads
-  label_goes n (Asked t call args bytes) = asked_goes n t (its_call t w) (its_refusal p t w)
-  label_goes n (Heard t) = heard_goes (w.threads t).life
-  label_goes n (Known t) = joiner_goes t (end_in (w.threads t).life) (slice_get (w.births t.home) t.seq) refl
-  label_goes n l = grind arith
+  -- whom a call, a semaphore's call that is heard and an end that is known set going may go
+  pub call_goes : (n : ℕ) (t : Tid) → GoesRightly (going_by_call p n t w) w.threads
+  call_goes n t = asked_goes n t (its_call t w) (its_refusal p t w)
+
+  pub heard_goes : (life : Life) → GoesRightly (wakes_heard w.sems life) w.threads
+  heard_goes (On m (Signals id up)) = woken_goes (node_in id) id up
+  heard_goes life = grind arith
+
+  pub known_goes : (n : ℕ) (t : Tid) → GoesRightly (sets_going p n (Known t) w) w.threads
+  known_goes n t = joiner_goes t (end_in (w.threads t).life) (slice_get (w.births t.home) t.seq) refl

@@ -1,7 +1,6 @@
 -- What the labels tell of a thread is what it comes to by what it has lived through: each label keeps it.
 use Rattle.std.proofs.Common.{◌≡◌, ℕ, ◌+◌, ◌⊎◌, List, [], ◌∷◌, ◌++◌, Option, Some, None, Bool, true, false, eqb, cond, refl, sym, ap, ◌∙◌, subst, arith, inl, inr}
 use Rattle.std.specs.Prelude.{length, slice_get}
-use Rattle.rv_step.specs.Memory.{Memory}
 use Rattle.rv_step.specs.Step.{HartState}
 use Rattle.rv_step.specs.Run.{after, StopsBy}
 use Rattle.rv_step.specs.declared.hart.Stop.{Stop}
@@ -18,31 +17,32 @@ use Rattle.slot_space.specs.Replies.{reply_code, tid_value}
 use Rattle.slot_space.specs.declared.names.Tid.{Tid}
 use Rattle.slot_space.specs.declared.names.Reply.{Reply}
 use Rattle.slot_space.specs.declared.names.Reply.TheVariants as replies
-use Rattle.iso_blocks.specs.Heap.{emptied}
+use Rattle.iso_blocks.specs.Heap.{rounded, place, emptied}
 use Rattle.run_trace.specs.declared.call.Call.{Call}
 use Rattle.run_trace.specs.declared.call.Call.TheVariants.{Exit, Name, Node, Nodes, Yield, Create, Join, Detach, SemNew, SemP, SemV, Isomalloc, Isofree, MigrateSelf, Migrate, Print, Halt, Unknown}
 use Rattle.run_trace.specs.declared.label.Label.{Label}
-use Rattle.run_trace.specs.declared.label.Label.TheVariants.{Born, Ran, Asked, Heard, Judged, Told, Took, Gave, Ended, Known, Left, Came, Shown, Halted}
+use Rattle.run_trace.specs.declared.label.Label.TheVariants.{Born, Ran, Asked, Heard, Judged, Told, Took, Gave, Ended, Known, Left, Came, Decided, Shown, Halted}
 use Rattle.run_trace.specs.declared.label.Why.{Why}
 use Rattle.run_trace.specs.declared.label.Why.TheVariants as why
 use Rattle.run_trace.specs.Names.{is_tid, tid_of}
 use Rattle.run_trace.specs.Program.{Program, code_of}
-use Rattle.run_trace.specs.Guests.{Solo, Guest, newborn, stack_start, with_bytes, with_zero_slots, takes_slots, gives_slots, heap_of}
+use Rattle.run_trace.specs.Guests.{Solo, Guest, newborn, stack_start, with_bytes, takes_slots, gives_slots, heap_of}
 use Rattle.run_trace.specs.Calls.{call_of, refusal}
 use Rattle.run_trace.specs.Console.{asked_bytes}
 use Rattle.run_trace.specs.Same.{Start, Lived, unlived, lived_then, written_then}
 use Rattle.run_trace.specs.Items.{subject}
 use Rattle.run_trace.specs.Alone.{is_about}
 use Rattle.run_trace.specs.World.{World}
-use Rattle.run_trace.specs.Rules.{IsBorn, MayHear, MayTake, MayGive, MayLeave, MayCome, MayShow, MayKnow, SoloRule, LifeRule, RepliesRule, Occasion, quantum_in}
-use Rattle.run_trace.specs.Spots.{Ready, Running, Served, Departs, Ends, Shows, Asks, Detaches, Signals, Life, Unborn, On, Moving, Noting, Gone, Response, Spot, Spots, stack_bytes, creator_served, priority_by, born_spot, ran_spot, ran_stage, stepped, signal_asked, sent_stage, passed_stage, asked_stage, stage_of_call, Going, going_by_call, wakes_heard, sets_going, set_going, heard_life, heard_at, gave_life, shown_life, end_in, after_label}
+use Rattle.run_trace.specs.Rules.{IsBorn, IsForBlock, MayHear, MayTake, MayGive, MayLeave, MayCome, MayShow, MayKnow, SoloRule, LifeRule, RepliesRule, GrantsRule, Occasion, quantum_in}
+use Rattle.run_trace.specs.Spots.{Ready, Running, Due, Served, Seeks, Departs, Ends, Shows, Asks, Detaches, Signals, Life, Unborn, On, Moving, Noting, Gone, Response, Spot, Spots, stack_bytes, creator_served, priority_by, born_spot, ran_spot, ran_stage, stepped, signal_asked, sent_stage, placing_stage, passed_stage, asked_stage, stage_of_call, Going, going_by_call, wakes_heard, sets_going, set_going, heard_life, heard_at, took_life, decided_going, gave_life, shown_life, end_in, after_label}
+use Rattle.run_trace.specs.Stands.{Agrees}
 use Rattle.run_trace.proofs.Lemmas.{is-true}
 use Rattle.trace_laws.proofs.Lives.Heaps.{gave_all}
 use Rattle.trace_laws.proofs.Lives.OwnLives.{exit_value, ends_as, began, with_slots, free_of, given_to, solo_after, printed_by}
-use Rattle.trace_laws.proofs.Lives.Tales.{after_sum, after_nothing, Reached, Calling, IsReady, IsWaiting, IsAsking, IsDue, InService, ServesAs, IsServed, StageTale, LifeTale, Tale, with_life}
+use Rattle.trace_laws.proofs.Lives.Tales.{after_sum, after_nothing, Reached, IsReady, IsWaiting, IsAsking, IsDue, InService, ServesAs, IsServed, StageTale, LifeTale, Tale, with_life}
 use Rattle.trace_laws.proofs.Lives.OwnReplies.{own_judged, own_told}
 use Rattle.trace_laws.proofs.Lives.Signals.{OfSignals, answered_by, signal_by, signal_asked_by}
-use Rattle.trace_laws.proofs.Lives.Goings.{MayGo, Wakes, IsSent, Joins, GoesRightly}
+use Rattle.trace_laws.proofs.Lives.Goings.{MayGo, Wakes, IsSent, Joins, GoesRightly, call_goes, heard_goes, known_goes}
 
 -- ## Each of its labels
 
@@ -144,6 +144,10 @@ own_asked p n t w lines a e k = record { calls = k.calls; life = by (refusal p t
       | false ↦ due (Migrate name to) _ f refl refl
     ]
 
+    placing : (len : ℕ) (o : Option ℕ) → call_of x.state ≡ Isomalloc len → StageTale (code_of p) (placing_stage (Isomalloc len) o) x s.verdict lines a
+    placing len None f = was
+    placing len (Some address) f = serves (Isomalloc len) f (ap (λ z. with_slots z x) (sym was.empty))
+
     passed : (c : Call) → call_of x.state ≡ c → StageTale (code_of p) (passed_stage p n t w c) x s.verdict lines a
     passed (Exit value) f = record {
       was = x;
@@ -155,14 +159,14 @@ own_asked p n t w lines a e k = record { calls = k.calls; life = by (refusal p t
     passed Node f = due Node _ f refl refl
     passed Nodes f = due Nodes _ f refl refl
     passed Yield f = due Yield _ f refl refl
-    passed (Create entry argument priority) f = serves (Create entry argument priority) f (was.empty, refl)
+    passed (Create entry argument priority) f = was
     passed (Join name) f = asks (Join name) f (λ code. refl) (λ code. refl)
     passed (Detach name) f = asks (Detach name) f (λ code. refl) (λ code. refl)
     passed (SemNew value) f = due (SemNew value) _ f refl refl
     passed (SemP id) f = signals id false (asks (SemP id) f (λ code. refl) (λ code. refl))
     passed (SemV id) f = signals id true (asks (SemV id) f (λ code. refl) (λ code. refl))
     passed (Migrate name to) f = sends name to (w.threads (tid_of name)).life f
-    passed (Isomalloc len) f = serves (Isomalloc len) f (ap (λ z. with_slots z x) (sym was.empty))
+    passed (Isomalloc len) f = placing len (place (heap_of x) (rounded len)) f
     passed (Isofree address) f = serves (Isofree address) f (was.empty, inl refl)
     passed (MigrateSelf to) f = serves (MigrateSelf to) f (was.empty, refl)
     passed (Print address len) f = (record { at = was.at; empty = was.empty; address = address; len = len; is = f; bytes_are = refl }, was.lines_are)
@@ -189,20 +193,28 @@ own_heard image n births sems life x v lines a h k = grind (arith, h)
 
 -- ## Slots
 
-more_slots : (a b : List ℕ) (m : Memory) → with_zero_slots (a ++ b) m ≡ with_zero_slots b (with_zero_slots a m)
-more_slots [] b m = refl
-more_slots (s ∷ a) b m = more_slots a b _
-
-own_took : (image : List ℕ) (n first count : ℕ) (life : Life) (g : Guest) (v : Response) (lines : List (List ℕ)) (a : Lived) → MayTake n life → LifeTale image life g.solo v lines a
-    → LifeTale image life (takes_slots (run first count) g).solo v lines (record a { coming = record a.coming { slots = a.coming.slots ++ run first count } })
-own_took image n first count (On m (Served (Isomalloc len))) g v lines a may k = record {
-  was = k.was;
+-- with slots for its block it goes on as one that has a place
+own_took : (image : List ℕ) (n first count : ℕ) (life : Life) (g : Guest) (v : Response) (lines : List (List ℕ)) (a : Lived) → MayTake n life → IsForBlock (call_of g.solo.state) count
+    → LifeTale image life g.solo v lines a
+    → LifeTale image (took_life g.solo.state life) (takes_slots (run first count) g).solo v lines (record a { coming = record a.coming { slots = a.coming.slots ++ run first count } })
+own_took image n first count (On m Seeks) g v lines a may is k = record {
+  was = g.solo;
   at = k.at;
-  serves = k.serves;
-  midst = ap (λ (z : Solo). with_slots (run first count) z) k.midst ∙ ap (λ (m : Memory). record k.was { state = record k.was.state { memory = m } }) (sym (more_slots a.coming.slots (run first count) k.was.state.memory));
+  serves = record { gives = λ slots code. refl; prints = λ code. refl };
+  midst = by (call_of g.solo.state) is;
   lines_are = k.lines_are;
 }
-own_took image n first count life g v lines a may k = grind (arith, may)
+  where
+    slots : List ℕ
+    slots = a.coming.slots ++ run first count
+
+    same : with_slots (run first count) g.solo ≡ with_slots slots g.solo
+    same = ap (λ z. with_slots (z ++ run first count) g.solo) (sym k.empty)
+
+    by : (c : Call) → IsForBlock c count → InService c slots g.solo (with_slots (run first count) g.solo)
+    by (Isomalloc len) h = same
+    by c h = grind (arith, h)
+own_took image n first count life g v lines a may is k = grind (arith, may)
 
 own_gave : (image : List ℕ) (n : ℕ) (slots : List ℕ) (life : Life) (g : Guest) (v : Response) (lines : List (List ℕ)) (a : Lived) → MayGive n life g slots → LifeTale image life g.solo v lines a
     → LifeTale image (gave_life life) (gives_slots slots g).solo v lines a
@@ -243,6 +255,23 @@ going_tale image life new x v lines a (Wakes h m id e f) k = subst (λ z. LifeTa
 going_tale image life new x v lines a (IsSent m to e f) k = subst (λ z. LifeTale image z x v lines a) (sym f) (subst (λ z. LifeTale image z x v lines a) e k)
 going_tale image life new x v lines a (Joins m u reply second e f) k = subst (λ z. LifeTale image z x v lines a) (sym f) (subst (λ z. LifeTale image z x v lines a) e k)
 
+-- whatever call it has come to, the reply that there are no slots gives nothing and writes nothing
+full_same : (c : Call) (x : Solo) → given_to c [] (reply_code replies.Full) x ≡ x
+full_same c x = grind arith
+
+full_silent : (image : List ℕ) (c : Call) (s : HartState) → printed_by image c (reply_code replies.Full) s ≡ []
+full_silent image c s = grind arith
+
+own_refused : (image : List ℕ) (n : ℕ) (s : Spot) (lines : List (List ℕ)) (a : Lived) → s.life ≡ On n Seeks → Tale image s lines a
+    → Tale image (record s { life = On n (Due (reply_code replies.Full)) }) lines a
+own_refused image n s lines a e k =
+    let x : Solo = s.guest.solo in
+    with_life image s (On n (Due (reply_code replies.Full))) lines lines a k (λ y. record {
+      waits = subst (λ z. LifeTale image z x s.verdict lines a) e y;
+      same = full_same (call_of x.state) x;
+      silent = full_silent image (call_of x.state) x.state;
+    })
+
 -- ## A label
 
 module _ (p : Program) (t : Tid) where
@@ -275,15 +304,15 @@ module _ (p : Program) (t : Tid) where
   -- a creator is due its reply
   creator : (n : ℕ) (u : Tid) (why : Why) (entry a0 : ℕ) (w : Spots) (lines : List (List ℕ)) (a : Lived) → IsBorn p n why entry a0 w → Told_of (w.threads t) lines a → Told_of (creator_served n u why w.threads t) lines a
   creator n u why.Main entry a0 w lines a h k = k
-  creator n u (why.Create by) entry a0 w lines a h k = beside w.threads by _ lines a (λ z. record { calls = z.calls; life = due (subst (λ life. LifeTale (code_of p) life (w.threads by).guest.solo (w.threads by).verdict lines a) h.1 z.life) }) k
+  creator n u (why.Create by) entry a0 w lines a h k = beside w.threads by _ lines a (λ z. record { calls = z.calls; life = due (subst (λ life. LifeTale (code_of p) life (w.threads by).guest.solo (w.threads by).verdict lines a) h.0 z.life) }) k
     where
-      due : IsServed (code_of p) (Create entry a0 h.0) a (w.threads by).guest.solo lines → IsDue (code_of p) (tid_value u) a (w.threads by).guest.solo lines
+      due : IsWaiting (code_of p) a (w.threads by).guest.solo lines → IsDue (code_of p) (tid_value u) a (w.threads by).guest.solo lines
       due z =
-          let serves : ServesAs (code_of p) (Create entry a0 h.0) (w.threads by).guest.solo = subst (λ (y : Solo). ServesAs (code_of p) (Create entry a0 h.0) y) (sym z.midst.1) z.serves in
+          let x : Solo = (w.threads by).guest.solo in
           record {
-            waits = record { at = subst (λ (y : Solo). Calling (code_of p) a y) (sym z.midst.1) z.at; empty = z.midst.0; lines_are = z.lines_are };
-            same = serves.gives [] (tid_value u);
-            silent = serves.prints (tid_value u);
+            waits = z;
+            same = ap (λ c. given_to c [] (tid_value u) x) h.2;
+            silent = ap (λ c. printed_by (code_of p) c (tid_value u) x.state) h.2;
           }
   creator n u (why.Inside by bubble) entry a0 w lines a h k = k
   creator n u (why.Service by count) entry a0 w lines a h k = k
@@ -303,38 +332,48 @@ module _ (p : Program) (t : Tid) where
     | false ↦ λ e. set_tale going w lines a h k
   ] refl
 
+  -- the decision about a thread that waits for slots
+  decided : (n : ℕ) (u : Tid) (first : Option ℕ) (w : Tid → Spot) (lines : List (List ℕ)) (a : Lived) → (w u).life ≡ On n Seeks → Told_of (w t) lines a → Told_of (set_going (decided_going n u first) w t) lines a
+  decided n u None w lines a e k = beside w u _ lines a (λ z. own_refused (code_of p) n (w u) lines a e z) k
+  decided n u (Some first) w lines a e k = k
+
   -- each label keeps it
-  pub label_tale : (on : Occasion) (n : ℕ) (l : Label) (w : World) (lines : List (List ℕ)) (a : Lived) → SoloRule p on n l w → LifeRule p on n l w → RepliesRule p on n l w → GoesRightly (sets_going p n l w.spots) w.spots.threads
+  pub label_tale : (on : Occasion) (n : ℕ) (l : Label) (w : World) (lines : List (List ℕ)) (a : Lived) → SoloRule p on n l w → LifeRule p on n l w → RepliesRule p on n l w → GrantsRule p on n l w → Agrees p w.spots
       → Told_of (w.spots.threads t) lines a
       → Told_of ((after_label p n l w.spots).threads t) (written_then t l w.spots lines) (cond (is_about t (subject l)) (lived_then w.spots.remote l a) a)
-  label_tale on n (Born u why entry a0 a1 sp slot) w lines a solo life replies going k =
+  label_tale on n (Born u why entry a0 a1 sp slot) w lines a solo life replies grants agrees k =
       elim (is_tid u t) as (λ v. is_tid u t ≡ v → Told_of (cond v (born_spot n (stack_bytes why w.spots.remote) entry a0 a1 sp slot (priority_by w.spots.threads why)) (creator_served n u why w.spots.threads t)) lines (cond v (lived_then w.spots.remote (Born u why entry a0 a1 sp slot) a) a)) [
         | true ↦ λ e. own_born (code_of p) n (record { entry = entry; argument = a0; stack = slot; bytes = stack_bytes why w.spots.remote }) a1 sp (priority_by w.spots.threads why) (w.spots.threads t) lines a (subst (λ z. (w.spots.threads z).life ≡ Unborn) (is-true u t e) life.0) solo.1 solo.2 k
         | false ↦ λ e. creator n u why entry a0 w.spots lines a solo.0 k
       ] refl
-  label_tale on n (Ran u vp count stop) w lines a solo life replies going k = quietly w.spots.threads u _ lines a _ (λ z. own_ran p n count (quantum_in on.act) stop (w.spots.threads u) lines a life solo.0 solo.1 z) k
-  label_tale on n (Asked u call args bytes) w lines a solo life replies going k = setting (going_by_call p n u w.spots) w.spots.threads u _ lines a going (λ z. own_asked p n u w.spots lines a life z) k
-  label_tale on n (Heard u) w lines a solo life replies going k =
-      setting (wakes_heard w.spots.sems (w.spots.threads u).life) w.spots.threads u _ lines a going
+  label_tale on n (Ran u vp count stop) w lines a solo life replies grants agrees k = quietly w.spots.threads u _ lines a _ (λ z. own_ran p n count (quantum_in on.act) stop (w.spots.threads u) lines a life solo.0 solo.1 z) k
+  label_tale on n (Asked u call args bytes) w lines a solo life replies grants agrees k = setting (going_by_call p n u w.spots) w.spots.threads u _ lines a (call_goes p w.spots agrees n u) (λ z. own_asked p n u w.spots lines a life z) k
+  label_tale on n (Heard u) w lines a solo life replies grants agrees k =
+      setting (wakes_heard w.spots.sems (w.spots.threads u).life) w.spots.threads u _ lines a (heard_goes p w.spots agrees (w.spots.threads u).life)
       (λ z. with_life (code_of p) (w.spots.threads u) _ lines lines a z (λ y. own_heard (code_of p) n w.spots.births w.spots.sems (w.spots.threads u).life _ _ lines a life y)) k
-  label_tale on n (Judged u reply extra) w lines a solo life replies going k =
+  label_tale on n (Judged u reply extra) w lines a solo life replies grants agrees k =
       quietly w.spots.threads u _ lines a _ (λ z. record { calls = z.calls; life = own_judged (code_of p) n (w.spots.threads u).life (w.spots.threads u).guest (w.spots.threads u).verdict lines a reply extra life replies z.life }) k
-  label_tale on n (Told u) w lines a solo life replies going k = quietly w.spots.threads u _ lines a _ (λ z. own_told (code_of p) n (w.spots.threads u) lines a life z) k
-  label_tale on n (Took u first count) w lines a solo life replies going k =
-      quietly w.spots.threads u _ lines a _ (λ z. record { calls = z.calls; life = own_took (code_of p) n first count (w.spots.threads u).life (w.spots.threads u).guest (w.spots.threads u).verdict lines a life z.life }) k
-  label_tale on n (Gave u slots) w lines a solo life replies going k =
+  label_tale on n (Told u) w lines a solo life replies grants agrees k = quietly w.spots.threads u _ lines a _ (λ z. own_told (code_of p) n (w.spots.threads u) lines a life z) k
+  label_tale on n (Took u first count) w lines a solo life replies grants agrees k =
+      quietly w.spots.threads u _ lines a _ (λ z. record { calls = z.calls; life = own_took (code_of p) n first count (w.spots.threads u).life (w.spots.threads u).guest (w.spots.threads u).verdict lines a life grants.0 z.life }) k
+  label_tale on n (Gave u slots) w lines a solo life replies grants agrees k =
       quietly w.spots.threads u _ lines a a (λ z. record { calls = z.calls; life = own_gave (code_of p) n slots (w.spots.threads u).life (w.spots.threads u).guest (w.spots.threads u).verdict lines a life z.life }) k
-  label_tale on n (Ended u end) w lines a solo life replies going k =
+  label_tale on n (Ended u end) w lines a solo life replies grants agrees k =
       quietly w.spots.threads u _ lines a a (λ z. with_life (code_of p) (w.spots.threads u) _ lines lines a z (λ y. subst (λ h. LifeTale (code_of p) h (w.spots.threads u).guest.solo (w.spots.threads u).verdict lines a) life y)) k
-  label_tale on n (Known u) w lines a solo life replies going k =
-      setting (sets_going p n (Known u) w.spots) w.spots.threads u _ lines a going
+  label_tale on n (Known u) w lines a solo life replies grants agrees k =
+      setting (sets_going p n (Known u) w.spots) w.spots.threads u _ lines a (known_goes p w.spots agrees n u)
       (λ z. with_life (code_of p) (w.spots.threads u) _ lines lines a z (λ y. own_known (code_of p) (w.spots.threads u).life _ _ lines a life.0 y)) k
-  label_tale on n (Shown u) w lines a solo life replies going k =
+  label_tale on n (Shown u) w lines a solo life replies grants agrees k =
       mine w.spots.threads u _ lines _ a a (λ z. with_life (code_of p) (w.spots.threads u) _ lines _ a z (λ y. own_shown (code_of p) n (w.spots.threads u).life _ _ lines a life y)) k
-  label_tale on n (Halted u) w lines a solo life replies going k =
+  label_tale on n (Halted u) w lines a solo life replies grants agrees k =
       quietly w.spots.threads u _ lines a a (λ z. with_life (code_of p) (w.spots.threads u) _ lines lines a z (λ y. subst (λ h. LifeTale (code_of p) h (w.spots.threads u).guest.solo (w.spots.threads u).verdict lines a) life y)) k
-  label_tale on n (Left u to) w lines a solo life replies going k =
+  label_tale on n (Left u to) w lines a solo life replies grants agrees k =
       quietly w.spots.threads u _ lines a a (λ z. with_life (code_of p) (w.spots.threads u) _ lines lines a z (λ y. own_left (code_of p) n to (w.spots.threads u).life _ _ lines a life.0 y)) k
-  label_tale on n (Came u) w lines a solo life replies going k =
+  label_tale on n (Came u) w lines a solo life replies grants agrees k =
       quietly w.spots.threads u _ lines a a (λ z. with_life (code_of p) (w.spots.threads u) _ lines lines a z (λ y. own_came (code_of p) n (w.spots.threads u).life _ _ lines a life y)) k
-  label_tale on n l w lines a solo life replies going k = absurd life
+  label_tale on n (Decided u count first) w lines a solo life replies grants agrees k =
+      elim (is_tid u t) as (λ v. Told_of (set_going (decided_going n u first) w.spots.threads t) lines (cond v a a)) [
+        | true ↦ decided n u first w.spots.threads lines a life k
+        | false ↦ decided n u first w.spots.threads lines a life k
+      ]
+  label_tale on n l w lines a solo life replies grants agrees k = absurd life

@@ -12,10 +12,10 @@ use Rattle.slot_space.specs.Addresses.{slot_base}
 use Rattle.slot_space.proofs.Lemmas.{lowest_run-found}
 use Rattle.iso_blocks.specs.Heap.{Heap, rounded, place, placed, has_room, with_block, without, emptied}
 use Rattle.run_trace.specs.declared.call.Call.{Call}
-use Rattle.run_trace.specs.declared.call.Call.TheVariants.{Create, Isomalloc, Isofree, MigrateSelf, Print}
+use Rattle.run_trace.specs.declared.call.Call.TheVariants.{Isomalloc, Isofree, MigrateSelf, Print}
 use Rattle.run_trace.specs.declared.label.Extra.{Extra}
 use Rattle.run_trace.specs.Guests.{Solo, Guest, without_slots, heap_of}
-use Rattle.run_trace.specs.Calls.{place_code, call_of}
+use Rattle.run_trace.specs.Calls.{call_of}
 use Rattle.run_trace.specs.Same.{Lived}
 use Rattle.run_trace.specs.Rules.{MayJudge, MayTell, IsReply}
 use Rattle.run_trace.specs.Spots.{Due, Served, Told_next, Told_then, Showing, Shown_there, Answers, Answered, Life, On, Response, Spot, judged_life, judged_guest, told_stage, told_guest}
@@ -75,14 +75,13 @@ judged_served image a x y lines reply extra c at serves lines_are same silent = 
   lines_are = lines_are ∙ sym (append-nil (lines_before image a)) ∙ ap (λ z. lines_before image a ++ z) (sym (serves.prints reply ∙ silent));
 }
 
--- a block is placed where the reply is an address
-placed_so : (x y : Solo) (slots : List ℕ) (len reply : ℕ) (o : Option ℕ) → place (heap_of x) (rounded len) ≡ o → x ≡ with_slots slots y → reply ≡ place_code o
-    → record x { live = (placed (heap_of x) (rounded len) o).live } ≡ allotted (rounded len) reply (is_address reply) (with_slots slots y)
-placed_so x y slots len reply None e same code = same ∙ sym (ap (λ z. allotted (rounded len) z (is_address z) (with_slots slots y)) code)
-placed_so x y slots len reply (Some address) e same code =
-    let low : is_address address ≡ true = place_low (heap_of x) (rounded len) address e in
-    ap (λ (z : Solo). record z { live = with_block (address, rounded len) z.live }) same
-    ∙ sym (ap (λ z. allotted (rounded len) z (is_address z) (with_slots slots y)) code ∙ ap (λ b. allotted (rounded len) address b (with_slots slots y)) low)
+-- a block is placed, and the reply is its address
+placed_so : (x y : Solo) (slots : List ℕ) (len reply : ℕ) → place (heap_of x) (rounded len) ≡ Some reply → x ≡ with_slots slots y
+    → record x { live = (placed (heap_of x) (rounded len) (place (heap_of x) (rounded len))).live } ≡ allotted (rounded len) reply (is_address reply) (with_slots slots y)
+placed_so x y slots len reply e same =
+    ap (λ o. record x { live = (placed (heap_of x) (rounded len) o).live }) e
+    ∙ ap (λ (z : Solo). record z { live = with_block (reply, rounded len) z.live }) same
+    ∙ sym (ap (λ b. allotted (rounded len) reply b (with_slots slots y)) (place_low (heap_of x) (rounded len) reply e))
 
 -- a block is freed, and the slots that it alone met are gone
 freed_so : (x y : Solo) (address : ℕ) → ((x ≡ y) ⊎ (x ≡ free_of (emptied (heap_of y) address) y)) → emptied (heap_of x) address ≡ []
@@ -118,11 +117,9 @@ own_judged image n (On m (Answers h answer second)) g v lines a reply extra may 
   at = k.waits.at;
   lines_are = k.waits.lines_are;
 }
-own_judged image n (On m (Served (Create entry argument priority))) g v lines a reply extra may is k =
-    judged_served image a g.solo k.was lines reply extra (Create entry argument priority) k.at k.serves k.lines_are k.midst.1 refl
 own_judged image n (On m (Served (Isomalloc len))) g v lines a reply extra may is k =
     judged_served image a _ k.was lines reply extra (Isomalloc len) k.at k.serves k.lines_are
-    (placed_so g.solo k.was a.coming.slots len reply (place (heap_of g.solo) (rounded len)) refl k.midst is.0) refl
+    (placed_so g.solo k.was a.coming.slots len reply is.0 k.midst) refl
 own_judged image n (On m (Served (Isofree address))) g v lines a reply extra may is k =
     judged_served image a _ k.was lines reply extra (Isofree address) k.at k.serves k.lines_are
     (freed_so g.solo k.was address k.midst.1 is.0.1

@@ -17,9 +17,9 @@ use Rattle.trace_laws.specs.Obeys.{ObeyEach, Obey, AgreesRule, world_at}
 use Rattle.run_trace.specs.Cluster.{Net, fresh_net}
 use Rattle.run_trace.specs.Holding.{Location, On_node, On_link, IsAt}
 use Rattle.run_trace.specs.Legality.{Legal}
-use Rattle.run_trace.specs.Rules.{spots_of, SoloRule, LifeRule, RepliesRule, Occasion, saying}
+use Rattle.run_trace.specs.Rules.{spots_of, SoloRule, LifeRule, RepliesRule, GrantsRule, Occasion, saying}
 use Rattle.run_trace.specs.Same.{Start, Stretch, Lived, lived_then, lived_in, lived, written_then, written_in, written, IsUpTo, HasLivedLike, HasWritten, HasEnded}
-use Rattle.run_trace.specs.Spots.{Ready, Stays, Shows, Showing, Shown_there, Asks, Awaits, Answers, Answered, Detaches, Signals, Queues, Life, Unborn, On, Moving, Noting, Gone, Response, Spot, Spots, at_first, after_labels}
+use Rattle.run_trace.specs.Spots.{Ready, Seeks, Stays, Shows, Showing, Shown_there, Asks, Awaits, Answers, Answered, Detaches, Signals, Queues, Life, Unborn, On, Moving, Noting, Gone, Response, Spot, Spots, at_first, after_labels}
 use Rattle.run_trace.specs.Stands.{Stands, busy}
 use Rattle.run_trace.specs.Trace.{net_after_trace}
 use Rattle.trace_laws.proofs.Outcomes.Consequences.{Found, found, LivesAt, remote_are}
@@ -27,31 +27,30 @@ use Rattle.trace_laws.proofs.Lives.OwnLives.{end_at, ran_on, solo_after, named_l
 use Rattle.trace_laws.proofs.Lives.Tales.{Comes, lines_before, LifeTale, Tale}
 use Rattle.trace_laws.proofs.Lives.OwnReplies.{came_so}
 use Rattle.trace_laws.proofs.Lives.OwnLabels.{label_tale}
-use Rattle.trace_laws.proofs.Lives.Goings.{label_goes}
 use Rattle.trace_laws.proofs.Outcomes.Wholes.{starts, run_whole, Whole}
 
 -- ## Over a trace
 
 module _ (p : Program) (t : Tid) where
-  labels_tale : (on : Occasion) (n : ℕ) (ls : List Label) (w : World) (lines : List (List ℕ)) (a : Lived) → ObeyEach SoloRule p on n ls w → ObeyEach LifeRule p on n ls w → ObeyEach RepliesRule p on n ls w → ObeyEach AgreesRule p on n ls w
+  labels_tale : (on : Occasion) (n : ℕ) (ls : List Label) (w : World) (lines : List (List ℕ)) (a : Lived) → ObeyEach SoloRule p on n ls w → ObeyEach LifeRule p on n ls w → ObeyEach RepliesRule p on n ls w → ObeyEach GrantsRule p on n ls w → ObeyEach AgreesRule p on n ls w
       → Tale (code_of p) (w.spots.threads t) lines a → Tale (code_of p) ((after_labels p n ls w.spots).threads t) (written_in p n t ls w.spots lines) (lived_in w.spots.remote t ls a)
-  labels_tale on n [] w lines a solo life replies agrees k = k
-  labels_tale on n (l ∷ ls) w lines a solo life replies agrees k =
-      labels_tale (saying l on) n ls (world_after p n l w) (written_then t l w.spots lines) (cond (is_about t (subject l)) (lived_then w.spots.remote l a) a) solo.1 life.1 replies.1 agrees.1
-      (label_tale p t on n l w lines a solo.0 life.0 replies.0 (label_goes p w.spots agrees.0 n l) k)
+  labels_tale on n [] w lines a solo life replies grants agrees k = k
+  labels_tale on n (l ∷ ls) w lines a solo life replies grants agrees k =
+      labels_tale (saying l on) n ls (world_after p n l w) (written_then t l w.spots lines) (cond (is_about t (subject l)) (lived_then w.spots.remote l a) a) solo.1 life.1 replies.1 grants.1 agrees.1
+      (label_tale p t on n l w lines a solo.0 life.0 replies.0 grants.0 agrees.0 k)
 
-  trace_tale : (base : Net) (trace : List Entry) → Obey SoloRule p (at_first p) base trace → Obey LifeRule p (at_first p) base trace → Obey RepliesRule p (at_first p) base trace → Obey AgreesRule p (at_first p) base trace
+  trace_tale : (base : Net) (trace : List Entry) → Obey SoloRule p (at_first p) base trace → Obey LifeRule p (at_first p) base trace → Obey RepliesRule p (at_first p) base trace → Obey GrantsRule p (at_first p) base trace → Obey AgreesRule p (at_first p) base trace
       → Tale (code_of p) ((spots_of p (at_first p) trace).threads t) (written p t trace) (lived t trace)
-  trace_tale base [] solo life replies agrees = record { calls = tt; life = (refl, refl) }
-  trace_tale base (x ∷ xs) solo life replies agrees =
+  trace_tale base [] solo life replies grants agrees = record { calls = tt; life = (refl, refl) }
+  trace_tale base (x ∷ xs) solo life replies grants agrees =
       subst (λ z. Tale (code_of p) ((spots_of p (at_first p) (x ∷ xs)).threads t) (written p t (x ∷ xs)) (lived_in z t x.labels (lived t xs))) (remote_are p xs)
-      (labels_tale (occasion x (world_at (spots_of p (at_first p) xs) (net_after_trace p base xs))) x.node x.labels (world_at (spots_of p (at_first p) xs) (net_after_trace p base xs)) (written p t xs) (lived t xs) solo.1 life.1 replies.1 agrees.1 (trace_tale base xs solo.0 life.0 replies.0 agrees.0))
+      (labels_tale (occasion x (world_at (spots_of p (at_first p) xs) (net_after_trace p base xs))) x.node x.labels (world_at (spots_of p (at_first p) xs) (net_after_trace p base xs)) (written p t xs) (lived t xs) solo.1 life.1 replies.1 grants.1 agrees.1 (trace_tale base xs solo.0 life.0 replies.0 grants.0 agrees.0))
 
   legal_whole : (trace : List Entry) → Legal p trace → Whole p (at_first p) (fresh_net p) trace
   legal_whole trace l = run_whole p (at_first p) (fresh_net p) (starts p) trace l.runs
 
   legal_tale : (trace : List Entry) → Legal p trace → Tale (code_of p) ((spots_of p (at_first p) trace).threads t) (written p t trace) (lived t trace)
-  legal_tale trace l = let all : Whole p (at_first p) (fresh_net p) trace = legal_whole trace l in trace_tale (fresh_net p) trace all.obeys.solo all.obeys.life all.obeys.replies all.agrees
+  legal_tale trace l = let all : Whole p (at_first p) (fresh_net p) trace = legal_whole trace l in trace_tale (fresh_net p) trace all.obeys.solo all.obeys.life all.obeys.replies all.obeys.grants all.agrees
 
   legal_stands : (trace : List Entry) → Legal p trace → Stands p (spots_of p (at_first p) trace) (net_after_trace p (fresh_net p) trace)
   legal_stands trace l = (legal_whole trace l).stands
@@ -87,6 +86,7 @@ record Rests (image : List ℕ) (life : Life) (x : Solo) (lines : List (List ℕ
 rests : (image : List ℕ) (life : Life) (x : Solo) (v : Response) (lines : List (List ℕ)) (a : Lived) → Idle life → LifeTale image life x v lines a → Rests image life x lines a
 rests image Unborn x v lines a s k = record { comes = tt; lines_are = k.0 ∙ sym (ap (lines_after image a.start) k.1) }
 rests image (On m Ready) x v lines a s k = record { comes = k.reached; lines_are = k.lines_are }
+rests image (On m Seeks) x v lines a s k = record { comes = k.at.reached; lines_are = k.lines_are }
 rests image (On m Stays) x v lines a s k = record { comes = k.at.reached; lines_are = k.lines_are }
 rests image (On m (Shows bytes)) x v lines a s k = record { comes = k.0.at.reached; lines_are = k.1 }
 rests image (On m Shown_there) x v lines a s k = record {

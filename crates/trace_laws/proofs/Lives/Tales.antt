@@ -11,7 +11,7 @@ use Rattle.run_trace.specs.declared.call.Call.TheVariants.{Isomalloc, Isofree, P
 use Rattle.run_trace.specs.Guests.{Solo, heap_of}
 use Rattle.run_trace.specs.Calls.{call_of}
 use Rattle.run_trace.specs.Same.{Start, Stretch, Lived}
-use Rattle.run_trace.specs.Spots.{Stage, Ready, Running, Due, Served, Told_next, Told_then, Departs, Ends, Leaves, Halts, Stays, Shows, Showing, Shown_there, Asks, Awaits, Answers, Answered, Detaches, Signals, Queues, Life, Unborn, On, Moving, Noting, Gone, Response, Spot}
+use Rattle.run_trace.specs.Spots.{Stage, Ready, Running, Due, Served, Seeks, Told_next, Told_then, Departs, Ends, Leaves, Halts, Stays, Shows, Showing, Shown_there, Asks, Awaits, Answers, Answered, Detaches, Signals, Queues, Life, Unborn, On, Moving, Noting, Gone, Response, Spot}
 use Rattle.trace_laws.proofs.Lives.OwnLives.{end_at, with_slots, free_of, given_to, solo_after, printed_by, printed_at, named_line, lines_after, EachCalls}
 
 -- ## Steps
@@ -128,6 +128,7 @@ StageTale image Ready x v lines a = IsReady image a x lines
 StageTale image Running x v lines a = IsWaiting image a x lines
 StageTale image (Due code) x v lines a = IsDue image code a x lines
 StageTale image (Served c) x v lines a = IsServed image c a x lines
+StageTale image Seeks x v lines a = IsWaiting image a x lines
 StageTale image Told_next x v lines a = IsJudged image v a x lines
 StageTale image (Told_then to) x v lines a = IsJudged image v a x lines
 StageTale image (Departs to) x v lines a = IsReady image a x lines

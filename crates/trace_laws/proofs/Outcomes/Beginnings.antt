@@ -15,8 +15,7 @@ use Rattle.run_trace.specs.Machine.{local_event, is_range, boots, boots_in, free
 use Rattle.run_trace.specs.Cluster.{Net, fresh_net}
 use Rattle.run_trace.specs.Trace.{IsRun, net_after_trace, sends_or, prints_or}
 use Rattle.run_trace.specs.Histories.{IsInOrder, IsEntryAbove}
-use Rattle.run_trace.specs.Spots.{Of_node, Nobody}
-use Rattle.run_trace.specs.Rules.{is_free}
+use Rattle.run_trace.specs.Spots.{Of_node, Nobody, is_free}
 use Rattle.run_trace.specs.Legality.{first_labels, boot_entry, boot_entries, AreRising, NoneAbove, Legal}
 use Rattle.trace_laws.specs.Beginnings.{BeginsSo}
 use Rattle.trace_laws.proofs.Outcomes.Wholes.{own_slots}

@@ -6,14 +6,15 @@ use Rattle.std.proofs.lemmas.Bool.{eqb-true}
 use Rattle.rv_step.specs.Step.{HartState}
 use Rattle.rv_step.specs.declared.hart.Stop.{Stop}
 use Rattle.rv_step.specs.declared.hart.Stop.TheVariants as stops
-use Rattle.slot_space.specs.Sets.{has}
+use Rattle.slot_space.specs.Sets.{has, run}
 use Rattle.slot_space.specs.declared.names.Tid.{Tid}
 use Rattle.slot_space.specs.declared.names.Reply.{Reply}
 use Rattle.slot_space.specs.declared.names.Reply.TheVariants as replies
 use Rattle.slot_space.specs.Replies.{tid_value}
 use Rattle.marcel_core.specs.declared.birth.Birth.{Birth}
 use Rattle.run_trace.specs.declared.call.Call.{Call}
-use Rattle.run_trace.specs.declared.call.Call.TheVariants.{SemP, SemV, Migrate}
+use Rattle.run_trace.specs.declared.call.Call.TheVariants.{Create, SemP, SemV, Isomalloc, Migrate}
+use Rattle.iso_blocks.specs.Heap.{rounded, place}
 use Rattle.run_trace.specs.declared.entry.Entry.{Entry}
 use Rattle.run_trace.specs.declared.label.Label.{Label}
 use Rattle.run_trace.specs.declared.label.Label.TheVariants.{Born, Ran, Asked, Heard, Judged, Told, Took, Gave, Ended, Known, Left, Came, Lent, InHand, Decided, Returned, Home, Down, Burst, Gathered, Shown, Halted, Dropped}
@@ -22,7 +23,7 @@ use Rattle.run_trace.specs.declared.label.Why.TheVariants as why
 use Rattle.run_trace.specs.Names.{is_tid, tid_of}
 use Rattle.run_trace.specs.Program.{Program, code_of}
 use Rattle.run_trace.specs.Calls.{call_of, refusal}
-use Rattle.run_trace.specs.Guests.{Solo, Guest, Thread, waits, guest_slots, told, gives_slots, packed, unpacked}
+use Rattle.run_trace.specs.Guests.{Solo, Guest, Thread, waits, guest_slots, heap_of, told, takes_slots, gives_slots, packed, unpacked}
 use Rattle.run_trace.specs.declared.packet.Body.{Body}
 use Rattle.run_trace.specs.declared.packet.Body.TheVariants.{Mover}
 use Rattle.run_trace.specs.declared.packet.Packet.{Packet}
@@ -30,15 +31,15 @@ use Rattle.run_trace.specs.Cluster.{Net}
 use Rattle.run_trace.specs.World.{World, world_after}
 use Rattle.run_trace.specs.Trace.{net_after_trace}
 use Rattle.trace_laws.specs.Obeys.{Obey, world_at, ObeyEach, AgreesRule}
-use Rattle.run_trace.specs.Rules.{Occasion, saying, spots_of, IsBorn, MayHear, MayJudge, MayTell, MayKnow, MayLeave, MayCome, MayShow, SoloRule, LifeRule}
+use Rattle.run_trace.specs.Rules.{Occasion, saying, spots_of, IsBorn, MayHear, MayJudge, MayTell, MayTake, MayGive, MayKnow, MayLeave, MayCome, MayShow, SoloRule, LifeRule}
 use Rattle.run_trace.specs.Obeying.{occasion}
-use Rattle.run_trace.specs.Spots.{Stage, Signals, Life, Unborn, On, Moving, Noting, Gone, Response, Spot, Spots, Holder, Of_node, Of_thread, update, creator_served, at_first, after_label, after_labels, stepped, ran_stage, ran_spot, Going, sent_stage, passed_stage, going_by_call, wakes_heard, sets_going, set_going, asked_stage, heard_at, judged_life, judged_guest, told_stage, gave_life, shown_life, second_of, remote_after}
+use Rattle.run_trace.specs.Spots.{Remote, Stage, Signals, Life, Unborn, On, Moving, Noting, Gone, Response, Spot, Spots, Holder, Of_node, Of_thread, update, creator_served, at_first, after_label, after_labels, stepped, ran_stage, ran_spot, Going, sent_stage, placing_stage, passed_stage, solo_of, its_call, going_by_call, wakes_heard, sets_going, set_going, asked_stage, heard_at, judged_life, judged_guest, told_stage, took_life, decided_going, gave_life, shown_life, second_of, remote_after}
 use Rattle.run_trace.specs.Stands.{Stands, thread_part, thread_in_life, thread_in_stage, held, slots_held, Word, Travels, word_subject, word_of, words_of, words_about, ways_of, on_link}
 use Rattle.run_trace.specs.Alone.{Alone, alone_then, alone_after, alone_in, alone_of, asked_in, heap_call, unless_refused, answered, is_about, EachRunsAlone, remote_in, remote_of}
 use Rattle.run_trace.specs.Holding.{Location, On_node, On_link, IsAmong, IsAt, Has, EachHeldOnce}
 use Rattle.run_trace.proofs.Lemmas.{is-true, is-refl}
 use Rattle.trace_laws.proofs.Lives.Signals.{OfSignals, answered_by, signal_by, signal_asked_by}
-use Rattle.trace_laws.proofs.Lives.Goings.{MayGo, Wakes, IsSent, Joins, GoesRightly, label_goes}
+use Rattle.trace_laws.proofs.Lives.Goings.{MayGo, Wakes, IsSent, Joins, GoesRightly, call_goes, heard_goes, known_goes}
 use Rattle.trace_laws.proofs.Lists.Parts.{Tells, at_way, thread_holds, node_holds}
 use Rattle.trace_laws.proofs.Lists.Subjects.{IsOneOf, on_way}
 use Rattle.run_trace.specs.Items.{subject, same_subject, Thread as Subject_of}
@@ -96,7 +97,7 @@ found p w net s (On_node n) t g h =
 found p w net s (On_link i j) t g h =
     let o : Spot = w.threads t in
     let word : Word = Travels (packed t g) in
-    let item : IsOneOf word (on_link i j (ways_of t o.life o.verdict o.guest)) = subst (λ xs. IsOneOf word xs) (s.links i j (Subject_of t)) (word_found j (net.links i j) (Mover (packed t g)) t refl h) in
+    let item : IsOneOf word (on_link i j (ways_of t o.life o.verdict o.guest)) = subst (λ xs. IsOneOf word xs) (s.links i j t) (word_found j (net.links i j) (Mover (packed t g)) t refl h) in
     let tells : Tells t i j word o.life o.verdict o.guest = at_way t o.life o.verdict o.guest (record { from = i; to = j; word = word }) (on_way i j (ways_of t o.life o.verdict o.guest) word item) in
     let same : o.guest ≡ g = ap unpacked (sym tells.1) in
     record { life = tells.0; guest = same; slots = ap (λ z. slots_held (held z o.guest)) tells.0 ∙ ap guest_slots same }
@@ -136,7 +137,7 @@ one_holder p w net s slot a b h k = has_is p w net s slot a h ∙ sym (has_is p 
 abbrev asking : Spot → Option Call → Alone
 asking s asked = record { solo = s.guest.solo; asked = asked; reply = s.verdict }
 
-other_life : (w : Tid → Spot) (by t : Tid) (life : Life) → asked_in life ≡ asked_in (w by).life → alone_in (update w by (record (w by) { life = life }) t) ≡ alone_in (w t)
+other_life : (w : Tid → Spot) (by t : Tid) (life : Life) → asked_in life (w by).guest.solo ≡ asked_in (w by).life (w by).guest.solo → alone_in (update w by (record (w by) { life = life }) t) ≡ alone_in (w t)
 other_life w by t life h = elim (is_tid by t) as (λ b. is_tid by t ≡ b → alone_in (cond b (record (w by) { life = life }) (w t)) ≡ alone_in (w t)) [
   | true ↦ λ e. ap (asking (w by)) h ∙ ap (λ z. alone_in (w z)) (is-true by t e)
   | false ↦ λ e. refl
@@ -145,22 +146,25 @@ other_life w by t life h = elim (is_tid by t) as (λ b. is_tid by t ≡ b → al
 -- a creator asks nothing of its heap
 served_creator : (p : Program) (n : ℕ) (u : Tid) (why : Why) (entry a0 : ℕ) (w : Spots) (t : Tid) → IsBorn p n why entry a0 w → alone_in (creator_served n u why w.threads t) ≡ alone_in (w.threads t)
 served_creator p n u why.Main entry a0 w t h = refl
-served_creator p n u (why.Create by) entry a0 w t h = other_life w.threads by t _ (sym (ap asked_in h.1))
+served_creator p n u (why.Create by) entry a0 w t h =
+    let x : Solo = (w.threads by).guest.solo in
+    other_life w.threads by t _ (sym (ap (λ life. asked_in life x) h.0 ∙ ap heap_call h.2))
 served_creator p n u (why.Inside by bubble) entry a0 w t h = refl
 served_creator p n u (why.Service by count) entry a0 w t h = refl
 
 -- neither does one that calls a semaphore, nor whoever is set going
-signals_ask : (h m id : ℕ) → OfSignals (λ stage. asked_in (On m stage) ≡ None) h id
-signals_ask h m id = record { due = λ code. refl; answers = λ reply. refl; queues = refl }
+signals_ask : (h m id : ℕ) (x : Solo) → OfSignals (λ stage. asked_in (On m stage) x ≡ None) h id
+signals_ask h m id x = record { due = λ code. refl; answers = λ reply. refl; queues = refl }
 
-going_asks : (old new : Life) → MayGo old new → asked_in new ≡ asked_in old
-going_asks old new (Wakes h m id e f) = ap asked_in f ∙ answered_by (λ stage. asked_in (On m stage) ≡ None) h m id (replies.Value 0) (signals_ask h m id) ∙ sym (ap asked_in e)
-going_asks old new (IsSent m to e f) = ap asked_in f ∙ sym (ap asked_in e)
-going_asks old new (Joins m u reply second e f) = ap asked_in f ∙ sym (ap asked_in e)
+going_asks : (old new : Life) (x : Solo) → MayGo old new → asked_in new x ≡ asked_in old x
+going_asks old new x (Wakes h m id e f) =
+    ap (λ z. asked_in z x) f ∙ answered_by (λ stage. asked_in (On m stage) x ≡ None) h m id (replies.Value 0) (signals_ask h m id x) ∙ sym (ap (λ z. asked_in z x) e)
+going_asks old new x (IsSent m to e f) = ap (λ z. asked_in z x) f ∙ sym (ap (λ z. asked_in z x) e)
+going_asks old new x (Joins m u reply second e f) = ap (λ z. asked_in z x) f ∙ sym (ap (λ z. asked_in z x) e)
 
 set_alone : (going : Going) (w : Tid → Spot) (t : Tid) → GoesRightly going w → alone_in (set_going going w t) ≡ alone_in (w t)
 set_alone None w t h = refl
-set_alone (Some going) w t h = other_life w going.0 t going.1 (going_asks (w going.0).life going.1 h)
+set_alone (Some going) w t h = other_life w going.0 t going.1 (going_asks (w going.0).life going.1 (w going.0).guest.solo h)
 
 -- a change of u's spot, as t sees it
 seen : (w : Tid → Spot) (u t : Tid) (s : Spot) (f : Tid → Alone → Alone) → alone_in s ≡ f u (alone_in (w u)) → alone_in (update w u s t) ≡ cond (is_tid u t) (f t (alone_in (w t))) (alone_in (w t))
@@ -174,59 +178,76 @@ seen_going going w u t s f h e =
     ∙ ap (λ a. cond (is_tid u t) (f t a) a) (set_alone going w t h)
 
 -- one that asks nothing before and nothing after
-seen_so : (w : Tid → Spot) (u t : Tid) (life : Life) → asked_in life ≡ asked_in (w u).life → alone_in (update w u (record (w u) { life = life }) t) ≡ cond (is_tid u t) (alone_in (w t)) (alone_in (w t))
+seen_so : (w : Tid → Spot) (u t : Tid) (life : Life) → asked_in life (w u).guest.solo ≡ asked_in (w u).life (w u).guest.solo
+    → alone_in (update w u (record (w u) { life = life }) t) ≡ cond (is_tid u t) (alone_in (w t)) (alone_in (w t))
 seen_so w u t life h = seen w u t (record (w u) { life = life }) (λ z a. a) (ap (asking (w u)) h)
 
-ran_asks : (n : ℕ) (stop : Stop) (s : HartState) → asked_in (On n (ran_stage stop s)) ≡ None
-ran_asks n stops.Quantum s = refl
-ran_asks n stops.Call s = refl
-ran_asks n (stops.Fault kind) s = refl
+-- the decision about one that waits for slots: it asks nothing then
+seen_decided : (p : Program) (remote : Remote) (n : ℕ) (w : Tid → Spot) (u t : Tid) (count : ℕ) (first : Option ℕ)
+    → alone_in (set_going (decided_going n u first) w t) ≡ cond (is_tid u t) (alone_then p remote t (Decided u count first) (alone_in (w t))) (alone_in (w t))
+seen_decided p remote n w u t count None = seen w u t _ (λ z a. alone_then p remote z (Decided u count None) a) refl
+seen_decided p remote n w u t count (Some first) = elim (is_tid u t) as (λ b. alone_in (w t) ≡ cond b (alone_in (w t)) (alone_in (w t))) [ true ↦ refl | false ↦ refl ]
 
-sent_asks : (n : ℕ) (itself : Bool) (to : ℕ) (life : Life) → asked_in (On n (sent_stage n itself to life)) ≡ None
-sent_asks n true to life = refl
-sent_asks n false to life = refl
+ran_asks : (n : ℕ) (stop : Stop) (s : HartState) (x : Solo) → asked_in (On n (ran_stage stop s)) x ≡ None
+ran_asks n stops.Quantum s x = refl
+ran_asks n stops.Call s x = refl
+ran_asks n (stops.Fault kind) s x = refl
 
-passed_asks : (p : Program) (n : ℕ) (t : Tid) (w : Spots) (c : Call) → asked_in (On n (passed_stage p n t w c)) ≡ heap_call c
-passed_asks p n t w (SemP id) = signal_asked_by (λ stage. asked_in (On n stage) ≡ None) n id false (w.sems n) (signals_ask n n id) refl
-passed_asks p n t w (SemV id) = signal_asked_by (λ stage. asked_in (On n stage) ≡ None) n id true (w.sems n) (signals_ask n n id) refl
-passed_asks p n t w (Migrate name to) = sent_asks n (eqb name (tid_value t)) to (w.threads (tid_of name)).life
-passed_asks p n t w c = grind arith
+sent_asks : (n : ℕ) (itself : Bool) (to : ℕ) (life : Life) (x : Solo) → asked_in (On n (sent_stage n itself to life)) x ≡ None
+sent_asks n true to life x = refl
+sent_asks n false to life x = refl
 
-call_asks : (p : Program) (n : ℕ) (t : Tid) (w : Spots) (c : Call) (r : Option Reply) → asked_in (On n (asked_stage p n t w c r)) ≡ unless_refused r (heap_call c)
-call_asks p n t w c None = passed_asks p n t w c
-call_asks p n t w c (Some reply) = refl
+placing_asks : (n len : ℕ) (o : Option ℕ) (x : Solo) → call_of x.state ≡ Isomalloc len → asked_in (On n (placing_stage (Isomalloc len) o)) x ≡ Some (Isomalloc len)
+placing_asks n len None x e = ap heap_call e
+placing_asks n len (Some address) x e = refl
 
-heard_asks : (n : ℕ) (births : ℕ → List Birth) (sems : ℕ → List SemRow) (life : Life) → MayHear n life → asked_in (heard_at births sems life) ≡ asked_in life
-heard_asks n births sems (On m (Signals id up)) h =
-    signal_by (λ stage. asked_in (On m stage) ≡ None) (node_in id) m id up (sems (node_in id)) (signals_ask (node_in id) m id)
-heard_asks n births sems life h = grind (arith, h)
+passed_asks : (p : Program) (n : ℕ) (t : Tid) (w : Spots) (c : Call) → its_call t w ≡ c → asked_in (On n (passed_stage p n t w c)) (solo_of t w) ≡ heap_call c
+passed_asks p n t w (Create entry argument priority) e = ap heap_call e
+passed_asks p n t w (Isomalloc len) e = placing_asks n len (place (heap_of (solo_of t w)) (rounded len)) (solo_of t w) e
+passed_asks p n t w (SemP id) e = signal_asked_by (λ stage. asked_in (On n stage) (solo_of t w) ≡ None) n id false (w.sems n) (signals_ask n n id (solo_of t w)) refl
+passed_asks p n t w (SemV id) e = signal_asked_by (λ stage. asked_in (On n stage) (solo_of t w) ≡ None) n id true (w.sems n) (signals_ask n n id (solo_of t w)) refl
+passed_asks p n t w (Migrate name to) e = sent_asks n (eqb name (tid_value t)) to (w.threads (tid_of name)).life (solo_of t w)
+passed_asks p n t w c e = grind arith
 
-judged_asks : (n : ℕ) (life : Life) → MayJudge n life → asked_in (judged_life life) ≡ None
-judged_asks n life h = grind (arith, h)
+call_asks : (p : Program) (n : ℕ) (t : Tid) (w : Spots) (c : Call) (r : Option Reply) → its_call t w ≡ c → asked_in (On n (asked_stage p n t w c r)) (solo_of t w) ≡ unless_refused r (heap_call c)
+call_asks p n t w c None e = passed_asks p n t w c e
+call_asks p n t w c (Some reply) e = refl
 
-judged_solo : (life : Life) (g : Guest) → (judged_guest life g).solo ≡ answered (asked_in life) g.solo
-judged_solo life g = grind arith
+heard_asks : (n : ℕ) (births : ℕ → List Birth) (sems : ℕ → List SemRow) (life : Life) (x : Solo) → MayHear n life → asked_in (heard_at births sems life) x ≡ asked_in life x
+heard_asks n births sems (On m (Signals id up)) x h =
+    signal_by (λ stage. asked_in (On m stage) x ≡ None) (node_in id) m id up (sems (node_in id)) (signals_ask (node_in id) m id x)
+heard_asks n births sems life x h = grind (arith, h)
 
-tell_asks : (n : ℕ) (life : Life) → MayTell n life → asked_in life ≡ None
-tell_asks n life h = grind (arith, h)
+judged_asks : (n : ℕ) (life : Life) (x : Solo) → MayJudge n life → asked_in (judged_life life) x ≡ None
+judged_asks n life x h = grind (arith, h)
 
-told_asks : (n : ℕ) (life : Life) → asked_in (On n (told_stage life)) ≡ None
-told_asks n life = grind arith
+judged_solo : (n : ℕ) (life : Life) (g : Guest) → MayJudge n life → (judged_guest life g).solo ≡ answered (asked_in life g.solo) g.solo
+judged_solo n life g h = grind (arith, h)
 
-gave_asks : (life : Life) → asked_in (gave_life life) ≡ asked_in life
-gave_asks life = grind arith
+tell_asks : (n : ℕ) (life : Life) (x : Solo) → MayTell n life → asked_in life x ≡ None
+tell_asks n life x h = grind (arith, h)
 
-known_asks : (life : Life) → MayKnow life → asked_in life ≡ None
-known_asks life h = grind (arith, h)
+told_asks : (n : ℕ) (life : Life) (x : Solo) → asked_in (On n (told_stage life)) x ≡ None
+told_asks n life x = grind arith
 
-shown_asks : (n : ℕ) (life : Life) → MayShow n life → asked_in (shown_life life) ≡ asked_in life
-shown_asks n life h = grind (arith, h)
+-- with slots for it, its call is asked as before
+took_asks : (n : ℕ) (life : Life) (x y : Solo) → MayTake n life → asked_in (took_life x.state life) y ≡ asked_in life x
+took_asks n life x y h = grind (arith, h)
 
-leave_asks : (n to : ℕ) (life : Life) → MayLeave n to life → asked_in life ≡ None
-leave_asks n to life h = grind (arith, h)
+gave_asks : (n : ℕ) (life : Life) (g : Guest) (slots : List ℕ) (x y : Solo) → MayGive n life g slots → asked_in (gave_life life) y ≡ asked_in life x
+gave_asks n life g slots x y h = grind (arith, h)
 
-come_asks : (n : ℕ) (life : Life) → MayCome n life → asked_in life ≡ None
-come_asks n life h = grind (arith, h)
+known_asks : (life : Life) (x : Solo) → MayKnow life → asked_in life x ≡ None
+known_asks life x h = grind (arith, h)
+
+shown_asks : (n : ℕ) (life : Life) (x : Solo) → MayShow n life → asked_in (shown_life life) x ≡ asked_in life x
+shown_asks n life x h = grind (arith, h)
+
+leave_asks : (n to : ℕ) (life : Life) (x : Solo) → MayLeave n to life → asked_in life x ≡ None
+leave_asks n to life x h = grind (arith, h)
+
+come_asks : (n : ℕ) (life : Life) (x : Solo) → MayCome n life → asked_in life x ≡ None
+come_asks n life x h = grind (arith, h)
 
 label_alone : (p : Program) (q : Occasion) (n : ℕ) (l : Label) (w : World) (t : Tid) → SoloRule p q n l w → LifeRule p q n l w → AgreesRule p q n l w
     → alone_in ((after_label p n l w.spots).threads t) ≡ cond (is_about t (subject l)) (alone_then p w.spots.remote t l (alone_in (w.spots.threads t))) (alone_in (w.spots.threads t))
@@ -235,38 +256,42 @@ label_alone p q n (Born u why entry a0 a1 sp slot) w t solo life agrees =
     ∙ ap (λ a. cond (is_tid u t) (alone_then p w.spots.remote t (Born u why entry a0 a1 sp slot) a) a) (served_creator p n u why entry a0 w.spots t solo.0)
 label_alone p q n (Ran u vp count stop) w t solo life agrees =
     let next : HartState = stepped (code_of p) count (w.spots.threads u).guest.solo.state in
-    seen w.spots.threads u t _ (λ z a. alone_then p w.spots.remote z (Ran u vp count stop) a) (ap (asking (ran_spot p n count stop (w.spots.threads u))) (ran_asks n stop next ∙ sym (ap asked_in life)))
+    seen w.spots.threads u t _ (λ z a. alone_then p w.spots.remote z (Ran u vp count stop) a) (ap (asking (ran_spot p n count stop (w.spots.threads u))) (ran_asks n stop next _ ∙ sym (ap (λ z. asked_in z (w.spots.threads u).guest.solo) life)))
 label_alone p q n (Asked u call args bytes) w t solo life agrees =
     let x : Solo = (w.spots.threads u).guest.solo in
-    seen_going (going_by_call p n u w.spots) w.spots.threads u t _ (λ z a. alone_then p w.spots.remote z (Asked u call args bytes) a) (label_goes p w.spots agrees n (Asked u call args bytes))
-    (ap (asking (w.spots.threads u)) (call_asks p n u w.spots (call_of x.state) (refusal p u x (call_of x.state))))
+    seen_going (going_by_call p n u w.spots) w.spots.threads u t _ (λ z a. alone_then p w.spots.remote z (Asked u call args bytes) a) (call_goes p w.spots agrees n u)
+    (ap (asking (w.spots.threads u)) (call_asks p n u w.spots (call_of x.state) (refusal p u x (call_of x.state)) refl))
 label_alone p q n (Heard u) w t solo life agrees =
-    seen_going (wakes_heard w.spots.sems (w.spots.threads u).life) w.spots.threads u t _ (λ z a. a) (label_goes p w.spots agrees n (Heard u))
-    (ap (asking (w.spots.threads u)) (heard_asks n w.spots.births w.spots.sems (w.spots.threads u).life life))
+    seen_going (wakes_heard w.spots.sems (w.spots.threads u).life) w.spots.threads u t _ (λ z a. a) (heard_goes p w.spots agrees (w.spots.threads u).life)
+    (ap (asking (w.spots.threads u)) (heard_asks n w.spots.births w.spots.sems (w.spots.threads u).life _ life))
 label_alone p q n (Judged u reply extra) w t solo life agrees =
     let o : Spot = w.spots.threads u in
     let v : Response = record { code = reply; extra = extra } in
     seen w.spots.threads u t _ (λ z a. alone_then p w.spots.remote z (Judged u reply extra) a)
-    (ap (λ z. record { solo = (judged_guest o.life o.guest).solo; asked = z; reply = v }) (judged_asks n o.life life)
-    ∙ ap (λ z. record { solo = z; asked = None; reply = v }) (judged_solo o.life o.guest))
+    (ap (λ z. record { solo = (judged_guest o.life o.guest).solo; asked = z; reply = v }) (judged_asks n o.life _ life)
+    ∙ ap (λ z. record { solo = z; asked = None; reply = v }) (judged_solo n o.life o.guest life))
 label_alone p q n (Told u) w t solo life agrees =
     let o : Spot = w.spots.threads u in
     seen w.spots.threads u t _ (λ z a. alone_then p w.spots.remote z (Told u) a)
-    (ap (λ z. record { solo = (told o.verdict.code (second_of o.verdict.extra) o.guest).solo; asked = z; reply = o.verdict }) (told_asks n o.life ∙ sym (tell_asks n o.life life)))
-label_alone p q n (Took u first count) w t solo life agrees = seen w.spots.threads u t _ (λ z a. alone_then p w.spots.remote z (Took u first count) a) refl
+    (ap (λ z. record { solo = (told o.verdict.code (second_of o.verdict.extra) o.guest).solo; asked = z; reply = o.verdict }) (told_asks n o.life _ ∙ sym (tell_asks n o.life o.guest.solo life)))
+label_alone p q n (Took u first count) w t solo life agrees =
+    let o : Spot = w.spots.threads u in
+    let after : Guest = takes_slots (run first count) o.guest in
+    seen w.spots.threads u t _ (λ z a. alone_then p w.spots.remote z (Took u first count) a)
+    (ap (λ z. record { solo = after.solo; asked = z; reply = o.verdict }) (took_asks n o.life o.guest.solo after.solo life))
 label_alone p q n (Gave u slots) w t solo life agrees =
     let o : Spot = w.spots.threads u in
     seen w.spots.threads u t _ (λ z a. alone_then p w.spots.remote z (Gave u slots) a)
-    (ap (λ z. record { solo = (gives_slots slots o.guest).solo; asked = z; reply = o.verdict }) (gave_asks o.life))
-label_alone p q n (Ended u end) w t solo life agrees = seen_so w.spots.threads u t _ (sym (ap asked_in life))
+    (ap (λ z. record { solo = (gives_slots slots o.guest).solo; asked = z; reply = o.verdict }) (gave_asks n o.life o.guest slots o.guest.solo (gives_slots slots o.guest).solo life))
+label_alone p q n (Ended u end) w t solo life agrees = seen_so w.spots.threads u t _ (sym (ap (λ z. asked_in z (w.spots.threads u).guest.solo) life))
 label_alone p q n (Known u) w t solo life agrees =
-    seen_going (sets_going p n (Known u) w.spots) w.spots.threads u t _ (λ z a. a) (label_goes p w.spots agrees n (Known u))
-    (ap (asking (w.spots.threads u)) (sym (known_asks (w.spots.threads u).life life.0)))
-label_alone p q n (Shown u) w t solo life agrees = seen_so w.spots.threads u t _ (shown_asks n (w.spots.threads u).life life)
-label_alone p q n (Halted u) w t solo life agrees = seen_so w.spots.threads u t _ (sym (ap asked_in life))
-label_alone p q n (Left u to) w t solo life agrees = seen_so w.spots.threads u t _ (sym (leave_asks n to (w.spots.threads u).life life.0))
-label_alone p q n (Came u) w t solo life agrees = seen_so w.spots.threads u t _ (sym (come_asks n (w.spots.threads u).life life))
-label_alone p q n (Decided u count first) w t solo life agrees = absurd life
+    seen_going (sets_going p n (Known u) w.spots) w.spots.threads u t _ (λ z a. a) (known_goes p w.spots agrees n u)
+    (ap (asking (w.spots.threads u)) (sym (known_asks (w.spots.threads u).life _ life.0)))
+label_alone p q n (Shown u) w t solo life agrees = seen_so w.spots.threads u t _ (shown_asks n (w.spots.threads u).life _ life)
+label_alone p q n (Halted u) w t solo life agrees = seen_so w.spots.threads u t _ (sym (ap (λ z. asked_in z (w.spots.threads u).guest.solo) life))
+label_alone p q n (Left u to) w t solo life agrees = seen_so w.spots.threads u t _ (sym (leave_asks n to (w.spots.threads u).life _ life.0))
+label_alone p q n (Came u) w t solo life agrees = seen_so w.spots.threads u t _ (sym (come_asks n (w.spots.threads u).life _ life))
+label_alone p q n (Decided u count first) w t solo life agrees = seen_decided p w.spots.remote n w.spots.threads u t count first
 label_alone p q n (Dropped u count reply) w t solo life agrees = absurd life
 label_alone p q n (Lent to slots) w t solo life agrees = absurd life
 label_alone p q n (InHand lender slots) w t solo life agrees = absurd life

@@ -17,7 +17,7 @@ use Rattle.run_trace.specs.Spots.{Ready, On, Spots, at_first}
 use Rattle.run_trace.specs.Rules.{spots_of}
 use Rattle.run_trace.specs.Stands.{Stands, row_in_life}
 use Rattle.run_trace.specs.World.{World}
-use Rattle.run_trace.specs.Items.{Item}
+use Rattle.run_trace.specs.Items.{Progress}
 use Rattle.run_trace.specs.Obeying.{may_act, is_on_list, Starts, IsEntry, KeepsRules}
 use Rattle.run_trace.specs.Holding.{EachHeldOnce}
 use Rattle.run_trace.specs.Alone.{EachRunsAlone}
@@ -43,14 +43,14 @@ entry_fits p old base s x xs r = (
 )
 
 -- a trace goes on with each act that may be
-pub rules_go_on : (p : Program) (old : Spots) (base : Net) → Stands p old base → (trace : List Entry) → KeepsRules p (world_at old base) trace → (stamp n round : ℕ) (a : Act) (to_do : List Item)
-    → may_act p n ((world_of p (world_at old base) trace).begun n) a ≡ true → Starts p stamp n a (world_of p (world_at old base) trace) to_do
+pub rules_go_on : (p : Program) (old : Spots) (base : Net) → Stands p old base → (trace : List Entry) → KeepsRules p (world_at old base) trace → (stamp n round : ℕ) (a : Act) (first : Progress)
+    → may_act p n ((world_of p (world_at old base) trace).begun n) a ≡ true → Starts p stamp n a (world_of p (world_at old base) trace) first
     → (ls : List Label) × KeepsRules p (world_at old base) ((record { stamp = stamp; node = n; round = round; act = a; labels = ls }) ∷ trace)
-rules_go_on p old base s trace t stamp n round a to_do may o =
+rules_go_on p old base s trace t stamp n round a first may o =
     let r : IsRun p base trace = rules_run p old base s trace t in
     let told : Tells p old base trace = run_keeps p old base s trace r in
-    let one = has_entry p (spots_of p old trace) (net_after_trace p base trace) (run_whole p old base s trace r).stands stamp n round a to_do
-    (subst (λ (z : World). may_act p n (z.begun n) a ≡ true) (sym told.same) may) (subst (λ z. Starts p stamp n a z to_do) (sym told.same) o) in
+    let one = has_entry p (spots_of p old trace) (net_after_trace p base trace) (run_whole p old base s trace r).stands stamp n round a first
+    (subst (λ (z : World). may_act p n (z.begun n) a ≡ true) (sym told.same) may) (subst (λ z. Starts p stamp n a z first) (sym told.same) o) in
     (one.0, (t, subst (λ z. IsEntry p z (record { stamp = stamp; node = n; round = round; act = a; labels = one.0 })) told.same one.1))
 
 -- nodes and links are what the labels tell
@@ -62,6 +62,7 @@ told_after p old base s trace r =
       lists = λ n. ap (λ (z : World). z.lists n) t.same;
       links = λ i j. ap (λ (z : World). z.links i j) t.same;
       begun = λ n. ap (λ (z : World). z.begun n) t.same;
+      talks = λ n. ap (λ (z : World). z.talks n) t.same;
     }
 
 pub whole : (p : Program) (trace : List Entry) → IsInOrder trace → Begins p trace → AreRising trace → IsRun p (fresh_net p) trace → Legal p trace

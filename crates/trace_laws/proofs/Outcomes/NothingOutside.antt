@@ -2,7 +2,7 @@
 use Rattle.std.proofs.Common.{◌≡◌, ℕ, ◌<◌, ◌≤◌, ◌/◌, ◌^◌, ◌⊎◌, inl, inr, List, [], ◌∷◌, ◌++◌, Option, Some, None, Bool, true, false, eqb, ltb, cond, refl, sym, ap, ◌∙◌, subst, arith}
 use Rattle.std.specs.Prelude.{nat_lt}
 use Rattle.std.specs.Map.{lookup}
-use Rattle.std.proofs.lemmas.Bool.{ne_eqb, ltb-true, ltb-false}
+use Rattle.std.proofs.lemmas.Bool.{eq-eqb, eqb-true, ne_eqb, ltb-true, ltb-false}
 use Rattle.std.proofs.lemmas.Bool.Decides.{nat_tests}
 use Rattle.slot_space.specs.declared.names.Tid.{Tid}
 use Rattle.slot_space.specs.declared.names.Reply.{Reply}
@@ -14,7 +14,8 @@ use Rattle.marcel_core.specs.declared.birth.Birth.{Birth}
 use Rattle.marcel_sync.specs.declared.sem.SemRow.{SemRow}
 use Rattle.marcel_sync.specs.Semaphores.{node_in}
 use Rattle.run_trace.specs.declared.call.Call.{Call}
-use Rattle.run_trace.specs.declared.call.Call.TheVariants.{Join, Detach, SemP, SemV, Migrate}
+use Rattle.run_trace.specs.declared.call.Call.TheVariants.{Join, Detach, SemP, SemV, Isomalloc, Migrate}
+use Rattle.iso_blocks.specs.Heap.{rounded, place}
 use Rattle.run_trace.specs.declared.entry.Act.{Act}
 use Rattle.run_trace.specs.declared.entry.Act.TheVariants.{Boot, Run, Take, Move}
 use Rattle.run_trace.specs.declared.entry.Entry.{Entry}
@@ -25,22 +26,23 @@ use Rattle.run_trace.specs.declared.label.Why.TheVariants as why
 use Rattle.run_trace.specs.declared.packet.Packet.{Packet}
 use Rattle.run_trace.specs.Names.{is_tid, tid_of}
 use Rattle.run_trace.specs.Program.{Program, nodes_of}
-use Rattle.run_trace.specs.Guests.{Solo, Thread}
+use Rattle.run_trace.specs.Guests.{Solo, Thread, heap_of}
 use Rattle.run_trace.specs.Calls.{refusal}
 use Rattle.run_trace.specs.Local.{Local, fresh}
 use Rattle.run_trace.specs.Cluster.{Net, fresh_net}
 use Rattle.run_trace.specs.Trace.{IsRun, net_after_trace}
 use Rattle.run_trace.specs.Holding.{IsOn}
-use Rattle.run_trace.specs.Spots.{Stage, Asks, Detaches, Signals, Life, On, Moving, Spot, Spots, update, creator_served, Going, signal_asked, sent_stage, solo_of, its_call, its_refusal, going_by_call, wakes_heard, sets_going, set_going, heard_at, judged_life, told_stage, gave_life, shown_life, ran_stage, stage_of_call, asked_stage, passed_stage, at_first, after_label, after_labels}
+use Rattle.run_trace.specs.Spots.{Stage, Asks, Detaches, Signals, Life, On, Moving, Spot, Spots, update, creator_served, Going, signal_asked, sent_stage, placing_stage, solo_of, its_call, its_refusal, going_by_call, wakes_heard, sets_going, set_going, heard_at, judged_life, told_stage, took_life, decided_going, gave_life, shown_life, ran_stage, stage_of_call, asked_stage, passed_stage, at_first, after_label, after_labels}
 use Rattle.run_trace.specs.World.{World, world_after}
 use Rattle.trace_laws.specs.Obeys.{Obey, world_at, ObeyEach, AgreesRule}
 use Rattle.run_trace.specs.Rules.{Occasion, saying, LifeRule, spots_of}
 use Rattle.run_trace.specs.Obeying.{occasion}
-use Rattle.run_trace.specs.Items.{Subject, Thread as Thread_of}
-use Rattle.run_trace.specs.Stands.{Stands, word_subject, word_of, Word, Travels, Line, Line_shown, Joins as Joins_word, Detaching, Signalling, Reply as Reply_word, Ended_word}
+use Rattle.run_trace.specs.Items.{Subject, Thread as Thread_of, Turns}
+use Rattle.run_trace.specs.Talks.{is_first}
+use Rattle.run_trace.specs.Stands.{Stands, word_subject, word_of, words_of, words_about, Word, A_want, A_turn, An_over, count_by, one_want, one_turn, one_over, one_if, times_in, Travels, Line, Line_shown, Joins as Joins_word, Detaching, Signalling, Reply as Reply_word, Ended_word}
 use Rattle.trace_laws.proofs.Lists.Parts.{Tells}
 use Rattle.trace_laws.proofs.Lives.Signals.{OfSignals, answered_by, signal_by, signal_asked_by}
-use Rattle.trace_laws.proofs.Lives.Goings.{MayGo, Wakes, IsSent, Joins, GoesRightly, label_goes}
+use Rattle.trace_laws.proofs.Lives.Goings.{MayGo, Wakes, IsSent, Joins, GoesRightly, call_goes, heard_goes, known_goes}
 use Rattle.trace_laws.proofs.Underway.Simulate.{event_below, first_tells}
 use Rattle.trace_laws.proofs.Outcomes.Wholes.{Whole, run_whole, starts}
 use Rattle.trace_laws.proofs.Outcomes.Stillness.{is_there}
@@ -87,7 +89,12 @@ sent_asks : (n : ℕ) (itself : Bool) (to : ℕ) (life : Life) → asked_home (O
 sent_asks n true to life = refl
 sent_asks n false to life = refl
 
+placing_asks : (n : ℕ) (c : Call) (o : Option ℕ) → asked_home (On n (placing_stage c o)) ≡ 0
+placing_asks n c None = refl
+placing_asks n c (Some address) = refl
+
 passed_asks : (p : Program) (n : ℕ) (t : Tid) (w : Spots) (c : Call) → asked_home (On n (passed_stage p n t w c)) ≤ named_home c
+passed_asks p n t w (Isomalloc len) = none_within _ 0 (placing_asks n (Isomalloc len) (place (heap_of (solo_of t w)) (rounded len)))
 passed_asks p n t w (SemP id) = asked_within n id false (w.sems n)
 passed_asks p n t w (SemV id) = asked_within n id true (w.sems n)
 passed_asks p n t w (Migrate name to) = none_within _ 0 (sent_asks n (eqb name (tid_value t)) to (w.threads (tid_of name)).life)
@@ -122,6 +129,9 @@ judged_asks life = grind arith
 told_asks : (n : ℕ) (life : Life) → asked_home (On n (told_stage life)) ≡ 0
 told_asks n life = grind arith
 
+took_asks : (s : HartState) (life : Life) → asked_home (took_life s life) ≤ asked_home life
+took_asks s life = grind arith
+
 gave_asks : (life : Life) → asked_home (gave_life life) ≤ asked_home life
 gave_asks life = grind arith
 
@@ -151,27 +161,32 @@ set_asks : (p : Program) (going : Going) (w : Tid → Spot) → GoesRightly goin
 set_asks p None w g h = h
 set_asks p (Some going) w g h = asks_with p w going.0 _ h (subst (λ k. k < nodes_of p) (sym (going_asks (w going.0).life going.1 g)) (first_node p))
 
+-- one that is refused slots asks for none
+decided_asks : (p : Program) (n : ℕ) (t : Tid) (first : Option ℕ) (w : Tid → Spot) → AllAsk p w → AllAsk p (set_going (decided_going n t first) w)
+decided_asks p n t None w h = asks_with p w t _ h (first_node p)
+decided_asks p n t (Some first) w h = h
+
 label_asks : (p : Program) (q : Occasion) (n : ℕ) (l : Label) (w : World) → LifeRule p q n l w → AgreesRule p q n l w → AllAsk p w.spots.threads → AllAsk p (after_label p n l w.spots).threads
 label_asks p q n (Born t why entry a0 a1 sp slot) w ok agrees h = asks_with p (creator_served n t why w.spots.threads) t _ (creator_asks p n t why w.spots.threads h) (first_node p)
 label_asks p q n (Ran t vp count stop) w ok agrees h = asks_with p w.spots.threads t _ h (subst (λ k. k < nodes_of p) (sym (ran_asks n stop _)) (first_node p))
 label_asks p q n (Asked t call args bytes) w ok agrees h =
-    asks_with p (set_going (going_by_call p n t w.spots) w.spots.threads) t _ (set_asks p (going_by_call p n t w.spots) w.spots.threads (label_goes p w.spots agrees n (Asked t call args bytes)) h) (call_asks p n t w.spots)
+    asks_with p (set_going (going_by_call p n t w.spots) w.spots.threads) t _ (set_asks p (going_by_call p n t w.spots) w.spots.threads (call_goes p w.spots agrees n t) h) (call_asks p n t w.spots)
 label_asks p q n (Heard t) w ok agrees h =
-    asks_with p (set_going (wakes_heard w.spots.sems (w.spots.threads t).life) w.spots.threads) t _ (set_asks p (wakes_heard w.spots.sems (w.spots.threads t).life) w.spots.threads (label_goes p w.spots agrees n (Heard t)) h)
+    asks_with p (set_going (wakes_heard w.spots.sems (w.spots.threads t).life) w.spots.threads) t _ (set_asks p (wakes_heard w.spots.sems (w.spots.threads t).life) w.spots.threads (heard_goes p w.spots agrees (w.spots.threads t).life) h)
     (omega (arith, heard_asks w.spots.births w.spots.sems (w.spots.threads t).life, h t))
 label_asks p q n (Judged t reply extra) w ok agrees h = asks_on p w.spots.threads t _ h (judged_asks (w.spots.threads t).life)
 label_asks p q n (Told t) w ok agrees h = asks_with p w.spots.threads t _ h (subst (λ k. k < nodes_of p) (sym (told_asks n (w.spots.threads t).life)) (first_node p))
-label_asks p q n (Took t first count) w ok agrees h = asks_with p w.spots.threads t _ h (h t)
+label_asks p q n (Took t first count) w ok agrees h = asks_on p w.spots.threads t _ h (took_asks (w.spots.threads t).guest.solo.state (w.spots.threads t).life)
 label_asks p q n (Gave t slots) w ok agrees h = asks_on p w.spots.threads t _ h (gave_asks (w.spots.threads t).life)
 label_asks p q n (Ended t end) w ok agrees h = asks_with p w.spots.threads t _ h (first_node p)
 label_asks p q n (Known t) w ok agrees h =
     let going : Going = sets_going p n (Known t) w.spots in
-    asks_with p (set_going going w.spots.threads) t _ (set_asks p going w.spots.threads (label_goes p w.spots agrees n (Known t)) h) (first_node p)
+    asks_with p (set_going going w.spots.threads) t _ (set_asks p going w.spots.threads (known_goes p w.spots agrees n t) h) (first_node p)
 label_asks p q n (Shown t) w ok agrees h = asks_on p w.spots.threads t _ h (shown_asks (w.spots.threads t).life)
 label_asks p q n (Halted t) w ok agrees h = asks_with p w.spots.threads t _ h (first_node p)
 label_asks p q n (Left t to) w ok agrees h = asks_with p w.spots.threads t _ h ok.1
 label_asks p q n (Came t) w ok agrees h = asks_with p w.spots.threads t _ h (first_node p)
-label_asks p q n (Decided t count first) w ok agrees h = h
+label_asks p q n (Decided t count first) w ok agrees h = decided_asks p n t first w.spots.threads h
 label_asks p q n (Dropped t count reply) w ok agrees h = h
 label_asks p q n (Lent to slots) w ok agrees h = h
 label_asks p q n (InHand lender slots) w ok agrees h = h
@@ -220,6 +235,11 @@ untouched p (x ∷ xs) r =
 
 -- ## Threads on nodes, and the links that they go by
 
+-- whoever is the first of a list stands in it
+first_times : (j : ℕ) (ms : List ℕ) → one_if (is_first j ms) ≤ times_in j ms
+first_times j [] = omega arith
+first_times j (m ∷ ms) = omega arith
+
 module _ (p : Program) (w : Spots) (net : Net) (s : Stands p w net) (asks : AllAsk p w.threads) (out : Untouched p net) where
   there_inside : (t : Tid) (n : ℕ) (x : Thread) → IsOn net n t x → n < nodes_of p
   there_inside t n x h = by (ltb n (nodes_of p)) refl
@@ -247,6 +267,43 @@ module _ (p : Program) (w : Spots) (net : Net) (s : Stands p w net) (asks : AllA
       by : (v : Bool) → nat_lt t.home (nodes_of p) ≡ v → j < nodes_of p
       by true e = subst (λ z. z < nodes_of p) (sym k.2) (ltb-true t.home (nodes_of p) e)
       by false e = absurd (cc (k.1, s.agrees.homes t e))
+  to_node t i j word k = absurd k
+
+  -- a packet of turns that is the first on its link is among those
+  first_of_turns : (i j : ℕ) (x : Packet) (ps : List Packet) → net.links i j ≡ x ∷ ps → word_subject (word_of j x.body) ≡ Turns
+      → words_about (words_of j (net.links i j)) Turns ≡ word_of j x.body ∷ words_about (words_of j ps) Turns
+  first_of_turns i j x ps e name = rw (e, name) refl
+
+  -- none outside has a turn, or wants one
+  no_turn : (j : ℕ) → nodes_of p ≤ j → count_by one_turn (words_about (words_of j (net.links 0 j)) Turns) ≡ 0
+  no_turn j l =
+      let none : words_about (words_of 0 (net.links j 0)) Turns ≡ [] = ap (λ ps. words_about (words_of 0 ps) Turns) (out.links j 0 l) in
+      let quiet : count_by one_over (words_about (words_of 0 (net.links j 0)) Turns) ≡ 0 = ap (count_by one_over) none in
+      let idle : one_if (net.nodes j).talk.wants ≡ 0 = ap (λ (z : Local). one_if z.talk.wants) (out.nodes j l) in
+      omega (arith, s.turns.turn j, s.turns.want j, first_times j (net.nodes 0).talk.wanting, quiet, idle)
+
+  -- what is said of turns goes to a node
+  turn_to_node : (i j : ℕ) (word : Word) (rest : List Word) → word_subject word ≡ Turns → words_about (words_of j (net.links i j)) Turns ≡ word ∷ rest → nodes_of p ≤ j → ⊥
+  turn_to_node i j word rest name e l = by word name (ap (count_by one_turn) e) (ap (count_by one_want) e) (ap (count_by one_over) e)
+    where
+      other : j ≡ 0 → ⊥
+      other z = omega (arith, z, l, first_node p)
+
+      at_link : List Word
+      at_link = words_about (words_of j (net.links i j)) Turns
+
+      from : count_by one_turn at_link ≡ 0
+      from = elim (eqb i 0) as (λ v. eqb i 0 ≡ v → count_by one_turn at_link ≡ 0) [
+        | true ↦ λ f. subst (λ k. count_by one_turn (words_about (words_of j (net.links k j)) Turns) ≡ 0) (sym (eqb-true i 0 f)) (no_turn j l)
+        | false ↦ λ f. s.turns.from_zero i j (λ z. cc (f, eq-eqb i 0 z))
+      ] refl
+
+      by : (word : Word) → word_subject word ≡ Turns → count_by one_turn at_link ≡ count_by one_turn (word ∷ rest) → count_by one_want at_link ≡ count_by one_want (word ∷ rest)
+          → count_by one_over at_link ≡ count_by one_over (word ∷ rest) → ⊥
+      by A_want name turns wants overs = omega (arith, s.turns.to_zero i j other, wants)
+      by A_turn name turns wants overs = omega (arith, from, turns)
+      by An_over name turns wants overs = omega (arith, s.turns.to_zero i j other, overs)
+      by word name turns wants overs = grind (arith, name)
 
   links_inside : (i j : ℕ) → (nodes_of p ≤ i) ⊎ (nodes_of p ≤ j) → net.links i j ≡ []
   links_inside i j (inl l) = out.links i j l
@@ -254,12 +311,11 @@ module _ (p : Program) (w : Spots) (net : Net) (s : Stands p w net) (asks : AllA
     where
       by : (ps : List Packet) → net.links i j ≡ ps → ps ≡ []
       by [] e = refl
-      by (x ∷ ps) e =
-          let below : j < nodes_of p = by_subject (word_subject (word_of j x.body)) refl in
-          absurd (omega (arith, below, l))
+      by (x ∷ ps) e = absurd (by_subject (word_subject (word_of j x.body)) refl)
         where
-          by_subject : (o : Subject) → word_subject (word_of j x.body) ≡ o → j < nodes_of p
-          by_subject (Thread_of t) name = to_node t i j _ (first_tells p w net s i j x t (sym (ap first_of e)) name)
+          by_subject : (o : Subject) → word_subject (word_of j x.body) ≡ o → ⊥
+          by_subject (Thread_of t) name = let below : j < nodes_of p = to_node t i j _ (first_tells p w net s i j x t (sym (ap first_of e)) name) in omega (arith, below, l)
+          by_subject Turns name = turn_to_node i j (word_of j x.body) _ name (first_of_turns i j x ps e name) l
 
 -- ## The law
 

@@ -15,11 +15,12 @@ use Rattle.run_trace.specs.Holding.{IsOn}
 use Rattle.run_trace.specs.Keyed.{item_of}
 use Rattle.run_trace.specs.RunLists.{best_on}
 use Rattle.run_trace.specs.Outcome.{Lives, AllLinksEmpty, IsDown, WaitsByItsRule, IsStuck}
-use Rattle.run_trace.specs.Spots.{Stage, Ready, Stays, Shows, Shown_there, Asks, Awaits, Answered, Detaches, Signals, Queues, Life, Unborn, On, Moving, Noting, Gone, Response, Spots}
-use Rattle.run_trace.specs.Stands.{Stands, listed, listed_name, row_part, row_in_life, link_part, on_link, ways_of, Way, words_of, words_about, phase_of, phase_at, During, thread_in_life, wait_of, waiter_name, waiter_in_life}
-use Rattle.run_trace.specs.Items.{Thread as Subject_of}
+use Rattle.run_trace.specs.Spots.{Stage, Ready, Seeks, Stays, Shows, Shown_there, Asks, Awaits, Answered, Detaches, Signals, Queues, Life, Unborn, On, Moving, Noting, Gone, Response, Spots}
+use Rattle.run_trace.specs.Stands.{Stands, listed, listed_name, row_part, row_in_life, link_part, on_link, ways_of, Way, words_of, words_about, phase_of, phase_at, During, thread_in_life, wait_of, waiter_name, waiter_in_life, itself}
+use Rattle.run_trace.specs.Items.{Thread as Subject_of, Turns}
 use Rattle.run_trace.specs.declared.entry.Act.TheVariants.{Boot}
-use Rattle.trace_laws.proofs.Lists.Parts.{thread_was}
+use Rattle.trace_laws.proofs.Lists.InTurn.{none_claims, none_wants, none_listed}
+use Rattle.trace_laws.proofs.Lists.Parts.{thread_was, seeker_was}
 use Rattle.trace_laws.proofs.Lists.Stages.{resting, rest_thread}
 use Rattle.trace_laws.proofs.Underway.Simulate.{asked_of, picked_ready}
 use Rattle.trace_laws.proofs.Outcomes.Wholes.{settled_at}
@@ -49,8 +50,14 @@ module _ (p : Program) (w : Spots) (net : Net) (s : Stands p w net) where
   no_way : AllLinksEmpty net → (t : Tid) (x : Way) (xs : List Way) → ways_of t (w.threads t).life (w.threads t).verdict (w.threads t).guest ≡ x ∷ xs → ⊥
   no_way empty t x xs h =
       let none : words_about (words_of x.to (net.links x.from x.to)) (Subject_of t) ≡ [] = ap (λ ps. words_about (words_of x.to ps) (Subject_of t)) (empty x.from x.to) in
-      let some : link_part x.from x.to (Subject_of t) w.threads ≡ x.word ∷ on_link x.from x.to xs = ap (on_link x.from x.to) h ∙ (rw (eq-eqb x.from x.from refl, eq-eqb x.to x.to refl) refl) in
-      absurd (cc (sym none ∙ s.links x.from x.to (Subject_of t) ∙ some))
+      let some : link_part x.from x.to t w.threads ≡ x.word ∷ on_link x.from x.to xs = ap (on_link x.from x.to) h ∙ (rw (eq-eqb x.from x.from refl, eq-eqb x.to x.to refl) refl) in
+      absurd (cc (sym none ∙ s.links x.from x.to t ∙ some))
+
+  -- nothing is claimed or wanted
+  pub no_claims : AllLinksEmpty net → (n : ℕ) → ((net.nodes n).talk.claims ≡ []) × ((net.nodes n).talk.wants ≡ false) × ((net.nodes 0).talk.wanting ≡ [])
+  no_claims empty n =
+      let none : (i j : ℕ) → words_about (words_of j (net.links i j)) Turns ≡ [] = λ i j. ap (λ ps. words_about (words_of j ps) Turns) (empty i j) in
+      (none_claims s.turns none (λ i. refl) n, none_wants s.turns none (λ i. refl) n, none_listed s.turns none (λ i. refl))
 
   quiet : ((n : ℕ) → (net.nodes n).run_lists.rows ≡ []) → AllLinksEmpty net → ((n : ℕ) → w.halts n ≡ false) → (t : Tid) → WaitsByItsRule w (w.threads t).life
   quiet rows empty going t = by (w.threads t).life refl (settled_at p w net s t)
@@ -85,6 +92,11 @@ module _ (p : Program) (w : Spots) (net : Net) (s : Stands p w net) where
           let some : row_part m t (w.threads t) ≡ Some (record { tid = t; list = 0; priority = (w.threads t).guest.priority }) = ap (λ z. row_in_life m t z (w.threads t).guest.priority) e ∙ (rw (eq-eqb m m refl) refl) in
           absurd (cc (none, (s.nodes m).rows.shows t, some))
 
+      seeks : (m : ℕ) → (w.threads t).life ≡ On m Seeks → ⊥
+      seeks m e =
+          let none : item_of is_tid itself (net.nodes m).talk.claims t ≡ None = ap (λ ts. item_of is_tid itself ts t) (no_claims empty m).0 in
+          cc (none, (s.nodes m).seekers.shows t, seeker_was m t (w.threads t) e)
+
       by : (life : Life) → (w.threads t).life ≡ life → IsSettled (w.threads t).life → WaitsByItsRule w life
       by Unborn e k = tt
       by (Moving m to) e k = sent (Moving m to) _ e refl
@@ -93,6 +105,7 @@ module _ (p : Program) (w : Spots) (net : Net) (s : Stands p w net) where
       by (On m (Awaits u)) e k = awaited m u e
       by (On m (Queues id)) e k = queued_down m id e
       by (On m Ready) e k = absurd (ready m e)
+      by (On m Seeks) e k = absurd (seeks m e)
       by (On m Stays) e k = absurd (cc (s.agrees.stays t m e, going m))
       by (On m (Shows bytes)) e k = sent (On m (Shows bytes)) _ e refl
       by (On m Shown_there) e k = sent (On m Shown_there) _ e refl

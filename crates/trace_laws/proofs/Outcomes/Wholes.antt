@@ -12,17 +12,18 @@ use Rattle.run_trace.specs.Program.{Program, nodes_of, slots_in}
 use Rattle.run_trace.specs.Local.{EventSoFar}
 use Rattle.run_trace.specs.Cluster.{Event, Net, net_after, fresh_net, next_packet}
 use Rattle.run_trace.specs.Trace.{IsRun, event_of, events_of, net_after_trace}
-use Rattle.run_trace.specs.Spots.{Spots, Of_node, Nobody, unborn, at_first, first_holder}
-use Rattle.run_trace.specs.Rules.{is_free, spots_of}
+use Rattle.run_trace.specs.Spots.{Spots, Of_node, Nobody, at_first, first_holder, is_free}
+use Rattle.run_trace.specs.Rules.{spots_of}
 use Rattle.run_trace.specs.Console.{console_of, printed}
-use Rattle.run_trace.specs.Stands.{Stands, link_part, busy, is_thread}
+use Rattle.run_trace.specs.Stands.{Stands, AreInTurn, busy, is_thread}
+use Rattle.run_trace.specs.Talks.{silent}
 use Rattle.run_trace.specs.Holding.{EachHeldOnce}
 use Rattle.run_trace.specs.Alone.{EachRunsAlone}
 use Rattle.run_trace.specs.Legality.{AfterEach}
 use Rattle.trace_laws.proofs.Outcomes.Consequences.{one_holder, runs_alone}
 use Rattle.trace_laws.proofs.Underway.Simulate.{Simulates, simulates, event, event_made}
 use Rattle.trace_laws.specs.Obeys.{IsSettled, Obey, AgreesRule, ObeysFrom}
-use Rattle.run_trace.specs.Items.{is_busy, Subject, Thread as Thread_of}
+use Rattle.run_trace.specs.Items.{is_busy}
 
 -- ## Before the first event
 
@@ -35,8 +36,17 @@ own_slots p n x = has-filter (λ s. eqb (s % nodes_of p) n) x (run 0 (slots_in p
       | false ↦ elim (eqb (x % nodes_of p) n) as (λ v. cond v false false ≡ false) [ true ↦ refl | false ↦ refl ]
     ]
 
-no_words : (i j : ℕ) (s : Subject) → [] ≡ link_part i j s (λ t. unborn)
-no_words i j (Thread_of t) = refl
+-- nothing is claimed, and no node wants a turn
+in_turn : AreInTurn (λ n. silent) (λ i j. []) (λ n. [])
+in_turn = record {
+  turn = λ i. refl;
+  want = λ i. refl;
+  once = λ i. omega arith;
+  order = λ i. refl;
+  claims = λ i. omega arith;
+  to_zero = λ i j other. refl;
+  from_zero = λ i j other. refl;
+}
 
 pub starts : (p : Program) → Stands p (at_first p) (fresh_net p)
 starts p = record {
@@ -44,12 +54,14 @@ starts p = record {
     threads = record { apart = tt; shows = λ u. refl };
     rows = record { apart = tt; shows = λ u. refl };
     busy = record { apart = tt; shows = λ u. refl };
+    seekers = record { apart = tt; shows = λ u. refl };
     births = refl;
     sems = refl;
     free = λ x. own_slots p n x;
     halted = refl;
   };
-  links = no_words;
+  links = λ i j t. refl;
+  turns = in_turn;
   agrees = record {
     homes = λ t out. refl;
     named = λ t. refl;
@@ -59,6 +71,7 @@ starts p = record {
     queues = λ h k. record { apart = tt; shows = λ u. refl };
     signals = λ t n id up e. absurd (cc e);
     stays = λ t n e. absurd (cc e);
+    seeks = λ t n e. absurd (cc e);
     slots = λ t x. elim (ltb x (slots_in p)) as (λ v. false ≡ is_thread t (cond v (Of_node (x % nodes_of p)) Nobody)) [ true ↦ refl | false ↦ refl ];
     blocks = λ t. tt;
   };

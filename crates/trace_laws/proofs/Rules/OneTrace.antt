@@ -1,5 +1,5 @@
 -- The labels of a trace that keeps the rules are determined by what was asked: two such traces of the same acts are one.
-use Rattle.std.proofs.Common.{◌≡◌, ℕ, List, [], ◌∷◌, map, refl, sym, ap, ◌∙◌, subst}
+use Rattle.std.proofs.Common.{◌≡◌, ℕ, List, [], ◌∷◌, map, Option, refl, sym, ap, ◌∙◌, subst}
 use Rattle.slot_space.specs.declared.names.Tid.{Tid}
 use Rattle.rv_step.specs.declared.hart.Stop.{Stop}
 use Rattle.rv_step.specs.Step.{HartState}
@@ -7,18 +7,18 @@ use Rattle.run_trace.specs.declared.entry.Act.{Act}
 use Rattle.run_trace.specs.declared.entry.Act.TheVariants.{Boot, Run as RunThread, Take, Move}
 use Rattle.run_trace.specs.declared.entry.Entry.{Entry}
 use Rattle.run_trace.specs.declared.label.Label.{Label}
-use Rattle.run_trace.specs.declared.label.Label.TheVariants.{Ran}
+use Rattle.run_trace.specs.declared.label.Label.TheVariants.{Ran, Decided}
 use Rattle.run_trace.specs.declared.packet.Packet.{Packet}
 use Rattle.run_trace.specs.Program.{Program, code_of, tree_of}
 use Rattle.run_trace.specs.Guests.{Run, run_of}
 use Rattle.run_trace.specs.Rules.{Occasion, quantum_in, saying}
 use Rattle.run_trace.specs.Spots.{Spots, stepped}
 use Rattle.run_trace.specs.World.{Listed, World, world_after}
-use Rattle.run_trace.specs.Items.{Thread, Runs, Sends, past_sends, for_packet, Item, Says, Does, to_do_after}
+use Rattle.run_trace.specs.Items.{Thread, Turns, Item, Says, Runs, Does, Serves, Grants, Decides, Ends_turn, Wants_again, Progress, has_to, worked_off, said, begins_with}
 use Rattle.run_trace.specs.Obeying.{Starts, Allows, IsBy, IsNext, GoesOn, IsEntry, occasion, KeepsRules}
 use Rattle.trace_laws.proofs.Lives.RunLemmas.{run_is}
 use Rattle.trace_laws.proofs.Lists.Arriving.{one_picked}
-use Rattle.trace_laws.proofs.Rules.Nexts.{one_next}
+use Rattle.trace_laws.proofs.Rules.Nexts.{busy_speaks, seeker_speaks, one_next}
 use Rattle.run_trace.specs.Telling.{world_of}
 use Rattle.trace_laws.specs.Headings.{Heading, heading}
 
@@ -32,12 +32,25 @@ one_run p q n vp count more stop other t w x y =
     let b : run_of (code_of p) (quantum_in q.act) s ≡ record { count = more; stop = other; state = stepped (code_of p) more s } = run_is (code_of p) (quantum_in q.act) s _ (record { steps = y.solo.0; stop = y.solo.1 }) in
     ap (λ (r : Run). Ran t vp r.count r.stop) (sym a ∙ b)
 
+-- a decision is about all that its thread's call wants, and finds nothing as yet
+one_decision : (p : Program) (q : Occasion) (n count more : ℕ) (first other : Option ℕ) (t : Tid) (w : World) → Allows p q n (Decided t count first) w → Allows p q n (Decided t more other) w → Decided t count first ≡ Decided t more other
+one_decision p q n count more first other t w x y =
+    let same : count ≡ more = x.grants.0 ∙ sym y.grants.0 in
+    let none : first ≡ other = x.grants.2 ∙ sym y.grants.2 in
+    ap (λ z. Decided t z first) same ∙ ap (Decided t more) none
+
 one_label : (p : Program) (q : Occasion) (n : ℕ) (l m : Label) (w : World) (i : Item) → IsBy n l w.spots i → IsBy n m w.spots i → Allows p q n l w → Allows p q n m w → l ≡ m
-one_label p q n l m w (Sends to body) x y a b = absurd x
 one_label p q n l m w (Says k) x y a b = x ∙ sym y
 one_label p q n l m w (Runs t vp) x y a b =
     x.2 ∙ one_run p q n vp x.0 y.0 x.1 y.1 t w (subst (λ z. Allows p q n z w) x.2 a) (subst (λ z. Allows p q n z w) y.2 b) ∙ sym y.2
-one_label p q n l m w (Does (Thread t)) x y a b = one_next p q n w l m t x.0 y.0 x.1 a b
+one_label p q n l m w (Does (Thread t)) x y a b = one_next p q n w l m t x.0 y.0 (busy_speaks n (w.spots.threads t).life x.1) a b
+one_label p q n l m w (Does Turns) x y a b = absurd (cc x.1)
+one_label p q n l m w (Serves t) x y a b = one_next p q n w l m t x.0 y.0 (seeker_speaks n (w.spots.threads t).life x.1) a b
+one_label p q n l m w (Decides t) x y a b =
+    x.2 ∙ one_decision p q n x.0 y.0 x.1 y.1 t w (subst (λ z. Allows p q n z w) x.2 a) (subst (λ z. Allows p q n z w) y.2 b) ∙ sym y.2
+one_label p q n l m w Grants x y a b = absurd x
+one_label p q n l m w Ends_turn x y a b = absurd x
+one_label p q n l m w Wants_again x y a b = absurd x
 
 one_next_label : (p : Program) (q : Occasion) (n : ℕ) (l m : Label) (w : World) (to_do : List Item) → IsNext n l w.spots to_do → IsNext n m w.spots to_do → Allows p q n l w → Allows p q n m w → l ≡ m
 one_next_label p q n l m w [] x y a b = absurd x
@@ -48,24 +61,24 @@ one_next_label p q n l m w (i ∷ is) x y a b = one_label p q n l m w i x y a b
 nothing_to_do : (n : ℕ) (l : Label) (w : Spots) (to_do : List Item) → to_do ≡ [] → IsNext n l w to_do → ⊥
 nothing_to_do n l w to_do e k = subst (λ z. IsNext n l w z) e k
 
-one_way_on : (p : Program) (q : Occasion) (n : ℕ) (ls ms : List Label) (w : World) (to_do : List Item) → GoesOn p q n ls w to_do → GoesOn p q n ms w to_do → ls ≡ ms
-one_way_on p q n [] [] w to_do x y = refl
-one_way_on p q n [] (m ∷ ms) w to_do x y = absurd (nothing_to_do n m w.spots (past_sends to_do) x y.0)
-one_way_on p q n (l ∷ ls) [] w to_do x y = absurd (nothing_to_do n l w.spots (past_sends to_do) y x.0)
-one_way_on p q n (l ∷ ls) (m ∷ ms) w to_do x y =
-    let one : l ≡ m = one_next_label p q n l m w (past_sends to_do) x.0 y.0 x.1 y.1 in
-    let rest : ls ≡ ms = one_way_on p (saying l q) n ls ms (world_after p n l w) (to_do_after p n l w.spots (past_sends to_do)) x.2
-    (subst (λ z. GoesOn p (saying z q) n ms (world_after p n z w) (to_do_after p n z w.spots (past_sends to_do))) (sym one) y.2) in
+one_way_on : (p : Program) (q : Occasion) (n : ℕ) (ls ms : List Label) (w : World) (r : Progress) → GoesOn p q n ls w r → GoesOn p q n ms w r → ls ≡ ms
+one_way_on p q n [] [] w r x y = refl
+one_way_on p q n [] (m ∷ ms) w r x y = absurd (nothing_to_do n m w.spots (worked_off n w.spots r).to_do x y.0)
+one_way_on p q n (l ∷ ls) [] w r x y = absurd (nothing_to_do n l w.spots (worked_off n w.spots r).to_do y x.0)
+one_way_on p q n (l ∷ ls) (m ∷ ms) w r x y =
+    let one : l ≡ m = one_next_label p q n l m w (worked_off n w.spots r).to_do x.0 y.0 x.1 y.1 in
+    let rest : ls ≡ ms = one_way_on p (saying l q) n ls ms (world_after p n l w) (said p n l w.spots (worked_off n w.spots r)) x.2
+    (subst (λ z. GoesOn p (saying z q) n ms (world_after p n z w) (said p n z w.spots (worked_off n w.spots r))) (sym one) y.2) in
     ap (λ z. z ∷ ls) one ∙ ap (λ zs. m ∷ zs) rest
 
 -- ## The beginning of an entry
 
-one_start : (p : Program) (stamp n : ℕ) (a : Act) (w : World) (h k : List Item) → Starts p stamp n a w h → Starts p stamp n a w k → h ≡ k
+one_start : (p : Program) (stamp n : ℕ) (a : Act) (w : World) (h k : Progress) → Starts p stamp n a w h → Starts p stamp n a w k → h ≡ k
 one_start p stamp n Boot w h k x y = x ∙ sym y
-one_start p stamp n (RunThread vp q) w h k x y = x.2 ∙ ap (λ (z : Listed). Runs z.tid vp ∷ []) (one_picked (tree_of p) vp x.0 y.0 (w.lists n) x.1 y.1) ∙ sym y.2
+one_start p stamp n (RunThread vp q) w h k x y = x.2 ∙ ap (λ (z : Listed). has_to (Runs z.tid vp ∷ []) (w.talks n)) (one_picked (tree_of p) vp x.0 y.0 (w.lists n) x.1 y.1) ∙ sym y.2
 one_start p stamp n (Take from) w h k x y =
     let packet : x.0 ≡ y.0 = cc (x.1, y.1) in
-    x.3 ∙ ap (λ (z : Packet). for_packet n z.body) packet ∙ sym y.3
+    x.3 ∙ ap (λ (z : Packet). begins_with n from z.body (w.talks n)) packet ∙ sym y.3
 one_start p stamp n (Move t to) w h k x y = x.1 ∙ sym y.1
 
 -- ## An entry, and a trace
@@ -76,8 +89,8 @@ with_labels h ls = record { stamp = h.stamp; node = h.node; round = h.round; act
 pub one_entry : (p : Program) (w : World) (x y : Entry) → heading x ≡ heading y → IsEntry p w x → IsEntry p w y → x ≡ y
 one_entry p w x y e i j =
     let k : IsEntry p w (with_labels (heading x) y.labels) = subst (λ h. IsEntry p w (with_labels h y.labels)) (sym e) j in
-    let to_do : i.to_do ≡ k.to_do = one_start p x.stamp x.node x.act w i.to_do k.to_do i.starts k.starts in
-    let labels : x.labels ≡ y.labels = one_way_on p (occasion x w) x.node x.labels y.labels w i.to_do i.goes (subst (λ h. GoesOn p (occasion x w) x.node y.labels w h) (sym to_do) k.goes) in
+    let first : i.first ≡ k.first = one_start p x.stamp x.node x.act w i.first k.first i.starts k.starts in
+    let labels : x.labels ≡ y.labels = one_way_on p (occasion x w) x.node x.labels y.labels w i.first i.goes (subst (λ h. GoesOn p (occasion x w) x.node y.labels w h) (sym first) k.goes) in
     ap (λ ls. with_labels (heading x) ls) labels ∙ ap (λ h. with_labels h y.labels) e
 
 -- two traces that were asked the same are the same

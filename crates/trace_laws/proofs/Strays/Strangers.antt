@@ -1,9 +1,8 @@
 -- No packet, whatever it says, gives a node a slot twice.
-use Rattle.std.proofs.Common.{◌≡◌, ℕ, List, [], ◌∷◌, Option, Some, None, Bool, true, false, eqb, cond, refl, sym, ap, ◌∙◌, subst}
+use Rattle.std.proofs.Common.{◌≡◌, ℕ, List, [], ◌∷◌, Option, Some, None, Bool, true, false, eqb, cond, refl, ap, ◌∙◌, subst, inr}
 use Rattle.std.specs.Prelude.{nat_lt, not, slice_get, is_none}
 use Rattle.std.specs.List.{list_all}
-use Rattle.std.specs.Map.{lookup, set_value}
-use Rattle.std.specs.BTreeMap.{insert_entry}
+use Rattle.std.specs.Map.{lookup}
 use Rattle.std.proofs.lemmas.Bool.{and_parts}
 use Rattle.slot_space.specs.Sets.{has, meets}
 use Rattle.slot_space.proofs.Lemmas.{meets-common}
@@ -24,38 +23,18 @@ use Rattle.marcel_sync.specs.Semaphores.{number_in, lowered_answer, lowered, rai
 use Rattle.pack_thread.specs.Threads.{PackedThread as Packed}
 use Rattle.run_trace.specs.declared.node.Wait.TheVariants as wait
 use Rattle.run_trace.specs.declared.packet.Body.{Body}
-use Rattle.run_trace.specs.declared.packet.Body.TheVariants.{Mover, Show, ShowDone, JoinAsk, DetachAsk, SemAsk, Answer, EndNote}
+use Rattle.run_trace.specs.declared.packet.Body.TheVariants.{Mover, Show, ShowDone, JoinAsk, DetachAsk, SemAsk, Answer, EndNote, Want, Turn, Over}
 use Rattle.run_trace.specs.Names.{is_tid, tid_cmp}
 use Rattle.run_trace.specs.Program.{Program, nodes_of}
-use Rattle.run_trace.specs.Guests.{Thread, waits, told, unpacked, guest_slots}
+use Rattle.run_trace.specs.Guests.{Thread, waits, unpacked, guest_slots}
 use Rattle.run_trace.specs.Local.{Local, EventSoFar, nothing}
-use Rattle.run_trace.specs.Steps.{tell, tell_found, comes, arrive, thread_in, say, keep, put, print, shows, acknowledges, judge, hears, hears_detach, hears_signal, knows, change_birth, reply_by_link}
+use Rattle.run_trace.specs.Steps.{comes, arrive, thread_in, say, put, print, shows, acknowledges, hears, hears_detach, hears_signal, knows, change_birth, reply_by_link}
 use Rattle.run_trace.specs.Machine.{takes, accepts, is_stray, may_come, is_unserving, lives_yet, are_away, answer, judges_join, replies_to, answers_p, answers_v, hears_call, tells_joiner}
 use Rattle.trace_laws.specs.Strays.{slots_with, slots_here, IsHeldOnce}
-use Rattle.run_trace.proofs.Lemmas.{is-true, is-refl}
-use Rattle.trace_laws.proofs.Lists.KeyedLemmas.{lookup-set_same, lookup-set_other, lookup-insert}
-
--- a node whose own slots and whose threads' slots are as before
-same_held : (s now : Local) → now.slots.free ≡ s.slots.free → ((t : Tid) → slots_here now t ≡ slots_here s t) → IsHeldOnce s → IsHeldOnce now
-same_held s now own threads h = record {
-  free = λ t x k. ap (has x) own ∙ h.free t x (sym (ap (has x) (threads t)) ∙ k);
-  one = λ t u x k l. h.one t u x (sym (ap (has x) (threads t)) ∙ k) (sym (ap (has x) (threads u)) ∙ l);
-}
-
-told_held : (t : Tid) (code : ℕ) (second : Option ℕ) (d : EventSoFar) → IsHeldOnce d.node → IsHeldOnce (tell t code second d).node
-unfolding tell arrive say keep
-told_held t code second d h = by (lookup (is_tid t) s.threads) refl
-  where
-    s : Local
-    s = d.node
-
-    by : (o : Option Thread) → lookup (is_tid t) s.threads ≡ o → IsHeldOnce (tell_found t code second o d).node
-    by None e = h
-    by (Some x) e = same_held s _ refl (λ u. elim (is_tid t u) as (λ v. is_tid t u ≡ v → slots_with (lookup (is_tid u) (set_value (is_tid t) s.threads (waits wait.No (told code second x.guest)))) ≡ slots_here s u) [
-      | true ↦ λ f. subst (λ z. slots_with (lookup (is_tid z) (set_value (is_tid t) s.threads (waits wait.No (told code second x.guest)))) ≡ slots_here s z) (is-true t u f)
-          (ap slots_with (lookup-set_same is_tid is-true is-refl s.threads t (waits wait.No (told code second x.guest)) x e) ∙ sym (ap slots_with e))
-      | false ↦ λ f. ap slots_with (lookup-set_other is_tid is-true is-refl s.threads t u (waits wait.No (told code second x.guest)) f)
-    ] refl) h
+use Rattle.run_trace.proofs.Lemmas.{is-true, is-refl, is-same}
+use Rattle.trace_laws.proofs.Lists.KeyedLemmas.{lookup-insert}
+use Rattle.trace_laws.proofs.Strays.Holdings.{same_held, told_held, answered_held, gained_held, new_slots}
+use Rattle.trace_laws.proofs.Strays.Grants.{spoke_held, granted_held}
 
 judged_held : (by : Tid) (from seq : ℕ) (v : Verdict) (s : Local) → IsHeldOnce s → IsHeldOnce (judges_join by from v (hears by seq from (nothing s))).node
 unfolding hears change_birth say reply_by_link put
@@ -66,9 +45,9 @@ judged_held by from seq Taken s h = same_held s _ refl (λ t. refl) h
 
 -- semaphores hold no slots
 replied_held : (me at : ℕ) (t : Tid) (reply : Reply) (d : EventSoFar) → IsHeldOnce d.node → IsHeldOnce (replies_to me at t reply d).node
-unfolding judge say reply_by_link put
+unfolding say reply_by_link put
 replied_held me at t reply d h = elim (eqb me at) as (λ v. IsHeldOnce (cond v (answer t (reply_code reply) d) (reply_by_link t at reply None d)).node) [
-  | true ↦ told_held t (reply_code reply) None (judge t (reply_code reply) None d) (same_held d.node _ refl (λ u. refl) h)
+  | true ↦ answered_held t (reply_code reply) d h
   | false ↦ same_held d.node _ refl (λ u. refl) h
 ]
 
@@ -130,19 +109,12 @@ away_here slots s a y t h k = by (lookup (is_tid t) s.threads) refl k
 
 came_held : (p : Program) (me : ℕ) (x : Packed) (s : Local) → may_come p me s x ≡ true → IsHeldOnce s → IsHeldOnce (comes x (nothing s)).node
 unfolding comes arrive thread_in say
-came_held p me x s may h = record {
-  free = λ t y k. elim (is_tid t x.tid) as (λ v. has y (slots_with (cond v (Some new) (lookup (is_tid t) s.threads))) ≡ true → has y s.slots.free ≡ false) [ true ↦ λ g. away_own mine s away y g | false ↦ λ g. h.free t y g ] (at t y k);
-  one = λ t u y k l. elim (is_tid t x.tid) as (λ v. is_tid t x.tid ≡ v → has y (slots_with (cond v (Some new) (lookup (is_tid t) s.threads))) ≡ true → t ≡ u) [
-    | true ↦ λ e g. elim (is_tid u x.tid) as (λ v. is_tid u x.tid ≡ v → has y (slots_with (cond v (Some new) (lookup (is_tid u) s.threads))) ≡ true → t ≡ u) [
-      | true ↦ λ f i. is-true t x.tid e ∙ sym (is-true u x.tid f)
-      | false ↦ λ f i. absurd (away_here mine s away y u g i)
-    ] refl (at u y l)
-    | false ↦ λ e g. elim (is_tid u x.tid) as (λ v. is_tid u x.tid ≡ v → has y (slots_with (cond v (Some new) (lookup (is_tid u) s.threads))) ≡ true → t ≡ u) [
-      | true ↦ λ f i. absurd (away_here mine s away y t i g)
-      | false ↦ λ f i. h.one t u y g i
-    ] refl (at u y l)
-  ] refl (at t y k);
-}
+came_held p me x s may h = gained_held x.tid mine s _ (record {
+  fewer = λ y k. k;
+  taken = λ y k. away_own mine s away y k;
+  apart = λ u y k l. away_here mine s away y u k l;
+  held = new_slots x.tid new mine s (comes x (nothing s)).node (λ u. lookup-insert is_tid is-true is-refl tid_cmp (λ a b. refl) s.threads x.tid u new ∙ ap (λ v. cond v (Some new) (lookup (is_tid u) s.threads)) (is-same u x.tid)) (λ y k. inr k);
+}) h
   where
     new : Thread
     new = waits wait.No (unpacked x)
@@ -156,9 +128,6 @@ came_held p me x s may h = record {
         let b = and_parts (is_unserving x) _ a.1 in
         let c = and_parts (is_none (lookup (is_tid x.tid) s.threads)) _ b.1 in
         (and_parts (lives_yet me s x.tid) (are_away mine s) c.1).1
-
-    at : (t : Tid) (y : ℕ) → has y (slots_with (lookup (is_tid t) (insert_entry tid_cmp s.threads x.tid new))) ≡ true → has y (slots_with (cond (is_tid t x.tid) (Some new) (lookup (is_tid t) s.threads))) ≡ true
-    at t y k = sym (ap (λ o. has y (slots_with o)) (lookup-insert is_tid is-true is-refl tid_cmp (λ a b. refl) s.threads x.tid t new)) ∙ k
 
 accepted_held : (p : Program) (me from : ℕ) (body : Body) (s : Local) → is_stray p me from s body ≡ false → IsHeldOnce s → IsHeldOnce (accepts me from body s).node
 unfolding shows acknowledges put print say
@@ -174,6 +143,9 @@ accepted_held p me from (DetachAsk by seq) s k h = detached_held by from seq (de
 accepted_held p me from (SemAsk by id up) s k h = called_held me from by id up s h
 accepted_held p me from (Answer t reply second) s k h = told_held t (reply_code reply) second (nothing s) h
 accepted_held p me from (EndNote seq end) s k h = known_held me seq end (joiner (slice_get s.births seq)) s h
+accepted_held p me from Want s k h = spoke_held _ _ (nothing s) h
+accepted_held p me from Turn s k h = granted_held me s.talk.claims (nothing s) h
+accepted_held p me from Over s k h = spoke_held _ _ (nothing s) h
 
 pub held_once : (p : Program) (me from : ℕ) (s : Local) (body : Body) → IsHeldOnce s → IsHeldOnce (takes p me from body s).node
 held_once p me from s body h = elim (is_stray p me from s body) as (λ v. is_stray p me from s body ≡ v → IsHeldOnce (cond v (nothing s) (accepts me from body s)).node) [

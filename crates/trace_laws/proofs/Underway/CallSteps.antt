@@ -21,17 +21,19 @@ use Rattle.run_trace.specs.Local.{EventSoFar}
 use Rattle.run_trace.specs.Steps.{say, put, take_off, keep, halt, asks, asks_show, asks_join, asks_detach, asks_signal, halts, leaves, thread_out}
 use Rattle.run_trace.specs.Machine.{goes}
 use Rattle.run_trace.specs.Keyed.{StandsFor}
+use Rattle.run_trace.specs.World.{World, world_after}
 use Rattle.run_trace.specs.Spots.{Stage, Ready, Running, Departs, Halts, Stays, Shows, Asks, Detaches, Signals, Unborn, On, Moving, Spot, Spots, Going, update, set_going, remote_after, after_label, stage_of_call, going_by_call, sems_by_call, at_node}
 use Rattle.run_trace.specs.Rules.{MayLeave}
 use Rattle.run_trace.specs.Stands.{Busy, busy, busy_name, busy_part, thread_part, row_part, listed, listed_name, word_subject, word_of, way, ways_of, phase_of, held, held_in_stage, holding_of}
 use Rattle.run_trace.proofs.Lemmas.{is-true, is-refl}
 use Rattle.trace_laws.proofs.Lists.KeyedLemmas.{kept, unfronted, refronted, map_kept, map_removed, map_set}
-use Rattle.trace_laws.proofs.Underway.Steps.{in_hand, own_stays, own_goes, own_alone, home_step, send_step, life_then}
-use Rattle.run_trace.specs.Causes.{send_to, asked_causes}
-use Rattle.trace_laws.proofs.Underway.Midst.{Outset, Own, beside, Links, Midst, under, spots_with, labelled, here_kept, agrees_kept, quiet, plain, links_kept, Keeps, keeps}
-use Rattle.trace_laws.proofs.Lists.Parts.{thread_was, row_was, busy_was, rows_without, away_thread, away_row, busy_none}
+use Rattle.trace_laws.proofs.Underway.Steps.{in_hand, own_stays, own_goes, own_alone, after_first, seekers_kept, home_step, send_step, life_then}
+use Rattle.run_trace.specs.Talks.{one_send}
+use Rattle.run_trace.specs.Causes.{asked_causes}
+use Rattle.trace_laws.proofs.Underway.Midst.{Then, updated, IsAsBefore, as_before, plain_seeks, Outset, Own, beside, Links, Midst, under, spots_with, labelled, here_kept, agrees_kept, quiet, plain, links_kept, Keeps, keeps}
+use Rattle.trace_laws.proofs.Lists.Parts.{thread_was, row_was, busy_was, rows_without, away_thread, away_row, busy_none, both_idle}
 use Rattle.trace_laws.proofs.Lists.Stages.{is_in_hand, hand_home, hand_busy, hand_thread, hand_row, leaves_home, leaves_holding, StandsWaiting, is_home, home_way, home_quiet, home_busy}
-use Rattle.run_trace.specs.Items.{Thread as Its, Item, Says, as_list, one_going, goes_on_with}
+use Rattle.run_trace.specs.Items.{is_seeking, Thread as Its, Item, Says, as_list, one_going, goes_on_with}
 
 abbrev pub solo_at : Spots → Tid → Solo
 solo_at v t = (v.threads t).guest.solo
@@ -63,13 +65,18 @@ pub record IsItsOwn (p : Program) (n : ℕ) (t : Tid) (v : Spots) (b : Stage) : 
   pub going : going_by_call p n t v ≡ None
   pub sems : sems_by_call p n t v ≡ v.sems n
 
-asked_same : (p : Program) (n : ℕ) (v : Spots) (t : Tid) (bytes : List ℕ) (b : Stage) → IsItsOwn p n t v b
+pub asked_same : (p : Program) (n : ℕ) (v : Spots) (t : Tid) (bytes : List ℕ) (b : Stage) → IsItsOwn p n t v b
     → after_label p n (Asked t (number_of (call_at v t)) (args_of (call_at v t)) bytes) v
     ≡ spots_with (update v.threads t (record (v.threads t) { life = On n b })) v.slots v.births v.sems v.halts (remote_after (Asked t (number_of (call_at v t)) (args_of (call_at v t)) bytes) v.remote)
 asked_same p n v t bytes b own = asked_as p n v t bytes None b v.sems own.going own.stage (same_at v.sems n _ own.sems)
 
+-- and nothing of its guest
+pub asked_guest : (p : Program) (n : ℕ) (v u : World) (t : Tid) (bytes : List ℕ) (b : Stage) → IsItsOwn p n t v.spots b → u ≡ world_after p n (Asked t (number_of (call_at v.spots t)) (args_of (call_at v.spots t)) bytes) v
+    → (u.spots.threads t).guest ≡ (v.spots.threads t).guest
+asked_guest p n v u t bytes b own e = ap (λ (z : World). (z.spots.threads t).guest) e ∙ ap (λ (z : Spots). (z.threads t).guest) (asked_same p n v.spots t bytes b own) ∙ ap (λ (z : Spot). z.guest) (updated v.spots.threads t _)
+
 -- after which the event may go on with its thread alone
-goes_alone : {p : Program} {n : ℕ} {v : Spots} {b : Stage} (t : Tid) (bytes : List ℕ) → IsItsOwn p n t v b → goes_on_with p n (Asked t (number_of (call_at v t)) (args_of (call_at v t)) bytes) v ≡ Its t ∷ []
+pub goes_alone : {p : Program} {n : ℕ} {v : Spots} {b : Stage} (t : Tid) (bytes : List ℕ) → IsItsOwn p n t v b → goes_on_with p n (Asked t (number_of (call_at v t)) (args_of (call_at v t)) bytes) v ≡ Its t ∷ []
 goes_alone t bytes own = ap (λ k. as_list (one_going k) ++ Its t ∷ []) own.going
 
 -- its home is a node, as each thread's is
@@ -81,7 +88,7 @@ home_of {outset} t a m x = elim (nat_lt t.home (nodes_of outset.program)) as (λ
 
 -- the packet by which a call waits, which is all that is under way of its thread
 record IsPosted (n : ℕ) (t : Tid) (b : Stage) (to : ℕ) (body : Body) (s : Spot) : Type 0 where
-  sent : asked_causes t b ≡ send_to to body
+  sent : asked_causes t b ≡ one_send to body
   ways : ways_of t (On n b) s.verdict s.guest ≡ way n to (word_of to body)
   name : word_subject (word_of to body) ≡ Its t
 
@@ -89,18 +96,18 @@ module _ {outset : Outset} {ahead : List Item} {L : Links} where
   open outset use {program as p, net, occasion as q, node as n, opening, world as w}
 
   -- a call that goes on here
-  pub asks_ok : (d : EventSoFar) (t : Tid) (b : Stage) (hs : List Busy) → (m : Midst outset ahead L d (busy t (On n Running) ∷ hs))
+  pub asks_then_ok : (d : EventSoFar) (t : Tid) (b : Stage) (hs : List Busy) → (m : Midst outset ahead L d (busy t (On n Running) ∷ hs))
       → IsItsOwn p n t m.now.spots b → [] ≡ bytes_at p m.now.spots t → asked_causes t b ≡ []
       → is_in_hand b ≡ true
       → Keeps (Some (holding_of (m.now.spots.threads t).guest)) (held_in_stage b (m.now.spots.threads t).guest)
-      → Midst outset ahead L (asks t (call_at m.now.spots t) d) (busy t (On n b) ∷ hs)
+      → Then outset ahead L m.now (Asked t (number_of (call_at m.now.spots t)) (args_of (call_at m.now.spots t)) []) (asks t (call_at m.now.spots t) d) (busy t (On n b) ∷ hs)
   unfolding asks say
-  asks_ok d t b hs m st bytes sent here slots =
+  asks_then_ok d t b hs m st bytes sent here slots =
       let v : Spots = m.now.spots in
       let s : Spot = m.now.spots.threads t in
       let x : s.life ≡ On n Running = in_hand m in
       let r : Spot = record s { life = On n b } in
-      (home_step (busy t (On n b) ∷ hs) (Asked t (number_of (call_at m.now.spots t)) (args_of (call_at m.now.spots t)) []) t r d.node Running b m
+      home_step (busy t (On n b) ∷ hs) (Asked t (number_of (call_at m.now.spots t)) (args_of (call_at m.now.spots t)) []) t r d.node Running b m
       (record {
         same = asked_same p n m.now.spots t [] b st;
         may = record { solo = (refl, refl, bytes); holders = tt; life = x; replies = tt; grants = tt };
@@ -114,6 +121,8 @@ module _ {outset : Outset} {ahead : List Item} {L : Links} where
         free = refl;
         halted = refl;
         next = own_stays m refl (goes_alone t [] st) (hand_busy n b here);
+        after = as_before;
+        talk = refl;
         run_lists = refl;
         booted = refl;
       })
@@ -125,7 +134,14 @@ module _ {outset : Outset} {ahead : List Item} {L : Links} where
         home_was = refl;
         home_is = hand_home b here;
       })
-      slots).midst
+      slots
+
+  pub asks_ok : (d : EventSoFar) (t : Tid) (b : Stage) (hs : List Busy) → (m : Midst outset ahead L d (busy t (On n Running) ∷ hs))
+      → IsItsOwn p n t m.now.spots b → [] ≡ bytes_at p m.now.spots t → asked_causes t b ≡ []
+      → is_in_hand b ≡ true
+      → Keeps (Some (holding_of (m.now.spots.threads t).guest)) (held_in_stage b (m.now.spots.threads t).guest)
+      → Midst outset ahead L (asks t (call_at m.now.spots t) d) (busy t (On n b) ∷ hs)
+  asks_ok d t b hs m st bytes sent here slots = (asks_then_ok d t b hs m st bytes sent here slots).midst
 
   -- a call that sends a packet
   asks_out_ok : (d : EventSoFar) (t : Tid) (bytes : List ℕ) (b : Stage) (waiting : Wait) (to : ℕ) (body : Body) (hs : List Busy) → (m : Midst outset ahead L d (busy t (On n Running) ∷ hs))
@@ -150,7 +166,9 @@ module _ {outset : Outset} {ahead : List Item} {L : Links} where
         sems = refl;
         free = refl;
         halted = refl;
-        next = own_goes m refl (goes_alone t bytes st) (still.idle n);
+        next = own_goes m refl (goes_alone t bytes st) (still.idle n) (plain_seeks n (On n b) still.plain);
+        after = as_before;
+        talk = refl;
         run_lists = refl;
         booted = refl;
       })
@@ -166,6 +184,7 @@ module _ {outset : Outset} {ahead : List Item} {L : Links} where
           thread = away_thread n k t r b refl e ∙ sym (away_thread n k t s Running x e);
           row = away_row n k t r b refl e ∙ sym (away_row n k t s Running x e);
           busy = busy_none k t r (On n b) refl (still.idle k) ∙ sym (busy_none k t s (On n Running) x e);
+          seeker = both_idle k t s r (ap (is_seeking k) x) (plain_seeks k (On n b) still.plain);
         };
         phase = sym (ap phase_of x);
         quiet = quiet x refl;
@@ -215,23 +234,26 @@ module _ {outset : Outset} {ahead : List Item} {L : Links} where
           threads = map_set is_tid is-true is-refl (thread_part n) v.threads t r d.node.threads (waits wait.No s.guest) (waits wait.Halted s.guest) m.here.threads (thread_was n t s Halts x) (thread_was n t r Stays refl);
           rows = kept is_tid is-true is-refl listed_name (row_part n) v.threads t r (map listed d.node.run_lists.rows) m.here.rows (row_was n t r Stays refl ∙ sym (row_was n t s Halts x));
           busy = unfronted is_tid is-true is-refl busy_name (busy_part n) v.threads t r hs (busy t (On n Halts)) m.here.busy refl (busy_none n t r (On n Stays) refl refl);
+          seekers = seekers_kept n v.threads t r m.here.seekers refl (ap (is_seeking n) x) refl;
           births = m.here.births;
           sems = m.here.sems;
           free = m.here.free;
           halted = rw (eq-eqb n n refl) refl;
         };
-        there = λ k e. here_kept k v t r (net.nodes k) [] (m.there k e)
+        there = λ k e. here_kept k v t r (net.nodes k) [] [] (m.there k e)
             (record {
               thread = away_thread n k t r Stays refl e ∙ sym (away_thread n k t s Halts x e);
               row = away_row n k t r Stays refl e ∙ sym (away_row n k t s Halts x e);
               busy = busy_none k t r (On n Stays) refl refl ∙ sym (busy_none k t s (On n Halts) x e);
+              seeker = both_idle k t s r (ap (is_seeking k) x) refl;
             })
             refl refl (λ y. refl) (rw e refl);
         links = λ i j. links_kept t r v.threads (under n L d.sends) m.links (sym (ap (λ z. ways_of t z s.verdict s.guest) x)) i j;
+        turns = m.turns;
         agrees = agrees_kept p v t r (at_node v.halts n true) m.agrees (sym (ap phase_of x)) (quiet x refl) (keeps _ _ (ap (λ z. held z s.guest) (sym x)))
-            (record { waits = λ u k e. absurd (cc e); signals = λ k id up e. absurd (cc e); stays = λ k e. (let same : n ≡ k = cc e in rw (eq-eqb n k same) refl) }) (λ j k. refl) (λ k e. elim (eqb n k) as (λ v. cond v true (m.now.spots.halts k) ≡ true) [ true ↦ refl | false ↦ e ]);
+            (record { seeks = λ k e. absurd (cc e); waits = λ u k e. absurd (cc e); signals = λ k id up e. absurd (cc e); stays = λ k e. (let same : n ≡ k = cc e in rw (eq-eqb n k same) refl) }) (λ j k. refl) (λ k e. elim (eqb n k) as (λ v. cond v true (m.now.spots.halts k) ≡ true) [ true ↦ refl | false ↦ e ]);
       })
-      (beside (own_goes m refl refl refl) (life_then p n m.now.spots (Halted t) t r _ refl refl) refl refl)).midst
+      (beside (own_goes m refl refl refl refl) (life_then p n m.now.spots (Halted t) t r _ refl refl) refl refl refl)).midst
 
   -- ## Moves
 
@@ -239,10 +261,10 @@ module _ {outset : Outset} {ahead : List Item} {L : Links} where
   pub leaves_ok : {due : List Item} {hand : List Busy} (d : EventSoFar) (t : Tid) (to : ℕ) (a : Stage) (hs : List Busy) → (m : Midst outset due L d hand) → (m.now.spots.threads t).life ≡ On n a
       → MayLeave n to (On n a) → to < nodes_of p → (to ≡ n → ⊥)
       → StandsFor is_tid busy_name (busy_part n) hs (update m.now.spots.threads t (record (m.now.spots.threads t) { life = Moving n to }))
-      → Own p n (Left t to) t m.now.spots due ahead hand hs (Moving n to)
+      → Own p n (Left t to) t m.now.spots due ahead hand hs (Moving n to) → IsAsBefore due ahead
       → Midst outset ahead L (leaves t to (waits wait.No (m.now.spots.threads t).guest) d) hs
   unfolding leaves put say thread_out take_off
-  leaves_ok d t to a hs m x may below other hands own =
+  leaves_ok d t to a hs m x may below other hands own after =
       let v : Spots = m.now.spots in
       let s : Spot = m.now.spots.threads t in
       let r : Spot = record s { life = Moving n to } in
@@ -261,6 +283,8 @@ module _ {outset : Outset} {ahead : List Item} {L : Links} where
         free = refl;
         halted = refl;
         next = own;
+        after = after;
+        talk = refl;
         run_lists = refl;
         booted = refl;
       })
@@ -276,6 +300,7 @@ module _ {outset : Outset} {ahead : List Item} {L : Links} where
           thread = sym (away_thread n k t s a x e);
           row = sym (away_row n k t s a x e);
           busy = sym (busy_none k t s (On n a) x (home_busy n k a home e));
+          seeker = both_idle k t s r ((home_quiet n a s.life x home).seeks k) refl;
         };
         phase = sym (ap phase_of x);
         quiet = home_quiet n a s.life x home;
@@ -292,7 +317,7 @@ module _ {outset : Outset} {ahead : List Item} {L : Links} where
       subst (λ b. Midst outset ahead L (cond b (leaves t to (waits wait.No (m.now.spots.threads t).guest) d) d) hs) (sym (home_of t (Departs to) m x))
       (leaves_ok d t to (Departs to) hs m x (refl, refl) below other
       (unfronted is_tid is-true is-refl busy_name (busy_part n) v.threads t r hs (busy t (On n (Departs to))) m.here.busy refl refl)
-      (own_goes m refl refl refl))
+      (own_goes m refl refl refl refl) as_before)
 
   -- or because it is sent away
   pub sent_ok : (d : EventSoFar) (t : Tid) (to : ℕ) → (m : Midst outset (Says (Left t to) ∷ ahead) L d []) → (m.now.spots.threads t).life ≡ On n Ready → to < nodes_of p → (to ≡ n → ⊥) → Midst outset ahead L (goes p t to (waits wait.No (m.now.spots.threads t).guest) d) []
@@ -302,4 +327,4 @@ module _ {outset : Outset} {ahead : List Item} {L : Links} where
       subst (λ b. Midst outset ahead L (cond b (leaves t to (waits wait.No (m.now.spots.threads t).guest) d) d) []) (sym (home_of t Ready m x))
       (leaves_ok d t to Ready [] m x refl below other
       (kept is_tid is-true is-refl busy_name (busy_part n) v.threads t r [] m.here.busy (sym (busy_none n t (m.now.spots.threads t) (On n Ready) x refl)))
-      (own_alone refl refl refl))
+      (own_alone refl refl refl refl refl) (after_first (Says (Left t to)) refl))

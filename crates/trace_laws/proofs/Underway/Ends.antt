@@ -15,17 +15,19 @@ use Rattle.run_trace.specs.Program.{Program}
 use Rattle.run_trace.specs.Local.{Local, nothing}
 use Rattle.run_trace.specs.Steps.{say, change_birth, knows}
 use Rattle.run_trace.specs.Machine.{tells_joiner}
-use Rattle.run_trace.specs.Spots.{Stays, Awaits, Answers, Signals, Life, Unborn, On, Noting, Gone, Spot, Spots, update, at_node, set_going, end_in, joiner_going}
+use Rattle.run_trace.specs.Spots.{Seeks, Stays, Awaits, Answers, Signals, Life, Unborn, On, Noting, Gone, Spot, Spots, update, at_node, set_going, end_in, joiner_going}
+use Rattle.run_trace.specs.Calls.{call_of}
+use Rattle.run_trace.specs.Guests.{Guest}
 use Rattle.run_trace.specs.Rules.{JoinerAwaits}
-use Rattle.run_trace.specs.Stands.{Agrees, busy, busy_name, busy_part, thread_part, thread_in_life, row_part, row_in_life, listed, listed_name, Ended_word, waiter_in_life, ways_of, phase_of, phase_at, During, After, held, slots_held, IsWellHeld, is_thread}
+use Rattle.run_trace.specs.Stands.{WantsSlots, Agrees, busy, busy_name, busy_part, thread_part, thread_in_life, row_part, row_in_life, listed, listed_name, Ended_word, waiter_in_life, ways_of, phase_of, phase_at, During, After, held, slots_held, IsWellHeld, is_thread}
 use Rattle.run_trace.proofs.Lemmas.{is-true, is-refl, is-false, is-other, is-flip}
 use Rattle.trace_laws.proofs.Lists.KeyedLemmas.{kept, fronted, map_kept}
 use Rattle.trace_laws.proofs.Lists.Births.{get-with}
 use Rattle.trace_laws.proofs.Underway.Midst.{Outset, links_less, beside, beside_both, Links, Midst, spots_with, labelled, here_kept, links_kept, take_link, nothing_sent, updated, AreQueued, queued, queued_kept}
-use Rattle.trace_laws.proofs.Lists.Parts.{busy_none}
-use Rattle.trace_laws.proofs.Underway.Takes.{reply_ok, links_whole}
-use Rattle.trace_laws.proofs.Underway.Steps.{life_then}
-use Rattle.run_trace.specs.Items.{Thread, Says, Item, as_list, one_going}
+use Rattle.trace_laws.proofs.Lists.Parts.{both_idle, busy_none}
+use Rattle.trace_laws.proofs.Underway.Takes.{reply_ok, links_whole, still_in_turn}
+use Rattle.trace_laws.proofs.Underway.Steps.{life_then, seekers_kept}
+use Rattle.run_trace.specs.Items.{Thread, Says, Item, is_seeking, as_list, one_going}
 use Rattle.trace_laws.proofs.Underway.Homes.{Renewed, other_birth, birth_of, phase_same, held_same, unborn_same, awaits_same}
 
 ended_phase : (end : End) (b : Birth) → phase_at (Some (ended end b)) ≡ After
@@ -44,6 +46,7 @@ record Serves (t : Tid) (w f : Tid → Spot) : Type 0 where
   waits : (u b : Tid) (at : ℕ) → (f b).life ≡ On at (Awaits u) → ((w b).life ≡ On at (Awaits u)) × (is_tid t u ≡ false)
   stays : (u : Tid) (m : ℕ) → (f u).life ≡ On m Stays → (w u).life ≡ On m Stays
   signals : (u : Tid) (m id : ℕ) (up : Bool) → (f u).life ≡ On m (Signals id up) → (w u).life ≡ On m (Signals id up)
+  seeks : (u : Tid) (m : ℕ) → (f u).life ≡ On m Seeks → ((w u).life ≡ On m Seeks) × ((f u).guest ≡ (w u).guest)
 
 -- what all nodes share, once the home knows an end
 ends_agree : {p : Program} {n seq from : ℕ} {end : End} {w : Spots} {births : List Birth} {new : Option Birth} (f : Tid → Spot) (r : Spot) → Renewed n seq w.births births new
@@ -53,6 +56,10 @@ ends_agree : {p : Program} {n seq from : ℕ} {end : End} {w : Spots} {births : 
 ends_agree {n = n} {seq = seq} {w = w} {births = births} f r renewed a x gone serves known nobody queued = record {
   sems = queued.sems;
   queues = queued.queues;
+  seeks = λ u m e. elim (is_tid t u) as (λ v. (cond v r (f u)).life ≡ On m Seeks → WantsSlots (call_of (cond v r (f u)).guest.solo.state)) [
+    | true ↦ λ h. absurd (cc (gone, h))
+    | false ↦ λ h. (let was = serves.seeks u m h in subst (λ (z : Guest). WantsSlots (call_of z.solo.state)) (sym was.1) (a.seeks u m was.0))
+  ] e;
   signals = λ u m id up e. elim (is_tid t u) as (λ v. (cond v r (f u)).life ≡ On m (Signals id up) → eqb (node_in id) m ≡ false) [ true ↦ λ h. absurd (cc (gone, h)) | false ↦ λ h. a.signals u m id up (serves.signals u m id up h) ] e;
   waits = λ u b at e. elim (is_tid t b) as (λ v. (cond v r (f b)).life ≡ On at (Awaits u) → slice_get (at_node w.births n births u.home) u.seq ≡ Some (Awaited b at)) [
     | true ↦ λ h. absurd (cc (gone, h))
@@ -113,19 +120,22 @@ module _ {outset : Outset} {ahead : List Item} {L : Links} where
           threads = map_kept is_tid is-true is-refl (thread_part n) m.now.spots.threads t r s.threads m.here.threads (sym (ap (λ z. thread_in_life n z o.guest) x));
           rows = kept is_tid is-true is-refl listed_name (row_part n) m.now.spots.threads t r (map listed s.run_lists.rows) m.here.rows (sym (ap (λ z. row_in_life n t z o.guest.priority) x));
           busy = kept is_tid is-true is-refl busy_name (busy_part n) m.now.spots.threads t r [] m.here.busy (sym (busy_none n t o (Noting from end) x refl));
+          seekers = seekers_kept n m.now.spots.threads t r m.here.seekers refl (ap (is_seeking n) x) refl;
           births = rw (eq-eqb n n refl) (ap (λ bs. with_birth bs seq (ended end)) m.here.births);
           sems = m.here.sems;
           free = m.here.free;
           halted = m.here.halted;
         };
-        there = λ k f. here_kept k m.now.spots t r (net.nodes k) [] (m.there k f)
+        there = λ k f. here_kept k m.now.spots t r (net.nodes k) [] [] (m.there k f)
             (record {
               thread = sym (ap (λ z. thread_in_life k z o.guest) x);
               row = sym (ap (λ z. row_in_life k t z o.guest.priority) x);
               busy = sym (busy_none k t o (Noting from end) x refl);
+              seeker = both_idle k t o r (ap (is_seeking k) x) refl;
             })
             (rw f refl) refl (λ y. refl) refl;
         links = λ i j. nothing_sent n (links_less n L from t) i j (update m.now.spots.threads t r) (take_link from n (Ended_word t end) t r L m.now.spots.threads (links_whole m) (ap (λ z. ways_of t z o.verdict o.guest) x) i j);
+        turns = still_in_turn (Known t) from t m;
         agrees = ends_agree {new = Some (ended end b)} m.now.spots.threads r (record { gets = λ j. get-with (m.now.spots.births n) seq j (ended end) b e }) m.agrees x refl
             (record {
               phases = λ u. refl;
@@ -141,15 +151,17 @@ module _ {outset : Outset} {ahead : List Item} {L : Links} where
               );
               stays = λ u k g. g;
               signals = λ u k id up g. g;
+              seeks = λ u k g. (g, refl);
             })
             (ended_phase end b) nobody (queued_kept m.now.spots.threads t r (queued m.agrees) (λ j k. ap (waiter_in_life j k t) x) (λ j k. refl));
       })
       (beside (record {
         heir = ap (λ z. as_list (one_going (joiner_going t (end_in o.life) z)) ++ Thread t ∷ []) (ap joiner e ∙ none);
+        front = λ sends talk. refl;
         next = refl;
         still = refl;
       })
-      (life_then p n m.now.spots (Known t) t r _ same refl) refl refl)).midst
+      (life_then p n m.now.spots (Known t) t r _ same refl) refl refl refl)).midst
 
   -- an end that a joiner waits for
   knows_awaited : (s : Local) (from seq at : ℕ) (end : End) (by : Tid) → (m : Midst outset (Says (Known (tid n seq)) ∷ ahead) L (nothing s) []) → (m.now.spots.threads (tid n seq)).life ≡ Noting from end
@@ -184,27 +196,31 @@ module _ {outset : Outset} {ahead : List Item} {L : Links} where
               (kept is_tid is-true is-refl listed_name (row_part n) m.now.spots.threads by r1 (map listed s.run_lists.rows) m.here.rows (sym (ap (λ z. row_in_life n by z c.guest.priority) y))) (sym (ap (λ z. row_in_life n t z (f t).guest.priority) x1));
           busy = kept is_tid is-true is-refl busy_name (busy_part n) f t r (busy by life ∷ [])
               (fronted is_tid is-true is-refl busy_name (busy_part n) m.now.spots.threads by r1 [] (busy by life) m.here.busy refl (busy_none n by c (On at (Awaits t)) y refl) (rw (eq-eqb n n refl) refl)) (sym (busy_none n t (f t) (Noting from end) x1 refl));
+          seekers = seekers_kept n f t r (seekers_kept n m.now.spots.threads by r1 m.here.seekers refl (ap (is_seeking n) y) refl) refl (ap (is_seeking n) x1) refl;
           births = rw (eq-eqb n n refl) (ap (λ bs. with_birth bs seq (ended end)) m.here.births);
           sems = m.here.sems;
           free = m.here.free;
           halted = m.here.halted;
         };
-        there = λ k g. here_kept k w1 t r (net.nodes k) []
-            (here_kept k m.now.spots by r1 (net.nodes k) [] (m.there k g)
+        there = λ k g. here_kept k w1 t r (net.nodes k) [] []
+            (here_kept k m.now.spots by r1 (net.nodes k) [] [] (m.there k g)
             (record {
               thread = sym (ap (λ z. thread_in_life k z c.guest) y);
               row = sym (ap (λ z. row_in_life k by z c.guest.priority) y);
               busy = busy_none k by r1 life refl g ∙ sym (busy_none k by c (On at (Awaits t)) y refl);
+              seeker = both_idle k by c r1 (ap (is_seeking k) y) refl;
             })
             refl refl (λ z. refl) refl)
             (record {
               thread = sym (ap (λ z. thread_in_life k z (f t).guest) x1);
               row = sym (ap (λ z. row_in_life k t z (f t).guest.priority) x1);
               busy = sym (busy_none k t (f t) (Noting from end) x1 refl);
+              seeker = both_idle k t (f t) r (ap (is_seeking k) x1) refl;
             })
             (rw g refl) refl (λ z. refl) refl;
         links = λ i j. nothing_sent n (links_less n L from t) i j (update f t r)
             (take_link from n (Ended_word t end) t r L f (λ a b. links_kept by r1 m.now.spots.threads L (links_whole m) (sym (ap (λ z. ways_of by z c.verdict c.guest) y)) a b) (ap (λ z. ways_of t z (f t).verdict (f t).guest) x1) i j);
+        turns = still_in_turn (Known t) from t m;
         agrees = ends_agree {new = Some Over} f r (record { gets = λ j. get-with (m.now.spots.births n) seq j (ended end) (Awaited by at) e }) m.agrees x refl
             (record {
               phases = λ u. phase_same m.now.spots.threads by r1 (sym (ap phase_of y)) u;
@@ -224,16 +240,18 @@ module _ {outset : Outset} {ahead : List Item} {L : Links} where
               ] refl g;
               stays = λ u k g. elim (is_tid by u) as (λ v. (cond v r1 (m.now.spots.threads u)).life ≡ On k Stays → (m.now.spots.threads u).life ≡ On k Stays) [ true ↦ λ i. absurd (cc i) | false ↦ λ i. i ] g;
               signals = λ u k id up g. elim (is_tid by u) as (λ v. (cond v r1 (m.now.spots.threads u)).life ≡ On k (Signals id up) → (m.now.spots.threads u).life ≡ On k (Signals id up)) [ true ↦ λ i. absurd (cc i) | false ↦ λ i. i ] g;
+              seeks = λ u k g. elim (is_tid by u) as (λ v. (cond v r1 (m.now.spots.threads u)).life ≡ On k Seeks → ((m.now.spots.threads u).life ≡ On k Seeks) × ((cond v r1 (m.now.spots.threads u)).guest ≡ (m.now.spots.threads u).guest)) [ true ↦ λ i. absurd (cc i) | false ↦ λ i. (i, refl) ] g;
             })
             refl (λ b k g. absurd (cc g))
             (queued_kept f t r (queued_kept m.now.spots.threads by r1 (queued m.agrees) (λ i j. ap (waiter_in_life i j by) y) (λ i j. refl)) (λ i j. ap (waiter_in_life i j t) x1) (λ i j. refl));
       })
       (beside_both {first = life} {second = Gone end} (record {
         heirs = ap (λ z. as_list (one_going (joiner_going t (end_in o.life) z)) ++ Thread t ∷ []) (ap joiner e);
+        front = λ sends talk. refl;
         next = refl;
         still = rw (eq-eqb n n refl) refl;
       })
-      (ap (λ (z : Spots). (z.threads by).life) same ∙ at_by) (ap (λ (z : Spots). (z.threads t).life) same ∙ ap (λ (z : Spot). z.life) (updated f t r)) refl refl)).midst
+      (ap (λ (z : Spots). (z.threads by).life) same ∙ at_by) (ap (λ (z : Spots). (z.threads t).life) same ∙ ap (λ (z : Spot). z.life) (updated f t r)) refl refl refl)).midst
 
   pub knows_ok : (s : Local) (from seq : ℕ) (end : End) → (m : Midst outset (Says (Known (tid n seq)) ∷ ahead) L (nothing s) []) → (m.now.spots.threads (tid n seq)).life ≡ Noting from end
       → Midst outset ahead (links_less n L from (tid n seq)) (tells_joiner end (joiner (slice_get s.births seq)) (knows n seq end (nothing s))) []

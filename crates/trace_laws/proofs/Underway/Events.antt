@@ -1,11 +1,12 @@
 -- Calls and runs, composed of their steps.
-use Rattle.std.proofs.Common.{◌≡◌, ℕ, ◌<◌, List, [], ◌∷◌, Option, Some, None, Bool, true, false, eqb, cond, refl, sym, ap, ◌∙◌, subst, arith}
+use Rattle.std.proofs.Common.{◌≡◌, ℕ, ◌<◌, List, [], ◌∷◌, ◌++◌, Option, Some, None, Bool, true, false, eqb, cond, refl, sym, ap, ◌∙◌, subst, arith}
 use Rattle.std.specs.Prelude.{nat_lt, length, ◌^◌}
 use Rattle.std.proofs.lemmas.Bool.{eqb-false}
 use Rattle.std.proofs.lemmas.Bool.Decides.{nat_tests}
 use Rattle.slot_space.specs.Replies.{reply_code, tid_value}
 use Rattle.slot_space.specs.declared.names.Tid.{Tid}
 use Rattle.slot_space.specs.declared.names.Reply.{Reply}
+use Rattle.iso_blocks.specs.Heap.{rounded, place}
 use Rattle.rv_step.specs.declared.hart.Stop.{Stop}
 use Rattle.rv_step.specs.declared.hart.Stop.TheVariants as stops
 use Rattle.marcel_core.specs.declared.end.End.TheVariants as end_of
@@ -14,32 +15,34 @@ use Rattle.run_trace.specs.RunLists.{is_listed}
 use Rattle.run_trace.specs.declared.node.Wait.TheVariants as wait
 use Rattle.run_trace.specs.Names.{tid_of}
 use Rattle.run_trace.specs.Program.{Program, nodes_of}
-use Rattle.run_trace.specs.Guests.{Guest, Solo, Thread, Run, waits, with_state}
+use Rattle.run_trace.specs.Guests.{Guest, Solo, heap_of, Thread, Run, waits, with_state}
 use Rattle.run_trace.specs.declared.call.Call.{Call}
 use Rattle.run_trace.specs.declared.call.Call.TheVariants.{Exit, Name, Node, Nodes, Yield, Create, Join, Detach, SemNew, SemP, SemV, Isomalloc, Isofree, MigrateSelf, Migrate, Print, Halt, Unknown}
 use Rattle.run_trace.specs.Calls.{call_of, refusal, bytes_of, said_bytes}
 use Rattle.run_trace.specs.Local.{EventSoFar}
-use Rattle.run_trace.specs.Steps.{at_found, at_thread, thread_at, ran, asks, asks_here, asks_show, asks_join, asks_detach}
+use Rattle.run_trace.specs.Steps.{at_found, at_thread, thread_at, ran, asks, asks_slots, asks_here, asks_show, asks_join, asks_detach}
 use Rattle.run_trace.specs.Causes.{asked_causes}
 use Rattle.trace_laws.proofs.Lists.Arriving.{ran_lists}
-use Rattle.run_trace.specs.Machine.{answer, end_thread, creates, creates_in, free_slot, goes, migrates, sends, sends_away, signals, calls, stopped, run_thread}
+use Rattle.run_trace.specs.Machine.{answer, end_thread, serves, places, allocates_at, goes, migrates, sends, sends_away, signals, calls, stopped, run_thread}
 use Rattle.run_trace.specs.Rules.{quantum_in}
-use Rattle.run_trace.specs.Spots.{Stage, Ready, Running, Due, Served, Departs, Ends, Halts, On, Going, Spots, ran_stage, asked_stage, asked_going, asked_sems, sent_stage, sent_away}
-use Rattle.run_trace.specs.Stands.{busy, thread_in_stage, held_in_stage, holding_of}
+use Rattle.run_trace.specs.Spots.{Stage, Ready, Running, Due, Served, Seeks, placing_stage, Departs, Ends, Halts, On, Going, Spots, ran_stage, asked_stage, asked_going, asked_sems, sent_stage, sent_away}
+use Rattle.run_trace.specs.Stands.{WantsSlots, serving, busy, thread_in_stage, held_in_stage, holding_of}
 use Rattle.trace_laws.proofs.Lists.Stages.{is_in_hand}
 use Rattle.trace_laws.proofs.Underway.Midst.{Outset, Links, Midst, Keeps, keeps}
 use Rattle.trace_laws.proofs.Underway.Steps.{in_hand, on_node, at_ok}
-use Rattle.trace_laws.proofs.Underway.ReplySteps.{answer_ok, answer_move_ok, answer_stay_ok, refuse_ok}
+use Rattle.trace_laws.proofs.Underway.ReplySteps.{answer_ok, answer_move_ok, answer_stay_ok}
 use Rattle.trace_laws.proofs.Underway.RunSteps.{ran_there, ran_ok, ran_guest, runs_out_ok, run_now}
-use Rattle.trace_laws.proofs.Underway.CallSteps.{departs_ok, asks_ok, asks_show_ok, asks_join_ok, asks_detach_ok, halts_ok, solo_at, bytes_at, IsItsOwn}
+use Rattle.trace_laws.proofs.Underway.CallSteps.{asks_then_ok, asked_guest, departs_ok, asks_ok, asks_show_ok, asks_join_ok, asks_detach_ok, halts_ok, solo_at, bytes_at, IsItsOwn}
 use Rattle.trace_laws.proofs.Underway.SemaphoreSteps.{asks_here_ok}
 use Rattle.trace_laws.proofs.Underway.SemaphoreCalls.{signals_ok}
 use Rattle.trace_laws.proofs.Underway.Sendings.{sends_away_ok}
 use Rattle.trace_laws.proofs.Lists.Queues.{more_sems, more_waiters}
-use Rattle.trace_laws.proofs.Underway.Lifetimes.{end_thread_ok, born_ok, lowest_is}
-use Rattle.trace_laws.proofs.Underway.HeapSteps.{allocates_ok, frees_ok}
+use Rattle.trace_laws.proofs.Underway.Lifetimes.{end_thread_ok}
+use Rattle.trace_laws.proofs.Underway.Seeking.{seeks_first, asks_slots_ok}
+use Rattle.trace_laws.proofs.Underway.Turns.{claims_ok}
+use Rattle.trace_laws.proofs.Underway.HeapSteps.{places_ok, serves_ok, unserved, frees_ok}
 use Rattle.trace_laws.proofs.Lives.Heaps.{frees_well}
-use Rattle.run_trace.specs.Items.{Item, Runs}
+use Rattle.run_trace.specs.Items.{Item, Runs, Serves, has_slots}
 
 -- the checks of a move refuse what is no node
 goes_inside : (p : Program) (t : Tid) (x : Solo) (to : ℕ) → refusal p t x (MigrateSelf to) ≡ None → to < nodes_of p
@@ -62,13 +65,16 @@ nobody_else false = refl
 module _ {outset : Outset} {ahead : List Item} {L : Links} (below : nat_lt outset.node (nodes_of outset.program) ≡ true) where
   open outset use {program as p, net, occasion as q, node as n, opening, world as w}
 
-  -- a thread that takes a slot of the node, or is answered Full
-  creates_ok : (d : EventSoFar) (t : Tid) (e a k : ℕ) → (m : Midst outset ahead L d (busy t (On n (Served (Create e a k))) ∷ [])) → Midst outset ahead L (creates n t e a k d) []
-  creates_ok d t e a k m = by (free_slot d.node.slots.free) refl
+  -- a thread that seeks slots is served, or claims them
+  serve_ok : (d : EventSoFar) (t : Tid) → Midst outset (Serves t ∷ ahead) L d [] → Midst outset ahead L (serves n t d) []
+  serve_ok d t m = by (has_slots n t m.now.spots) refl
     where
-      by : (o : Option ℕ) → free_slot d.node.slots.free ≡ o → Midst outset ahead L (creates_in n t e a k o d) []
-      by None f = refuse_ok d t e a k [] m (lowest_is n 1 m.now.spots d.node _ m.here ∙ f)
-      by (Some slot) f = answer_ok _ t _ [] (born_ok below d t e a k slot [] m f)
+      x : (m.now.spots.threads t).life ≡ On n Seeks
+      x = seeks_first n t (serving ahead ++ d.node.talk.claims) m.now.spots.threads m.here.seekers
+
+      by : (v : Bool) → has_slots n t m.now.spots ≡ v → Midst outset ahead L (serves n t d) []
+      by true e = serves_ok below d t m e
+      by false e = subst (λ z. Midst outset ahead L z []) (sym (unserved d t m x e)) (claims_ok d t m e)
 
   -- a thread that goes to another node is answered first, and one that asks for its own is answered alone
   migrates_ok : (d : EventSoFar) (t : Tid) (to : ℕ) → Midst outset ahead L d (busy t (On n (Served (MigrateSelf to))) ∷ []) → to < nodes_of p → Midst outset ahead L (migrates p n to t (answer t 0 d)) []
@@ -115,6 +121,19 @@ module _ {outset : Outset} {ahead : List Item} {L : Links} (below : nat_lt outse
       asked c o b e f st none sent here kept = subst (λ z. Midst outset ahead L (asks t z d) (busy t (On n b) ∷ [])) e
           (asks_ok d t b [] m st (none ∙ bytes c o e f) sent here kept)
 
+      -- the thread seeks slots for it
+      seeks : (c : Call) (o : Option Reply) → call_of s.state ≡ c → refusal p t s (call_of s.state) ≡ o → IsItsOwn p n t v Seeks → [] ≡ said_bytes p s.state c o → WantsSlots c
+          → Midst outset (Serves t ∷ ahead) L (asks_slots t c (waits wait.No (v.threads t).guest) d) []
+      seeks c o e f st none wants = subst (λ z. Midst outset (Serves t ∷ ahead) L (asks_slots t z (waits wait.No (v.threads t).guest) d) []) e
+          (asks_slots_ok d t m st (none ∙ bytes c o e f) (subst (λ z. WantsSlots z) (sym e) wants))
+
+      -- or its block has a place
+      placed : (len address : ℕ) → IsItsOwn p n t v (Served (Isomalloc len)) → [] ≡ bytes_at p v t → place (heap_of s) (rounded len) ≡ Some address → Midst outset ahead L (at_thread t (places t (rounded len)) (asks t (call_of s.state) d)) []
+      placed len address st none g =
+          let k = asks_then_ok d t (Served (Isomalloc len)) [] m st none refl refl (keeps _ _ refl) in
+          at_ok (asks t (call_of s.state) d) [] t (Served (Isomalloc len)) (places t (rounded len)) k.midst (in_hand k.midst) refl
+          (places_ok (asks t (call_of s.state) d) t len address [] k.midst (ap (λ (z : Guest). place (heap_of z.solo) (rounded len)) (asked_guest p n m.now k.midst.now t [] (Served (Isomalloc len)) st k.now) ∙ g))
+
       -- it is answered at once
       due : (c : Call) (code : ℕ) (o : Option Reply) → call_of s.state ≡ c → refusal p t s (call_of s.state) ≡ o → IsItsOwn p n t v (Due code) → [] ≡ said_bytes p s.state c o → Midst outset ahead L (answer t code (asks t c d)) []
       due c code o e f st none = answer_ok (asks t c d) t code [] (asked c o (Due code) e f st none refl refl (keeps _ _ refl))
@@ -127,7 +146,7 @@ module _ {outset : Outset} {ahead : List Item} {L : Links} (below : nat_lt outse
       then c b step k there done = at_ok (asks t c d) [] t b step k (in_hand k) there done
 
       -- a step of the thread by which it asks
-      now : (step : Thread → EventSoFar → EventSoFar) → Midst outset ahead L (step (waits wait.No (m.now.spots.threads t).guest) d) [] → Midst outset ahead L (at_thread t step d) []
+      now : {next : List Item} (step : Thread → EventSoFar → EventSoFar) → Midst outset next L (step (waits wait.No (m.now.spots.threads t).guest) d) [] → Midst outset next L (at_thread t step d) []
       now step done = at_ok d [] t Running step m (in_hand m) refl done
 
       by : (c : Call) → call_of s.state ≡ c → (o : Option Reply) → refusal p t s (call_of s.state) ≡ o → Midst outset ahead L (calls p n t c o (bytes_of p s.state c) d) []
@@ -140,11 +159,15 @@ module _ {outset : Outset} {ahead : List Item} {L : Links} (below : nat_lt outse
       by (Exit value) e None f =
           let k = asked (Exit value) None (Ends (end_of.Exit value)) e f (own (Exit value) None _ e f refl refl refl) refl refl refl (keeps _ _ refl) in
           then (Exit value) (Ends (end_of.Exit value)) _ k refl (end_thread_ok (asks t (Exit value) d) t (end_of.Exit value) [] k)
-      by (Create entry a i) e None f = creates_ok (asks t (Create entry a i) d) t entry a i
-          (asked (Create entry a i) None (Served (Create entry a i)) e f (own (Create entry a i) None _ e f refl refl refl) refl refl refl (keeps _ _ refl))
-      by (Isomalloc len) e None f =
-          let k = asked (Isomalloc len) None (Served (Isomalloc len)) e f (own (Isomalloc len) None _ e f refl refl refl) refl refl refl (keeps _ _ refl) in
-          then (Isomalloc len) (Served (Isomalloc len)) _ k refl (allocates_ok (asks t (Isomalloc len) d) t len [] k)
+      by (Create entry a i) e None f = serve_ok _ t (now _ (seeks (Create entry a i) None e f (own (Create entry a i) None Seeks e f refl refl refl) refl tt))
+      by (Isomalloc len) e None f = now _ (by_place (place (heap_of s) (rounded len)) refl)
+        where
+          c : Call
+          c = Isomalloc len
+
+          by_place : (o : Option ℕ) → place (heap_of s) (rounded len) ≡ o → Midst outset ahead L (allocates_at n t len o (waits wait.No (v.threads t).guest) d) []
+          by_place None g = serve_ok _ t (seeks c None e f (own c None Seeks e f (ap (placing_stage c) g) refl refl) refl tt)
+          by_place (Some address) g = subst (λ z. Midst outset ahead L (at_thread t (places t (rounded len)) (asks t z d)) []) e (placed len address (own c None (Served c) e f (ap (placing_stage c) g) refl refl) (bytes c None e f) g)
       by (Isofree address) e None f =
           let k = asked (Isofree address) None (Served (Isofree address)) e f (own (Isofree address) None _ e f refl refl refl) refl refl refl (record { slots = refl; well = λ h. frees_well (v.threads t).guest address h }) in
           then (Isofree address) (Served (Isofree address)) _ k refl (frees_ok (asks t (Isofree address) d) t address [] k)

@@ -21,17 +21,18 @@ use Rattle.run_trace.specs.Local.{Local, nothing}
 use Rattle.run_trace.specs.Steps.{say, change_birth, reply_by_link, hears, hears_detach}
 use Rattle.run_trace.specs.Machine.{judges_join}
 use Rattle.run_trace.specs.Keyed.{StandsFor}
-use Rattle.run_trace.specs.Spots.{Stage, Stays, Asks, Awaits, Answers, Detaches, Signals, Life, On, Spot, Spots, update, at_node, heard_life, heard_at, births_heard, sems_heard, wakes_heard, set_going}
+use Rattle.run_trace.specs.Spots.{Stage, Seeks, Stays, Asks, Awaits, Answers, Detaches, Signals, Life, On, Spot, Spots, update, at_node, heard_life, heard_at, births_heard, sems_heard, wakes_heard, set_going}
+use Rattle.run_trace.specs.Calls.{call_of}
 use Rattle.run_trace.specs.Rules.{MayHear}
-use Rattle.run_trace.specs.Stands.{way, Agrees, Busy, busy, busy_name, busy_part, thread_part, thread_in_life, row_part, row_in_life, listed, listed_name, Word, Joins, Detaching, waiter_part, ways_of, phase_of, phase_at, held, holding_of, slots_held, IsWellHeld}
+use Rattle.run_trace.specs.Stands.{WantsSlots, way, Agrees, Busy, busy, busy_name, busy_part, thread_part, thread_in_life, row_part, row_in_life, listed, listed_name, Word, Joins, Detaching, waiter_part, ways_of, phase_of, phase_at, held, holding_of, slots_held, IsWellHeld}
 use Rattle.run_trace.proofs.Lemmas.{is-true, is-refl}
 use Rattle.trace_laws.proofs.Lists.KeyedLemmas.{kept, fronted, map_kept}
 use Rattle.trace_laws.proofs.Lists.Births.{get-with, with-none}
 use Rattle.trace_laws.proofs.Underway.Midst.{Outset, doing, links_less, beside, Links, Midst, spots_with, labelled, here_kept, take_link, nothing_sent, updated, is_quiet, Quiet, quiet, queued, queued_kept}
-use Rattle.trace_laws.proofs.Lists.Parts.{busy_none}
-use Rattle.trace_laws.proofs.Underway.Takes.{reply_ok, links_whole}
-use Rattle.trace_laws.proofs.Underway.Steps.{life_then}
-use Rattle.run_trace.specs.Items.{Thread, Does, Says, Item, is_busy, as_list, one_going}
+use Rattle.trace_laws.proofs.Lists.Parts.{both_idle, busy_none}
+use Rattle.trace_laws.proofs.Underway.Takes.{reply_ok, links_whole, still_in_turn}
+use Rattle.trace_laws.proofs.Underway.Steps.{life_then, seekers_kept}
+use Rattle.run_trace.specs.Items.{Thread, Says, Item, is_busy, is_seeking, items_in, as_list, one_going}
 use Rattle.trace_laws.proofs.Underway.Homes.{Renewed, own_birth, other_birth, birth_of, phase_same, held_same, unborn_same, awaits_same}
 
 joined_phase : (b : Birth) (by : Tid) (at : ℕ) → phase_at (Some (joined by at b)) ≡ phase_at (Some b)
@@ -56,6 +57,7 @@ record IsOfHeard (v : Spots) (by : Tid) (r : Spot) : Type 0 where
   holds : held r.life r.guest ≡ held (v.threads by).life (v.threads by).guest
   stays : (m : ℕ) → r.life ≡ On m Stays → ⊥
   signals : (m id : ℕ) (up : Bool) → r.life ≡ On m (Signals id up) → ⊥
+  seeks : (m : ℕ) → r.life ≡ On m Seeks → ⊥
   queues : (h k : ℕ) → waiter_part h k by r ≡ None
 
 -- what all nodes share, at a join
@@ -64,6 +66,7 @@ joins_agree : {p : Program} {n seq : ℕ} {w : Spots} {by : Tid} {births : List 
 joins_agree {n = n} {seq = seq} {w = w} {by = by} {births = births} r a of join = record {
   sems = a.sems;
   queues = (queued_kept w.threads by r (queued a) (λ h k. of.quiet.queues h k by) of.queues).queues;
+  seeks = λ u m e. elim (is_tid by u) as (λ v. (cond v r (w.threads u)).life ≡ On m Seeks → WantsSlots (call_of (cond v r (w.threads u)).guest.solo.state)) [ true ↦ λ f. absurd (of.seeks m f) | false ↦ λ f. a.seeks u m f ] e;
   signals = λ u m id up e. elim (is_tid by u) as (λ v. (cond v r (w.threads u)).life ≡ On m (Signals id up) → eqb (node_in id) m ≡ false) [ true ↦ λ f. absurd (of.signals m id up f) | false ↦ λ f. a.signals u m id up f ] e;
   waits = λ u b at e. elim (is_tid by b) as (λ v. is_tid by b ≡ v → (cond v r (w.threads b)).life ≡ On at (Awaits u) → slice_get (at_node w.births n births u.home) u.seq ≡ Some (Awaited b at)) [
     | true ↦ λ h f. subst (λ z. slice_get (at_node w.births n births u.home) u.seq ≡ Some (Awaited z at)) (is-true by b h) (join.waits u at f)
@@ -102,6 +105,7 @@ record IsHeard (n : ℕ) (stage : Stage) (from : ℕ) (by : Tid) (life : Life) (
   rows : (k : ℕ) → row_in_life k by life o.guest.priority ≡ row_in_life k by (On from stage) o.guest.priority
   ways : ways_of by life o.verdict o.guest ≡ []
   idle : (k : ℕ) → eqb n k ≡ false → is_busy k life ≡ false
+  rests : (k : ℕ) → is_seeking k life ≡ false
 
 -- by's packet has come to home n, in this stage: the home hears it, and the birth of that number becomes what the change makes of it
 record IsAsking (n from seq : ℕ) (by : Tid) (stage : Stage) (change : Birth → Birth) (word : Word) (v : Spots) : Type 0 where
@@ -131,6 +135,7 @@ of_answered {by = by} {v = v} reply second k = record {
   holds = sym (ap (λ z. held z (v.threads by).guest) k.was ∙ k.holds);
   stays = λ m e. absurd (cc e);
   signals = λ m id up e. absurd (cc e);
+  seeks = λ m e. absurd (cc e);
   queues = λ h j. refl;
 }
 
@@ -141,6 +146,7 @@ of_awaiting {by = by} {v = v} u k = record {
   holds = sym (ap (λ z. held z (v.threads by).guest) k.was ∙ k.holds);
   stays = λ m e. absurd (cc e);
   signals = λ m id up e. absurd (cc e);
+  seeks = λ m e. absurd (cc e);
   queues = λ h j. refl;
 }
 
@@ -189,7 +195,7 @@ module _ {outset : Outset} {ahead : List Item} {L : Links} where
       → IsHeard n stage from by life (m.now.spots.threads by)
       → StandsFor is_tid busy_name (busy_part n) more (update m.now.spots.threads by (record (m.now.spots.threads by) { life = life }))
       → Agrees p (spots_with (update m.now.spots.threads by (record (m.now.spots.threads by) { life = life })) m.now.spots.slots (at_node m.now.spots.births n (with_birth (m.now.spots.births n) seq change)) m.now.spots.sems m.now.spots.halts m.now.spots.remote)
-      → doing more ahead ≡ cond (is_busy n life) (Does (Thread by) ∷ []) [] ++ ahead
+      → doing more ahead ≡ (items_in n by life ++ []) ++ ahead
       → Midst outset ahead (links_less n L from by) (change_birth seq change (say (Heard by) (nothing s))) more
   unfolding change_birth say
   hears_as s {from} {seq} by {stage} {change} {word} life more m asking becomes heard hand agrees still =
@@ -211,23 +217,26 @@ module _ {outset : Outset} {ahead : List Item} {L : Links} where
           threads = map_kept is_tid is-true is-refl (thread_part n) v.threads by r s.threads m.here.threads (heard.threads n ∙ sym (ap (λ z. thread_in_life n z o.guest) x));
           rows = kept is_tid is-true is-refl listed_name (row_part n) v.threads by r (map listed s.run_lists.rows) m.here.rows (heard.rows n ∙ sym (ap (λ z. row_in_life n by z o.guest.priority) x));
           busy = hand;
+          seekers = seekers_kept n v.threads by r m.here.seekers refl ((quiet x asking.quiet).seeks n) (heard.rests n);
           births = rw (eq-eqb n n refl) (ap (λ bs. with_birth bs seq change) m.here.births);
           sems = m.here.sems;
           free = m.here.free;
           halted = m.here.halted;
         };
-        there = λ k e. here_kept k v by r (net.nodes k) [] (m.there k e)
+        there = λ k e. here_kept k v by r (net.nodes k) [] [] (m.there k e)
             (record {
               thread = heard.threads k ∙ sym (ap (λ z. thread_in_life k z o.guest) x);
               row = heard.rows k ∙ sym (ap (λ z. row_in_life k by z o.guest.priority) x);
               busy = busy_none k by r life refl (heard.idle k e) ∙ sym (busy_none k by o (On from stage) x (asking.idle k));
+              seeker = both_idle k by o r ((quiet x asking.quiet).seeks k) (heard.rests k);
             })
             (rw e refl) refl (λ y. refl) refl;
         links = λ i j. nothing_sent n (links_less n L from by) i j (update v.threads by r) (take_link from n word by r L v.threads (links_whole m) (ap (λ z. ways_of by z o.verdict o.guest) x ∙ asking.ways ∙ ap (λ xs. way from n word ++ xs) (sym heard.ways)) i j);
+        turns = still_in_turn (Heard by) from by m;
         agrees = agrees;
       })
-      (beside (record { heir = ap (λ z. as_list (one_going (wakes_heard v.sems z)) ++ Thread by ∷ []) x ∙ ap (λ z. as_list (one_going z) ++ Thread by ∷ []) asking.going; next = refl; still = still })
-      (life_then p n v (Heard by) by r _ same refl) refl refl)).midst
+      (beside (record { heir = ap (λ z. as_list (one_going (wakes_heard v.sems z)) ++ Thread by ∷ []) x ∙ ap (λ z. as_list (one_going z) ++ Thread by ∷ []) asking.going; front = λ sends talk. refl; next = refl; still = still })
+      (life_then p n v (Heard by) by r _ same refl) refl refl refl)).midst
 
   -- the home answers it
   hears_answer : (s : Local) {from seq : ℕ} (by : Tid) (reply : TheReply) (second : Option ℕ) {stage : Stage} {change : Birth → Birth} {word : Word} {new : Option Birth} → (m : Midst outset (Says (Heard by) ∷ ahead) L (nothing s) [])
@@ -240,7 +249,7 @@ module _ {outset : Outset} {ahead : List Item} {L : Links} where
       let life : Life = On from (Answers n reply second) in
       let r : Spot = record o { life = life } in
       reply_ok (change_birth seq change (say (Heard by) (nothing s))) by from reply second []
-      (hears_as s by life (busy by life ∷ []) m asking becomes (record { threads = λ k. sym (asking.shows k); rows = λ k. sym (asking.off k); ways = refl; idle = λ k e. e })
+      (hears_as s by life (busy by life ∷ []) m asking becomes (record { threads = λ k. sym (asking.shows k); rows = λ k. sym (asking.off k); ways = refl; idle = λ k e. e; rests = λ k. refl })
       (fronted is_tid is-true is-refl busy_name (busy_part n) m.now.spots.threads by r [] (busy by life) m.here.busy refl (busy_none n by o (On from stage) asking.was (asking.idle n)) (rw (eq-eqb n n refl) refl))
       (joins_agree r m.agrees (of_answered reply second asking) (record {
         renewed = same.renewed;
@@ -277,7 +286,7 @@ module _ {outset : Outset} {ahead : List Item} {L : Links} where
       by_birth : (b : Option Birth) → slice_get (m.now.spots.births n) seq ≡ b → Midst outset ahead (links_less n L from by) (judges_join by from (verdict b) (change_birth seq (joined by from) (say (Heard by) (nothing s)))) []
       by_birth None e =
           hears_answer s by replies.NoSuch None {new = None} m asking (ap (λ z. heard_life from (tid n seq) (verdict z)) e) (same_none n seq m.now.spots.births (joined by from) e)
-      by_birth (Some Lives) e = hears_as s by life [] m asking (ap (λ z. heard_life from (tid n seq) (verdict z)) e) (record { threads = λ k. refl; rows = λ k. refl; ways = refl; idle = λ k f. refl })
+      by_birth (Some Lives) e = hears_as s by life [] m asking (ap (λ z. heard_life from (tid n seq) (verdict z)) e) (record { threads = λ k. refl; rows = λ k. refl; ways = refl; idle = λ k f. refl; rests = λ k. refl })
           (kept is_tid is-true is-refl busy_name (busy_part n) m.now.spots.threads by r [] m.here.busy (sym (busy_none n by o (On from (Asks (tid n seq))) x refl)))
           (joins_agree r m.agrees (of_awaiting (tid n seq) asking) join)
           refl

@@ -1,7 +1,8 @@
 -- An event in its midst: what holds of it, one more label, what the label does to spots and links, and the one lemma for a label.
-use Rattle.std.proofs.Common.{arith, ◌≡◌, ℕ, List, [], ◌∷◌, ◌++◌, Option, Some, None, Bool, true, false, eqb, cond, ◌&&◌, refl, sym, ap, ◌∙◌, subst, append_assoc, map}
+use Rattle.std.proofs.Common.{arith, ◌≡◌, ◌≤◌, ◌+◌, ℕ, List, [], ◌∷◌, ◌++◌, Option, Some, None, Bool, true, false, eqb, cond, ◌&&◌, refl, sym, ap, ◌∙◌, subst, append_assoc, map}
 use Rattle.std.specs.Prelude.{slice_get, not, All, ⊤}
-use Rattle.std.proofs.lemmas.Bool.{eqb-true}
+use Rattle.std.proofs.Math.Path.{fun_ext}
+use Rattle.std.proofs.lemmas.Bool.{eq-eqb, eqb-true}
 use Rattle.std.proofs.lemmas.List.{append-nil}
 use Rattle.slot_space.specs.Sets.{has}
 use Rattle.slot_space.specs.declared.names.Tid.{Tid}
@@ -14,32 +15,35 @@ use Rattle.run_trace.specs.declared.packet.Body.{Body}
 use Rattle.run_trace.specs.declared.packet.Send.{Send}
 use Rattle.run_trace.specs.Names.{is_tid}
 use Rattle.run_trace.specs.Program.{Program}
+use Rattle.run_trace.specs.declared.call.Call.{Call}
+use Rattle.run_trace.specs.Calls.{call_of}
 use Rattle.run_trace.specs.Local.{Local, EventSoFar}
 use Rattle.run_trace.specs.Cluster.{Net}
-use Rattle.run_trace.specs.Spots.{Stage, Stays, Life, Awaits, Signals, Queues, Unborn, On, Spot, Remote, Spots, Holder, update, after_label, after_labels}
-use Rattle.run_trace.specs.Rules.{Occasion, saying, Rule, SoloRule, HoldersRule, LifeRule, RepliesRule, GrantsRule, is_free}
+use Rattle.run_trace.specs.Spots.{Stage, Stays, Seeks, Life, Awaits, Signals, Queues, Unborn, On, Spot, Remote, Spots, Holder, update, after_label, after_labels, is_free}
+use Rattle.run_trace.specs.Rules.{Occasion, saying, Rule, SoloRule, HoldersRule, LifeRule, RepliesRule, GrantsRule}
 use Rattle.run_trace.specs.World.{World, world_after}
-use Rattle.trace_laws.specs.Obeys.{ObeyEach, AgreesRule, all_causes}
+use Rattle.trace_laws.specs.Obeys.{ObeyEach, AgreesRule}
 use Rattle.run_trace.specs.Console.{shown_by, shown_by_all}
 use Rattle.run_trace.specs.RunLists.{RunLists, IsRising}
 use Rattle.trace_laws.proofs.Lists.Arriving.{run_lists_after, run_lists_after_all, rising_after}
-use Rattle.run_trace.specs.Causes.{causes, send_to}
+use Rattle.run_trace.specs.Causes.{causes}
+use Rattle.run_trace.specs.Talks.{Talk, one_send}
 use Rattle.run_trace.specs.Obeying.{IsNext, Allows}
-use Rattle.run_trace.specs.Stands.{Here, Agrees, Busy, busy_name, busy_part, thread_part, row_part, link_part, listed, listed_name, Word, word_subject, word_of, words_about, Way, way, ways_of, on_link, phase_of, phase_at, Holding, held, slots_held, IsWellHeld, is_thread, waiter_name, waiter_in_life, waiter_part}
+use Rattle.run_trace.specs.Stands.{Here, Agrees, AreInTurn, WantsSlots, itself, seeker_part, serving, turns_among, wants_among, count_by, one_turn, one_over, one_if, some_of, Busy, busy_name, busy_part, thread_part, row_part, link_part, listed, listed_name, Word, word_subject, word_of, words_about, Way, way, ways_of, on_link, phase_of, phase_at, Holding, held, slots_held, IsWellHeld, is_thread, waiter_name, waiter_in_life, waiter_part}
 use Rattle.run_trace.specs.Keyed.{StandsFor}
 use Rattle.run_trace.proofs.Lemmas.{is-true, is-refl, is-same}
 use Rattle.trace_laws.proofs.Lists.Subjects.{less_word, rest_words, about-append, about-less, about-less_other, on_link-append}
 use Rattle.trace_laws.proofs.Lists.KeyedLemmas.{kept, map_kept}
-use Rattle.run_trace.specs.Items.{Subject, Thread, same_subject, Item, Does, is_busy, goes_on_with, busy_among, all_but_first, to_do_after}
+use Rattle.run_trace.specs.Items.{Subject, Thread, Turns, same_subject, Item, Does, Progress, is_seeking, goes_on_with, items_in, items_for, all_but_first, to_do_after, works_off, worked_off, said, said_all}
 
--- an event before anything is said: of which program, on which occasion and node, all that it has to do, and the cluster and what
--- was told before it
+-- an event before anything is said: of which program, on which occasion and node, what it has sent and has to do, and the cluster and
+-- what was told before it
 pub record Outset : Type 0 where
   pub program : Program
   pub net : Net
   pub occasion : Occasion
   pub node : ℕ
-  pub opening : List Item
+  pub opening : Progress
   pub world : World
 
 abbrev pub Links : Type 0
@@ -54,7 +58,17 @@ abbrev pub under : ℕ → Links → List Send → Links
 under n L sends i j = L i j ++ cond (eqb n i) (sent_words j sends) []
 
 abbrev pub LinkStands : ℕ → ℕ → List Word → (Tid → Spot) → Type 0
-LinkStands i j xs w = (s : Subject) → words_about xs s ≡ link_part i j s w
+LinkStands i j xs w = (t : Tid) → words_about xs (Thread t) ≡ link_part i j t w
+
+-- the packets of turns on each link, what each node keeps of them, and what the event has still to do of them
+abbrev pub turn_words : Links → ℕ → ℕ → List Word
+turn_words M i j = words_about (M i j) Turns
+
+abbrev pub talks_amid : Net → ℕ → Talk → ℕ → Talk
+talks_amid net n talk k = cond (eqb n k) talk (net.nodes k).talk
+
+abbrev pub to_do_amid : ℕ → List Item → ℕ → List Item
+to_do_amid n ahead k = cond (eqb n k) ahead []
 
 -- all labels obey each rule
 pub record Obeyed (p : Program) (q : Occasion) (n : ℕ) (ls : List Label) (w : World) : Type 0 where
@@ -68,39 +82,46 @@ pub record Obeyed (p : Program) (q : Occasion) (n : ℕ) (ls : List Label) (w : 
 abbrev pub busy_item : Busy → Item
 busy_item x = Does (Thread x.tid)
 
-abbrev pub to_do_after_all : Program → ℕ → List Label → Spots → List Item → List Item
-to_do_after_all p n [] w to_do = to_do
-to_do_after_all p n (l ∷ ls) w to_do = to_do_after_all p n ls (after_label p n l w) (to_do_after p n l w to_do)
-
 -- each label is what is to be done next
-abbrev pub NextAll : Program → ℕ → List Label → Spots → List Item → Type 0
-NextAll p n [] w to_do = ⊤
-NextAll p n (l ∷ ls) w to_do = IsNext n l w to_do × NextAll p n ls (after_label p n l w) (to_do_after p n l w to_do)
+abbrev pub NextAll : Program → ℕ → List Label → Spots → Progress → Type 0
+NextAll p n [] w r = ⊤
+NextAll p n (l ∷ ls) w r = IsNext n l w (worked_off n w r).to_do × NextAll p n ls (after_label p n l w) (said p n l w (worked_off n w r))
 
 -- what there is to do: for those with whom the event is busy, and then what is left of what it began with
 abbrev pub doing : List Busy → List Item → List Item
 doing hand ahead = map busy_item hand ++ ahead
 
--- beside the spots: the run list, what there is still to do, and that the node has begun
-pub record Aside (p : Program) (n : ℕ) (opening ahead : List Item) (w : Spots) (before now : Local) (labels : List Label) (hand : List Busy) : Type 0 where
-  pub run_lists : now.run_lists ≡ run_lists_after_all p n labels w before.run_lists
-  pub still : doing hand ahead ≡ to_do_after_all p n labels w opening
-  pub next : NextAll p n labels w opening
-  pub rising : IsRising now.run_lists
-  pub booted : before.booted ≡ true → now.booted ≡ true
+-- to which the event has come
+abbrev pub progress : EventSoFar → List Busy → List Item → Progress
+progress d hand ahead = record { sends = d.sends; to_do = doing hand ahead; talk = d.node.talk }
+
+-- its first item says something, or there is none
+abbrev pub Speaks : ℕ → Spots → List Item → Type 0
+Speaks n w is = (sends : List Send) (talk : Talk) → works_off n w is sends talk ≡ record { sends = sends; to_do = is; talk = talk }
+
+-- beside the spots: the run list, what was sent and is still to do, and that the node has begun
+pub record Aside (p : Program) (n : ℕ) (opening : Progress) (ahead : List Item) (w : Spots) (before : Local) (d : EventSoFar) (hand : List Busy) : Type 0 where
+  pub run_lists : d.node.run_lists ≡ run_lists_after_all p n d.labels w before.run_lists
+  pub still : worked_off n (after_labels p n d.labels w) (said_all p n d.labels w opening) ≡ worked_off n (after_labels p n d.labels w) (progress d hand ahead)
+  pub next : NextAll p n d.labels w opening
+  pub rising : IsRising d.node.run_lists
+  pub booted : before.booted ≡ true → d.node.booted ≡ true
 
 -- the same of one more label, before which this was ahead
 pub record Beside (p : Program) (n : ℕ) (v : Spots) (l : Label) (due ahead : List Item) (old now : Local) (hand more : List Busy) : Type 0 where
   pub run_lists : now.run_lists ≡ run_lists_after l v old.run_lists
+  pub front : Speaks n v (doing hand due)
   pub still : doing more ahead ≡ to_do_after p n l v (doing hand due)
   pub next : IsNext n l v (doing hand due)
+  pub talk : now.talk ≡ old.talk
   pub booted : now.booted ≡ old.booted
 
--- nodes and links stand for these spots, with node n in the state s, busy with hand
-pub record StandsAmid (p : Program) (net : Net) (n : ℕ) (v : Spots) (M : Links) (s : Local) (hand : List Busy) : Type 0 where
-  pub here : Here n v s hand
-  pub there : (k : ℕ) → eqb n k ≡ false → Here k v (net.nodes k) []
+-- nodes and links stand for these spots, with node n in the state s, busy with hand and then with what is ahead
+pub record StandsAmid (p : Program) (net : Net) (n : ℕ) (v : Spots) (M : Links) (s : Local) (hand : List Busy) (ahead : List Item) : Type 0 where
+  pub here : Here n v s hand (serving ahead)
+  pub there : (k : ℕ) → eqb n k ≡ false → Here k v (net.nodes k) [] []
   pub links : (i j : ℕ) → LinkStands i j (M i j) v.threads
+  pub turns : AreInTurn (talks_amid net n s.talk) (turn_words M) (to_do_amid n ahead)
   pub agrees : Agrees p v
 
 module _ (outset : Outset) where
@@ -112,13 +133,13 @@ module _ (outset : Outset) where
     pub now : World
     pub told : now ≡ record w { spots = after_labels p n d.labels w.spots }
     pub allowed : Obeyed p q n d.labels w
-    pub sends : d.sends ≡ all_causes p n d.labels w.spots
     pub prints : d.prints ≡ shown_by_all p n d.labels w.spots
-    pub here : Here n now.spots d.node hand
-    pub there : (k : ℕ) → eqb n k ≡ false → Here k now.spots (net.nodes k) []
+    pub here : Here n now.spots d.node hand (serving ahead)
+    pub there : (k : ℕ) → eqb n k ≡ false → Here k now.spots (net.nodes k) [] []
     pub links : (i j : ℕ) → LinkStands i j (under n L d.sends i j) now.spots.threads
+    pub turns : AreInTurn (talks_amid net n d.node.talk) (turn_words (under n L d.sends)) (to_do_amid n ahead)
     pub agrees : Agrees p now.spots
-    pub aside : Aside p n opening ahead w.spots (net.nodes n) d.node d.labels hand
+    pub aside : Aside p n opening ahead w.spots (net.nodes n) d hand
 
   -- the same after one more label, of a world that was told
   pub record Then (ahead : List Item) (L : Links) (v : World) (l : Label) (d : EventSoFar) (hand : List Busy) : Type 0 where
@@ -126,8 +147,8 @@ module _ (outset : Outset) where
     pub now : midst.now ≡ world_after p n l v
 
 -- nodes and links stand for what is told then
-pub amid : {outset : Outset} {ahead : List Item} {L : Links} {d : EventSoFar} {hand : List Busy} → (m : Midst outset ahead L d hand) → StandsAmid outset.program outset.net outset.node m.now.spots (under outset.node L d.sends) d.node hand
-amid m = record { here = m.here; there = m.there; links = m.links; agrees = m.agrees }
+pub amid : {outset : Outset} {ahead : List Item} {L : Links} {d : EventSoFar} {hand : List Busy} → (m : Midst outset ahead L d hand) → StandsAmid outset.program outset.net outset.node m.now.spots (under outset.node L d.sends) d.node hand ahead
+amid m = record { here = m.here; there = m.there; links = m.links; turns = m.turns; agrees = m.agrees }
 
 -- ## One more label
 
@@ -143,10 +164,6 @@ obey_append : (rule : Rule) (p : Program) (q : Occasion) (n : ℕ) (ls : List La
 obey_append rule p q n [] l w o h = (subst (λ z. rule p (record q { said = z }) n l w) (append-nil q.said) h, tt)
 obey_append rule p q n (x ∷ ls) l w o h = (o.0, obey_append rule p (saying x q) n ls l (world_after p n x w) o.1 (subst (λ z. rule p (record q { said = z }) n l (record w { spots = after_labels p n (x ∷ ls) w.spots })) (sym (append_assoc q.said (x ∷ []) ls)) h))
 
-causes_append : (p : Program) (n : ℕ) (ls : List Label) (l : Label) (w : Spots) → all_causes p n (ls ++ l ∷ []) w ≡ all_causes p n ls w ++ causes p n l (after_labels p n ls w)
-causes_append p n [] l w = append-nil (causes p n l w)
-causes_append p n (x ∷ ls) l w = ap (λ xs. causes p n x w ++ xs) (causes_append p n ls l (after_label p n x w)) ∙ sym (append_assoc (causes p n x w) (all_causes p n ls (after_label p n x w)) (causes p n l (after_labels p n (x ∷ ls) w)))
-
 shown_append : (p : Program) (n : ℕ) (ls : List Label) (l : Label) (w : Spots) → shown_by_all p n (ls ++ l ∷ []) w ≡ shown_by_all p n ls w ++ shown_by l (after_labels p n ls w)
 shown_append p n [] l w = append-nil (shown_by l w)
 shown_append p n (x ∷ ls) l w = ap (λ xs. shown_by x w ++ xs) (shown_append p n ls l (after_label p n x w)) ∙ sym (append_assoc (shown_by x w) (shown_by_all p n ls (after_label p n x w)) (shown_by l (after_labels p n (x ∷ ls) w)))
@@ -155,59 +172,109 @@ places_append : (p : Program) (n : ℕ) (ls : List Label) (l : Label) (w : Spots
 places_append p n [] l w s = refl
 places_append p n (x ∷ ls) l w s = places_append p n ls l (after_label p n x w) (run_lists_after x w s)
 
-to_do_append : (p : Program) (n : ℕ) (ls : List Label) (l : Label) (w : Spots) (to_do : List Item) → to_do_after_all p n (ls ++ l ∷ []) w to_do ≡ to_do_after p n l (after_labels p n ls w) (to_do_after_all p n ls w to_do)
-to_do_append p n [] l w to_do = refl
-to_do_append p n (x ∷ ls) l w to_do = to_do_append p n ls l (after_label p n x w) (to_do_after p n x w to_do)
+said_append : (p : Program) (n : ℕ) (ls : List Label) (l : Label) (w : Spots) (r : Progress)
+    → said_all p n (ls ++ l ∷ []) w r ≡ said p n l (after_labels p n ls w) (worked_off n (after_labels p n ls w) (said_all p n ls w r))
+said_append p n [] l w r = refl
+said_append p n (x ∷ ls) l w r = said_append p n ls l (after_label p n x w) (said p n x w (worked_off n w r))
 
-next_append : (p : Program) (n : ℕ) (ls : List Label) (l : Label) (w : Spots) (to_do : List Item) → NextAll p n ls w to_do → IsNext n l (after_labels p n ls w) (to_do_after_all p n ls w to_do) → NextAll p n (ls ++ l ∷ []) w to_do
-next_append p n [] l w to_do a k = (k, tt)
-next_append p n (x ∷ ls) l w to_do a k = (a.0, next_append p n ls l (after_label p n x w) (to_do_after p n x w to_do) a.1 k)
+next_append : (p : Program) (n : ℕ) (ls : List Label) (l : Label) (w : Spots) (r : Progress)
+    → NextAll p n ls w r → IsNext n l (after_labels p n ls w) (worked_off n (after_labels p n ls w) (said_all p n ls w r)).to_do → NextAll p n (ls ++ l ∷ []) w r
+next_append p n [] l w r a k = (k, tt)
+next_append p n (x ∷ ls) l w r a k = (a.0, next_append p n ls l (after_label p n x w) (said p n x w (worked_off n w r)) a.1 k)
 
-aside_append : {p : Program} {n : ℕ} {opening due ahead : List Item} {w : Spots} {before old now : Local} {labels : List Label} {l : Label} {hand more : List Busy}
-    → Aside p n opening due w before old labels hand → Beside p n (after_labels p n labels w) l due ahead old now hand more → Aside p n opening ahead w before now (labels ++ l ∷ []) more
-aside_append {p} {n} {opening} {due} {ahead} {w} {before} {old} {now} {labels} {l} a b = record {
-  run_lists = b.run_lists ∙ ap (run_lists_after l (after_labels p n labels w)) a.run_lists ∙ sym (places_append p n labels l w before.run_lists);
-  still = b.still ∙ ap (to_do_after p n l (after_labels p n labels w)) a.still ∙ sym (to_do_append p n labels l w opening);
-  next = next_append p n labels l w opening a.next (subst (λ h. IsNext n l (after_labels p n labels w) h) a.still b.next);
-  rising = subst (λ z. IsRising z) (sym b.run_lists) (rising_after l (after_labels p n labels w) old.run_lists a.rising);
-  booted = λ h. b.booted ∙ a.booted h;
-}
+aside_append : {p : Program} {n : ℕ} {opening : Progress} {due ahead : List Item} {w : Spots} {before now : Local} {d : EventSoFar} {l : Label} {sends : List Send} {prints : List ℕ} {hand more : List Busy}
+    → Aside p n opening due w before d hand → Beside p n (after_labels p n d.labels w) l due ahead d.node now hand more → sends ≡ d.sends ++ causes p n l (after_labels p n d.labels w)
+    → Aside p n opening ahead w before (record { node = now; labels = d.labels ++ l ∷ []; sends = sends; prints = prints }) more
+aside_append {p} {n} {opening} {due} {ahead} {w} {before} {now} {d} {l} {sends} {hand = hand} {more} a b sent =
+    let v : Spots = after_labels p n d.labels w in
+    let is : worked_off n v (said_all p n d.labels w opening) ≡ progress d hand due = a.still ∙ b.front d.sends d.node.talk in
+    let after : Progress = record { sends = sends; to_do = doing more ahead; talk = now.talk } in
+    let then : said_all p n (d.labels ++ l ∷ []) w opening ≡ after =
+    said_append p n d.labels l w opening ∙ ap (said p n l v) is ∙ sym (same_parts sent b.still b.talk) in
+    record {
+      run_lists = b.run_lists ∙ ap (run_lists_after l v) a.run_lists ∙ sym (places_append p n d.labels l w before.run_lists);
+      still = ap (worked_off n (after_labels p n (d.labels ++ l ∷ []) w)) then;
+      next = next_append p n d.labels l w opening a.next (subst (λ (r : Progress). IsNext n l v r.to_do) (sym is) b.next);
+      rising = subst (λ z. IsRising z) (sym b.run_lists) (rising_after l v d.node.run_lists a.rising);
+      booted = λ h. b.booted ∙ a.booted h;
+    }
+  where
+    made_of : List Send → List Item → Talk → Progress
+    made_of x y z = record { sends = x; to_do = y; talk = z }
+
+    same_parts : {s1 s2 : List Send} {i1 i2 : List Item} {t1 t2 : Talk} → s1 ≡ s2 → i1 ≡ i2 → t1 ≡ t2 → made_of s1 i1 t1 ≡ made_of s2 i2 t2
+    same_parts {s1} {s2} {i1} {i2} {t1} {t2} x y z = ap (λ k. made_of k i1 t1) x ∙ ap (λ k. made_of s2 k t1) y ∙ ap (λ k. made_of s2 i2 k) z
+
+-- what is ahead says as much of turns, and serves the same threads
+pub record IsAsBefore (due ahead : List Item) : Type 0 where
+  pub turns : turns_among ahead ≡ turns_among due
+  pub wants : wants_among ahead ≡ wants_among due
+  pub serves : serving ahead ≡ serving due
+
+pub as_before : {ahead : List Item} → IsAsBefore ahead ahead
+as_before = record { turns = refl; wants = refl; serves = refl }
 
 -- a label of the thread t, which comes to a new life: the event is busy with it, or goes on with what is left to do
 pub record Own (p : Program) (n : ℕ) (l : Label) (t : Tid) (v : Spots) (due ahead : List Item) (hand more : List Busy) (new : Life) : Type 0 where
   pub heir : goes_on_with p n l v ≡ Thread t ∷ []
+  pub front : Speaks n v (doing hand due)
   pub next : IsNext n l v (doing hand due)
-  pub still : doing more ahead ≡ cond (is_busy n new) (Does (Thread t) ∷ []) [] ++ all_but_first (doing hand due)
+  pub still : doing more ahead ≡ (items_in n t new ++ []) ++ all_but_first (doing hand due)
 
 pub beside : {p : Program} {n : ℕ} {v : Spots} {l : Label} {t : Tid} {due ahead : List Item} {old now : Local} {hand more : List Busy} {new : Life}
-    → Own p n l t v due ahead hand more new → ((after_label p n l v).threads t).life ≡ new → now.run_lists ≡ run_lists_after l v old.run_lists → now.booted ≡ old.booted
+    → Own p n l t v due ahead hand more new → ((after_label p n l v).threads t).life ≡ new → now.run_lists ≡ run_lists_after l v old.run_lists → now.booted ≡ old.booted → now.talk ≡ old.talk
     → Beside p n v l due ahead old now hand more
-beside {p} {n} {v} {l} {t} {due} {hand = hand} o life run_lists booted = record {
+beside {p} {n} {v} {l} {t} {due} {hand = hand} o life run_lists booted talk = record {
   run_lists = run_lists;
   booted = booted;
+  talk = talk;
+  front = o.front;
   next = o.next;
-  still = o.still ∙ ap (λ z. cond (is_busy n z) (Does (Thread t) ∷ []) [] ++ all_but_first (doing hand due)) (sym life) ∙ ap (λ z. busy_among n z (after_label p n l v) ++ all_but_first (doing hand due)) (sym o.heir);
+  still = o.still ∙ ap (λ z. (items_in n t z ++ []) ++ all_but_first (doing hand due)) (sym life) ∙ ap (λ z. items_for n z (after_label p n l v) ++ all_but_first (doing hand due)) (sym o.heir);
 }
 
 -- a label that sets u going, which comes to one life, while its own thread t comes to another
 pub record SetsGoing (p : Program) (n : ℕ) (l : Label) (u t : Tid) (v : Spots) (due ahead : List Item) (hand more : List Busy) (first second : Life) : Type 0 where
   pub heirs : goes_on_with p n l v ≡ Thread u ∷ Thread t ∷ []
+  pub front : Speaks n v (doing hand due)
   pub next : IsNext n l v (doing hand due)
-  pub still : doing more ahead ≡ cond (is_busy n first) (Does (Thread u) ∷ cond (is_busy n second) (Does (Thread t) ∷ []) []) (cond (is_busy n second) (Does (Thread t) ∷ []) []) ++ all_but_first (doing hand due)
+  pub still : doing more ahead ≡ (items_in n u first ++ (items_in n t second ++ [])) ++ all_but_first (doing hand due)
 
 pub beside_both : {p : Program} {n : ℕ} {v : Spots} {l : Label} {u t : Tid} {due ahead : List Item} {old now : Local} {hand more : List Busy} {first second : Life}
     → SetsGoing p n l u t v due ahead hand more first second → ((after_label p n l v).threads u).life ≡ first → ((after_label p n l v).threads t).life ≡ second
-    → now.run_lists ≡ run_lists_after l v old.run_lists → now.booted ≡ old.booted
+    → now.run_lists ≡ run_lists_after l v old.run_lists → now.booted ≡ old.booted → now.talk ≡ old.talk
     → Beside p n v l due ahead old now hand more
-beside_both {p} {n} {v} {l} {u} {t} {due} {hand = hand} {first = first} {second} o of_u of_t run_lists booted = record {
+beside_both {p} {n} {v} {l} {u} {t} {due} {hand = hand} {first = first} {second} o of_u of_t run_lists booted talk = record {
   run_lists = run_lists;
   booted = booted;
+  talk = talk;
+  front = o.front;
   next = o.next;
   still = o.still
-      ∙ ap (λ z. cond (is_busy n z) (Does (Thread u) ∷ cond (is_busy n second) (Does (Thread t) ∷ []) []) (cond (is_busy n second) (Does (Thread t) ∷ []) []) ++ all_but_first (doing hand due)) (sym of_u)
-      ∙ ap (λ z. cond (is_busy n ((after_label p n l v).threads u).life) (Does (Thread u) ∷ cond (is_busy n z) (Does (Thread t) ∷ []) []) (cond (is_busy n z) (Does (Thread t) ∷ []) []) ++ all_but_first (doing hand due)) (sym of_t)
-      ∙ ap (λ z. busy_among n z (after_label p n l v) ++ all_but_first (doing hand due)) (sym o.heirs);
+      ∙ ap (λ z. (items_in n u z ++ (items_in n t second ++ [])) ++ all_but_first (doing hand due)) (sym of_u)
+      ∙ ap (λ z. (items_in n u ((after_label p n l v).threads u).life ++ (items_in n t z ++ [])) ++ all_but_first (doing hand due)) (sym of_t)
+      ∙ ap (λ z. items_for n z (after_label p n l v) ++ all_but_first (doing hand due)) (sym o.heirs);
 }
+
+-- ## Turns, where nothing of them changes
+
+among_amid : (f : List Item → ℕ) (n i : ℕ) {due ahead : List Item} → f ahead ≡ f due → f (to_do_amid n ahead i) ≡ f (to_do_amid n due i)
+among_amid f n i {due} {ahead} e = elim (eqb n i) as (λ b. f (cond b ahead []) ≡ f (cond b due [])) [ true ↦ e | false ↦ refl ]
+
+pub in_turn_kept : (net : Net) (n : ℕ) (old now : Talk) (M N : Links) (due ahead : List Item) → AreInTurn (talks_amid net n old) (turn_words M) (to_do_amid n due)
+    → now ≡ old → ((i j : ℕ) → turn_words N i j ≡ turn_words M i j) → turns_among ahead ≡ turns_among due → wants_among ahead ≡ wants_among due
+    → AreInTurn (talks_amid net n now) (turn_words N) (to_do_amid n ahead)
+in_turn_kept net n old now M N due ahead a talk words turns wants =
+    subst (λ z. AreInTurn (talks_amid net n z) (turn_words N) (to_do_amid n ahead)) (sym talk)
+    (subst (λ (z : ℕ → ℕ → List Word). AreInTurn (talks_amid net n old) z (to_do_amid n ahead)) (sym (fun_ext (λ i. fun_ext (λ j. words i j)))) (record {
+      turn = λ i. ap (λ k. count_by one_turn (turn_words M 0 i) + k + count_by one_over (turn_words M i 0)) (among_amid turns_among n i turns) ∙ a.turn i;
+      want = a.want;
+      once = a.once;
+      order = a.order;
+      claims = λ i. subst (λ k. some_of (talks_amid net n old i).claims ≤ one_if (talks_amid net n old i).wants + k) (sym (among_amid wants_among n i wants)) (a.claims i);
+      to_zero = a.to_zero;
+      from_zero = a.from_zero;
+    }))
 
 -- ## Spots of other nodes
 
@@ -216,16 +283,22 @@ pub record Frame (k : ℕ) (t : Tid) (r s : Spot) : Type 0 where
   pub thread : thread_part k t s ≡ thread_part k t r
   pub row : row_part k t s ≡ row_part k t r
   pub busy : busy_part k t s ≡ busy_part k t r
+  pub seeker : seeker_part k t s ≡ seeker_part k t r
 
 abbrev pub spots_with : (Tid → Spot) → (ℕ → Holder) → (ℕ → List Birth) → (ℕ → List SemRow) → (ℕ → Bool) → Remote → Spots
 spots_with threads slots births sems halts remote = record { threads = threads; slots = slots; births = births; sems = sems; halts = halts; remote = remote }
 
-pub here_kept : {f : ℕ → Holder} {b : ℕ → List Birth} {z : ℕ → List SemRow} {h : ℕ → Bool} {remote : Remote} (k : ℕ) (w : Spots) (t : Tid) (s : Spot) (st : Local) (hand : List Busy) → Here k w st hand → Frame k t (w.threads t) s
-    → b k ≡ w.births k → z k ≡ w.sems k → ((x : ℕ) → is_free k (f x) ≡ is_free k (w.slots x)) → h k ≡ w.halts k → Here k (spots_with (update w.threads t s) f b z h remote) st hand
-here_kept k w t s st hand m frame births sems slots halts = record {
+-- nor does node k's list of those that seek slots show a thread that seeks none
+pub no_seeker : (k : ℕ) (t : Tid) (s : Spot) → is_seeking k s.life ≡ false → seeker_part k t s ≡ None
+no_seeker k t s e = rw e refl
+
+pub here_kept : {f : ℕ → Holder} {b : ℕ → List Birth} {z : ℕ → List SemRow} {h : ℕ → Bool} {remote : Remote} (k : ℕ) (w : Spots) (t : Tid) (s : Spot) (st : Local) (hand : List Busy) (served : List Tid) → Here k w st hand served → Frame k t (w.threads t) s
+    → b k ≡ w.births k → z k ≡ w.sems k → ((x : ℕ) → is_free k (f x) ≡ is_free k (w.slots x)) → h k ≡ w.halts k → Here k (spots_with (update w.threads t s) f b z h remote) st hand served
+here_kept k w t s st hand served m frame births sems slots halts = record {
   threads = map_kept is_tid is-true is-refl (thread_part k) w.threads t s st.threads m.threads frame.thread;
   rows = kept is_tid is-true is-refl listed_name (row_part k) w.threads t s (map listed st.run_lists.rows) m.rows frame.row;
   busy = kept is_tid is-true is-refl busy_name (busy_part k) w.threads t s hand m.busy frame.busy;
+  seekers = kept is_tid is-true is-refl itself (seeker_part k) w.threads t s (served ++ st.talk.claims) m.seekers frame.seeker;
   births = m.births ∙ sym births;
   sems = m.sems ∙ sym sems;
   free = λ x. m.free x ∙ sym (slots x);
@@ -241,19 +314,22 @@ abbrev pub ways_in : Tid → Spot → List Way
 ways_in t s = ways_of t s.life s.verdict s.guest
 
 pub links_kept : (t : Tid) (s : Spot) (w : Tid → Spot) (L : Links) → ((i j : ℕ) → LinkStands i j (L i j) w) → ways_in t s ≡ ways_in t (w t) → (i j : ℕ) → LinkStands i j (L i j) (update w t s)
-links_kept t s w L h e i j (Thread u) = h i j (Thread u) ∙ elim (is_tid t u) as (λ v. is_tid t u ≡ v → on_link i j (ways_in u (w u)) ≡ on_link i j (ways_in u (cond v s (w u)))) [
+links_kept t s w L h e i j u = h i j u ∙ elim (is_tid t u) as (λ v. is_tid t u ≡ v → on_link i j (ways_in u (w u)) ≡ on_link i j (ways_in u (cond v s (w u)))) [
   | true ↦ λ f. subst (λ z. on_link i j (ways_in z (w z)) ≡ on_link i j (ways_in z s)) (is-true t u f) (ap (on_link i j) (sym e))
   | false ↦ λ f. refl
 ] refl
 
-sent_append : (j : ℕ) (xs : List Send) (to : ℕ) (body : Body) → sent_words j (xs ++ send_to to body) ≡ cond (eqb to j) (sent_words j xs ++ word_of j body ∷ []) (sent_words j xs)
-sent_append j [] to body = refl
-sent_append j (y ∷ xs) to body = elim (eqb y.to j) as (λ v. cond v (word_of j y.body ∷ sent_words j (xs ++ send_to to body)) (sent_words j (xs ++ send_to to body)) ≡ cond (eqb to j) (cond v (word_of j y.body ∷ sent_words j xs) (sent_words j xs) ++ word_of j body ∷ []) (cond v (word_of j y.body ∷ sent_words j xs) (sent_words j xs)))
-    [ true ↦ ap (λ bs. word_of j y.body ∷ bs) (sent_append j xs to body) ∙ by_test (eqb to j) | false ↦ sent_append j xs to body ]
-  where
-    by_test : (v : Bool) → word_of j y.body ∷ cond v (sent_words j xs ++ word_of j body ∷ []) (sent_words j xs) ≡ cond v ((word_of j y.body ∷ sent_words j xs) ++ word_of j body ∷ []) (word_of j y.body ∷ sent_words j xs)
-    by_test true = refl
-    by_test false = refl
+sent_append : (j : ℕ) (xs ys : List Send) → sent_words j (xs ++ ys) ≡ sent_words j xs ++ sent_words j ys
+sent_append j [] ys = refl
+sent_append j (x ∷ xs) ys = elim (eqb x.to j) as (λ v. cond v (word_of j x.body ∷ sent_words j (xs ++ ys)) (sent_words j (xs ++ ys)) ≡ cond v (word_of j x.body ∷ sent_words j xs) (sent_words j xs) ++ sent_words j ys)
+    [ true ↦ ap (λ zs. word_of j x.body ∷ zs) (sent_append j xs ys) | false ↦ sent_append j xs ys ]
+
+-- what is on a link, when node n sends these too
+pub under_append : (n : ℕ) (L : Links) (xs ys : List Send) (i j : ℕ) → under n L (xs ++ ys) i j ≡ under n L xs i j ++ cond (eqb n i) (sent_words j ys) []
+under_append n L xs ys i j = elim (eqb n i) as (λ v. L i j ++ cond v (sent_words j (xs ++ ys)) [] ≡ (L i j ++ cond v (sent_words j xs) []) ++ cond v (sent_words j ys) []) [
+  | true ↦ ap (λ zs. L i j ++ zs) (sent_append j xs ys) ∙ sym (append_assoc (L i j) (sent_words j xs) (sent_words j ys))
+  | false ↦ sym (append-nil (L i j ++ []))
+]
 
 abbrev none_of : List Word
 none_of = []
@@ -262,25 +338,33 @@ no_more : (v : Bool) → none_of ≡ cond v none_of none_of
 no_more true = refl
 no_more false = refl
 
+-- what is on the link from i to j of a packet that n sends
+abbrev more_words : (n to : ℕ) → Body → (i j : ℕ) → List Word
+more_words n to body i j = cond (eqb n i && eqb to j) (word_of j body ∷ []) []
+
+grown : (n to : ℕ) (body : Body) (L : Links) (sends : List Send) (i j : ℕ) → under n L (sends ++ one_send to body) i j ≡ under n L sends i j ++ more_words n to body i j
+grown n to body L sends i j = under_append n L sends (one_send to body) i j
+    ∙ elim (eqb n i) as (λ v. under n L sends i j ++ cond v (cond (eqb to j) (word_of j body ∷ []) []) [] ≡ under n L sends i j ++ cond (v && eqb to j) (word_of j body ∷ []) []) [ true ↦ refl | false ↦ refl ]
+
+-- it is of its subject alone
+more_about : (n to : ℕ) (body : Body) (i j : ℕ) (s u : Subject) → word_subject (word_of to body) ≡ s → words_about (more_words n to body i j) u ≡ cond (same_subject u s) (more_words n to body i j) []
+more_about n to body i j s u name = by_tests (eqb n i) (eqb to j) refl
+  where
+    by_tests : (a b : Bool) → eqb to j ≡ b → words_about (cond (a && b) (word_of j body ∷ []) []) u ≡ cond (same_subject u s) (cond (a && b) (word_of j body ∷ []) []) []
+    by_tests true true e = ap (λ z. cond (same_subject u z) (word_of j body ∷ []) []) (ap (λ k. word_subject (word_of k body)) (sym (eqb-true to j e)) ∙ name)
+    by_tests true false e = no_more (same_subject u s)
+    by_tests false b e = no_more (same_subject u s)
+
 -- a packet is put on a link, and is the last that is under way of its thread
 pub put_link : (n to : ℕ) (body : Body) (t : Tid) (s : Spot) (L : Links) (sends : List Send) (w : Tid → Spot) → ((i j : ℕ) → LinkStands i j (under n L sends i j) w)
     → word_subject (word_of to body) ≡ Thread t
     → ways_in t s ≡ ways_in t (w t) ++ way n to (word_of to body)
-    → (i j : ℕ) → LinkStands i j (under n L (sends ++ send_to to body) i j) (update w t s)
-put_link n to body t s L sends w h name new i j (Thread u) =
-    ap (λ xs. words_about xs (Thread u)) grown ∙ about-append (under n L sends i j) more (Thread u) ∙ ap (λ xs. xs ++ words_about more (Thread u)) (h i j (Thread u)) ∙ by (is_tid t u) refl
+    → (i j : ℕ) → LinkStands i j (under n L (sends ++ one_send to body) i j) (update w t s)
+put_link n to body t s L sends w h name new i j u =
+    ap (λ xs. words_about xs (Thread u)) (grown n to body L sends i j) ∙ about-append (under n L sends i j) more (Thread u) ∙ ap (λ xs. xs ++ words_about more (Thread u)) (h i j u) ∙ by (is_tid t u) refl
   where
     more : List Word
-    more = cond (eqb n i && eqb to j) (word_of j body ∷ []) []
-
-    grown : under n L (sends ++ send_to to body) i j ≡ under n L sends i j ++ more
-    grown = by_tests (eqb n i) (eqb to j) (sent_append j sends to body)
-      where
-        by_tests : (a b : Bool) → sent_words j (sends ++ send_to to body) ≡ cond b (sent_words j sends ++ word_of j body ∷ []) (sent_words j sends)
-            → L i j ++ cond a (sent_words j (sends ++ send_to to body)) [] ≡ (L i j ++ cond a (sent_words j sends) []) ++ cond (a && b) (word_of j body ∷ []) []
-        by_tests true true e = ap (λ xs. L i j ++ xs) e ∙ sym (append_assoc (L i j) (sent_words j sends) (word_of j body ∷ []))
-        by_tests true false e = ap (λ xs. L i j ++ xs) e ∙ sym (append-nil (L i j ++ sent_words j sends))
-        by_tests false b e = sym (append-nil (L i j ++ []))
+    more = more_words n to body i j
 
     there : on_link i j (way n to (word_of to body)) ≡ more
     there = by_tests (eqb n i) (eqb to j) refl
@@ -290,22 +374,20 @@ put_link n to body t s L sends w h name new i j (Thread u) =
         by_tests true false e = refl
         by_tests false b e = refl
 
-    -- it is of t alone
     own : (u : Tid) → words_about more (Thread u) ≡ cond (is_tid t u) more []
-    own u = by_tests (eqb n i) (eqb to j) refl
-      where
-        by_tests : (a b : Bool) → eqb to j ≡ b → words_about (cond (a && b) (word_of j body ∷ []) []) (Thread u) ≡ cond (is_tid t u) (cond (a && b) (word_of j body ∷ []) []) []
-        by_tests true true e =
-            let of : word_subject (word_of j body) ≡ Thread t = ap (λ k. word_subject (word_of k body)) (sym (eqb-true to j e)) ∙ name in
-            ap (λ z. cond (same_subject (Thread u) z) (word_of j body ∷ []) []) of ∙ ap (λ v. cond v (word_of j body ∷ []) []) (is-same u t)
-        by_tests true false e = no_more (is_tid t u)
-        by_tests false b e = no_more (is_tid t u)
+    own u = more_about n to body i j (Thread t) (Thread u) name ∙ ap (λ v. cond v more []) (is-same u t)
 
     by : (v : Bool) → is_tid t u ≡ v → on_link i j (ways_in u (w u)) ++ words_about more (Thread u) ≡ on_link i j (ways_in u (cond v s (w u)))
     by true e = subst (λ z. on_link i j (ways_in z (w z)) ++ words_about more (Thread z) ≡ on_link i j (ways_in z s)) (is-true t u e)
         (ap (λ xs. on_link i j (ways_in t (w t)) ++ xs) (own t ∙ ap (λ v. cond v more []) (is-refl t) ∙ sym there)
         ∙ sym (on_link-append i j (ways_in t (w t)) (way n to (word_of to body))) ∙ ap (on_link i j) (sym new))
     by false e = ap (λ xs. on_link i j (ways_in u (w u)) ++ xs) (own u ∙ ap (λ v. cond v more []) e) ∙ append-nil (on_link i j (ways_in u (w u)))
+
+-- and it says nothing of turns
+pub put_turns : (n to : ℕ) (body : Body) (t : Tid) (L : Links) (sends : List Send) → word_subject (word_of to body) ≡ Thread t → (i j : ℕ) → turn_words (under n L (sends ++ one_send to body)) i j ≡ turn_words (under n L sends) i j
+put_turns n to body t L sends name i j =
+    ap (λ xs. words_about xs Turns) (grown n to body L sends i j) ∙ about-append (under n L sends i j) (more_words n to body i j) Turns
+    ∙ ap (λ xs. turn_words (under n L sends) i j ++ xs) (more_about n to body i j (Thread t) Turns name) ∙ append-nil (turn_words (under n L sends) i j)
 
 abbrev pub at_link : ℕ → ℕ → (List Word → List Word) → Links → Links
 at_link a b f L i j = cond (eqb a i) (cond (eqb b j) (f (L i j)) (L i j)) (L i j)
@@ -314,25 +396,34 @@ at_link a b f L i j = cond (eqb a i) (cond (eqb b j) (f (L i j)) (L i j)) (L i j
 pub take_link : (a b : ℕ) (y : Word) (t : Tid) (s : Spot) (L : Links) (w : Tid → Spot) → ((i j : ℕ) → LinkStands i j (L i j) w)
     → ways_in t (w t) ≡ way a b y ++ ways_in t s
     → (i j : ℕ) → LinkStands i j (at_link a b (less_word (Thread t)) L i j) (update w t s)
-take_link a b y t s L w h old i j (Thread u) = by (eqb a i) (eqb b j) (is_tid t u) refl refl refl
+take_link a b y t s L w h old i j u = by (eqb a i) (eqb b j) (is_tid t u) refl refl refl
   where
     of_t : (x z : Bool) → eqb a i ≡ x → eqb b j ≡ z → on_link i j (ways_in t (w t)) ≡ cond (x && z) (y ∷ on_link i j (ways_in t s)) (on_link i j (ways_in t s))
     of_t x z e f = ap (on_link i j) old ∙ ap (λ v. cond (v && eqb b j) (y ∷ on_link i j (ways_in t s)) (on_link i j (ways_in t s))) e ∙ ap (λ v. cond (x && v) (y ∷ on_link i j (ways_in t s)) (on_link i j (ways_in t s))) f
 
     by : (x z v : Bool) → eqb a i ≡ x → eqb b j ≡ z → is_tid t u ≡ v → words_about (cond x (cond z (less_word (Thread t) (L i j)) (L i j)) (L i j)) (Thread u) ≡ on_link i j (ways_in u (cond v s (w u)))
     by true true true e f g = subst (λ k. words_about (less_word (Thread t) (L i j)) (Thread k) ≡ on_link i j (ways_in k s)) (is-true t u g)
-        (about-less (L i j) (Thread t) ∙ ap rest_words (h i j (Thread t) ∙ of_t true true e f))
-    by true true false e f g = about-less_other (L i j) (Thread t) (Thread u) g ∙ h i j (Thread u)
-    by true false true e f g = subst (λ k. words_about (L i j) (Thread k) ≡ on_link i j (ways_in k s)) (is-true t u g) (h i j (Thread t) ∙ of_t true false e f)
-    by true false false e f g = h i j (Thread u)
-    by false z true e f g = subst (λ k. words_about (L i j) (Thread k) ≡ on_link i j (ways_in k s)) (is-true t u g) (h i j (Thread t) ∙ of_t false z e f)
-    by false z false e f g = h i j (Thread u)
+        (about-less (L i j) (Thread t) ∙ ap rest_words (h i j t ∙ of_t true true e f))
+    by true true false e f g = about-less_other (L i j) (Thread t) (Thread u) g ∙ h i j u
+    by true false true e f g = subst (λ k. words_about (L i j) (Thread k) ≡ on_link i j (ways_in k s)) (is-true t u g) (h i j t ∙ of_t true false e f)
+    by true false false e f g = h i j u
+    by false z true e f g = subst (λ k. words_about (L i j) (Thread k) ≡ on_link i j (ways_in k s)) (is-true t u g) (h i j t ∙ of_t false z e f)
+    by false z false e f g = h i j u
+
+-- which says nothing of turns
+pub take_turns : (a b : ℕ) (t : Tid) (L : Links) (i j : ℕ) → turn_words (at_link a b (less_word (Thread t)) L) i j ≡ turn_words L i j
+take_turns a b t L i j = by (eqb a i) (eqb b j)
+  where
+    by : (x z : Bool) → words_about (cond x (cond z (less_word (Thread t) (L i j)) (L i j)) (L i j)) Turns ≡ turn_words L i j
+    by true true = about-less_other (L i j) (Thread t) Turns refl
+    by true false = refl
+    by false z = refl
 
 -- the links without t's packet, which is the first of its own on the link to node n
 abbrev pub links_less : ℕ → Links → ℕ → Tid → Links
 links_less n L from t = at_link from n (less_word (Thread t)) L
 
-none_under : (n : ℕ) (L : Links) (i j : ℕ) → under n L [] i j ≡ L i j
+pub none_under : (n : ℕ) (L : Links) (i j : ℕ) → under n L [] i j ≡ L i j
 none_under n L i j = elim (eqb n i) as (λ v. L i j ++ cond v [] [] ≡ L i j) [ true ↦ append-nil (L i j) | false ↦ append-nil (L i j) ]
 
 pub nothing_sent : (n : ℕ) (L : Links) (i j : ℕ) (w : Tid → Spot) → LinkStands i j (L i j) w → LinkStands i j (under n L [] i j) w
@@ -343,21 +434,27 @@ nothing_sent_from n L i j w h = subst (λ bs. LinkStands i j bs w) (none_under n
 
 -- ## What all nodes share
 
--- a life of which nothing else tells: its thread is born, and waits neither for another's end nor for a semaphore
+-- a life of which nothing else tells: its thread is born, waits neither for another's end nor for a semaphore, and seeks no slots
 abbrev pub is_quiet : Life → Bool
 is_quiet Unborn = false
 is_quiet (On m (Awaits u)) = false
 is_quiet (On m (Queues id)) = false
+is_quiet (On m Seeks) = false
 is_quiet _ = true
 
 pub record Quiet (life : Life) : Type 0 where
   pub born : life ≡ Unborn → ⊥
   pub waits : (u : Tid) (m : ℕ) → life ≡ On m (Awaits u) → ⊥
   pub queues : (h k : ℕ) (t : Tid) → waiter_in_life h k t life ≡ None
+  pub seeks : (k : ℕ) → is_seeking k life ≡ false
 
 pub no_waiter : (h k : ℕ) (t : Tid) (life : Life) → is_quiet life ≡ true → waiter_in_life h k t life ≡ None
 no_waiter h k t (On m (Queues id)) e = absurd (cc e)
 no_waiter h k t life e = grind (arith, e)
+
+quiet_seeks : (k : ℕ) (life : Life) → is_quiet life ≡ true → is_seeking k life ≡ false
+quiet_seeks k (On m Seeks) e = absurd (cc e)
+quiet_seeks k life e = grind (arith, e)
 
 -- by the life that it is
 pub quiet : {life old : Life} → life ≡ old → is_quiet old ≡ true → Quiet life
@@ -365,18 +462,21 @@ quiet {life} {old} x h = record {
   born = λ e. absurd (cc (ap is_quiet (sym x ∙ e), h));
   waits = λ u m e. absurd (cc (ap is_quiet (sym x ∙ e), h));
   queues = λ j k t. ap (waiter_in_life j k t) x ∙ no_waiter j k t old h;
+  seeks = λ k. ap (is_seeking k) x ∙ quiet_seeks k old h;
 }
 
--- a life that waits neither for another's end nor for a semaphore, has not halted, and asks no semaphore of its own node by a packet
+-- a life that waits neither for another's end nor for a semaphore, seeks no slots, has not halted, and asks no semaphore of its own node by a packet
 abbrev pub is_plain : Life → Bool
 is_plain (On m (Awaits u)) = false
 is_plain (On m (Queues id)) = false
+is_plain (On m Seeks) = false
 is_plain (On m Stays) = false
 is_plain (On m (Signals id up)) = not (eqb (node_in id) m)
 is_plain _ = true
 
--- a life that a thread may come to; h are the halts then
-pub record Fits (h : ℕ → Bool) (life : Life) : Type 0 where
+-- a life that a thread may come to that is at this call; h are the halts then
+pub record Fits (h : ℕ → Bool) (c : Call) (life : Life) : Type 0 where
+  pub seeks : (m : ℕ) → life ≡ On m Seeks → WantsSlots c
   pub waits : (u : Tid) (m : ℕ) → life ≡ On m (Awaits u) → ⊥
   pub signals : (m id : ℕ) (up : Bool) → life ≡ On m (Signals id up) → eqb (node_in id) m ≡ false
   pub stays : (m : ℕ) → life ≡ On m Stays → h m ≡ true
@@ -384,6 +484,7 @@ pub record Fits (h : ℕ → Bool) (life : Life) : Type 0 where
 pub record Plain (life : Life) : Type 0 where
   pub waits : (u : Tid) (m : ℕ) → life ≡ On m (Awaits u) → ⊥
   pub queues : (h k : ℕ) (t : Tid) → waiter_in_life h k t life ≡ None
+  pub seeks : (k : ℕ) → is_seeking k life ≡ false
   pub signals : (m id : ℕ) (up : Bool) → life ≡ On m (Signals id up) → eqb (node_in id) m ≡ false
   pub stays : (m : ℕ) → life ≡ On m Stays → ⊥
 
@@ -395,10 +496,15 @@ plain_waiter : (h k : ℕ) (t : Tid) (life : Life) → is_plain life ≡ true �
 plain_waiter h k t (On m (Queues id)) e = absurd (cc e)
 plain_waiter h k t life e = grind (arith, e)
 
+pub plain_seeks : (k : ℕ) (life : Life) → is_plain life ≡ true → is_seeking k life ≡ false
+plain_seeks k (On m Seeks) e = absurd (cc e)
+plain_seeks k life e = grind (arith, e)
+
 pub plain : (life : Life) → is_plain life ≡ true → Plain life
 plain life h = record {
   waits = λ u m e. absurd (cc (ap is_plain e, h));
   queues = λ j k t. plain_waiter j k t life h;
+  seeks = λ k. plain_seeks k life h;
   signals = λ m id up e. elsewhere (eqb (node_in id) m) (sym (ap is_plain e) ∙ h);
   stays = λ m e. absurd (cc (ap is_plain e, h));
 }
@@ -406,10 +512,14 @@ plain life h = record {
 pub plain_quiet : (n : ℕ) (stage : Stage) → is_plain (On n stage) ≡ true → is_quiet (On n stage) ≡ true
 plain_quiet n (Awaits u) e = absurd (cc e)
 plain_quiet n (Queues id) e = absurd (cc e)
+plain_quiet n Seeks e = absurd (cc e)
 plain_quiet n stage e = grind (arith, e)
 
-pub fits : {h : ℕ → Bool} {life : Life} → Plain life → Fits h life
-fits l = record { waits = l.waits; signals = l.signals; stays = λ m e. absurd (l.stays m e) }
+not_seeking : {life : Life} (m : ℕ) → is_seeking m life ≡ false → life ≡ On m Seeks → ⊥
+not_seeking m idle e = absurd (cc (idle, ap (is_seeking m) e, eq-eqb m m refl))
+
+pub fits : {h : ℕ → Bool} {c : Call} {life : Life} → Plain life → Fits h c life
+fits l = record { seeks = λ m e. absurd (not_seeking m (l.seeks m) e); waits = l.waits; signals = l.signals; stays = λ m e. absurd (l.stays m e) }
 
 -- all semaphores are such, and their queues are those of the threads
 pub record AreQueued (z : ℕ → List SemRow) (w : Tid → Spot) : Type 0 where
@@ -439,7 +549,7 @@ pub agrees_changed : {remote : Remote} (p : Program) (w : Spots) (t : Tid) (s : 
     → phase_of s.life ≡ phase_of (w.threads t).life
     → ((w.threads t).life ≡ Unborn → ⊥)
     → ((u : Tid) (m : ℕ) → (w.threads t).life ≡ On m (Awaits u) → ⊥)
-    → Fits h s.life
+    → Fits h (call_of s.guest.solo.state) s.life
     → AreQueued z (update w.threads t s)
     → ((m : ℕ) → w.halts m ≡ true → h m ≡ true)
     → ((u : Tid) (y : ℕ) → has y (slots_held (held (update w.threads t s u).life (update w.threads t s u).guest)) ≡ is_thread u (f y))
@@ -451,6 +561,7 @@ agrees_changed p w t s {h = h} a phase born quiet new queued more slots well = r
   signals = λ u m id up e. elim (is_tid t u) as (λ v. (cond v s (w.threads u)).life ≡ On m (Signals id up) → eqb (node_in id) m ≡ false) [ true ↦ λ g. new.signals m id up g | false ↦ λ g. a.signals u m id up g ] e;
   waits = λ u by at e. elim (is_tid t by) as (λ v. (cond v s (w.threads by)).life ≡ On at (Awaits u) → slice_get (w.births u.home) u.seq ≡ Some (Awaited by at)) [ true ↦ λ g. absurd (new.waits u at g) | false ↦ λ g. a.waits u by at g ] e;
   stays = λ u m e. elim (is_tid t u) as (λ v. (cond v s (w.threads u)).life ≡ On m Stays → h m ≡ true) [ true ↦ λ g. new.stays m g | false ↦ λ g. more m (a.stays u m g) ] e;
+  seeks = λ u m e. elim (is_tid t u) as (λ v. (cond v s (w.threads u)).life ≡ On m Seeks → WantsSlots (call_of (cond v s (w.threads u)).guest.solo.state)) [ true ↦ λ g. new.seeks m g | false ↦ λ g. a.seeks u m g ] e;
   homes = λ u out. elim (is_tid t u) as (λ v. is_tid t u ≡ v → (cond v s (w.threads u)).life ≡ Unborn) [
     | true ↦ λ e. absurd (born (subst (λ x. (w.threads x).life ≡ Unborn) (sym (is-true t u e)) (a.homes u out)))
     | false ↦ λ e. a.homes u out
@@ -473,7 +584,7 @@ pub agrees_queued : {remote : Remote} (p : Program) (w : Spots) (t : Tid) (s : S
     → ((w.threads t).life ≡ Unborn → ⊥)
     → ((u : Tid) (m : ℕ) → (w.threads t).life ≡ On m (Awaits u) → ⊥)
     → Keeps (held (w.threads t).life (w.threads t).guest) (held s.life s.guest)
-    → Fits h s.life
+    → Fits h (call_of s.guest.solo.state) s.life
     → AreQueued z (update w.threads t s)
     → ((m : ℕ) → w.halts m ≡ true → h m ≡ true)
     → Agrees p (spots_with (update w.threads t s) w.slots w.births z h remote)
@@ -489,7 +600,7 @@ pub agrees_kept : {remote : Remote} (p : Program) (w : Spots) (t : Tid) (s : Spo
     → phase_of s.life ≡ phase_of (w.threads t).life
     → Quiet (w.threads t).life
     → Keeps (held (w.threads t).life (w.threads t).guest) (held s.life s.guest)
-    → Fits h s.life
+    → Fits h (call_of s.guest.solo.state) s.life
     → ((j k : ℕ) → waiter_part j k t s ≡ None)
     → ((m : ℕ) → w.halts m ≡ true → h m ≡ true)
     → Agrees p (spots_with (update w.threads t s) w.slots w.births w.sems h remote)
@@ -505,7 +616,7 @@ module _ {outset : Outset} {ahead : List Item} where
   pub labelled : {due : List Item} {L : Links} {d : EventSoFar} {hand : List Busy} {sends : List Send} {prints : List ℕ} (M : Links) (more : List Busy) (l : Label) (v : Spots) (now : Local)
       → (m : Midst outset due L d hand) → after_label p n l m.now.spots ≡ v → Allows p (having_said d.labels q) n l m.now
       → sends ≡ d.sends ++ causes p n l m.now.spots → prints ≡ d.prints ++ shown_by l m.now.spots
-      → StandsAmid p net n v (under n M sends) now more
+      → StandsAmid p net n v (under n M sends) now more ahead
       → Beside p n m.now.spots l due ahead d.node now hand more
       → Then outset ahead M m.now l (record { node = now; labels = d.labels ++ l ∷ []; sends = sends; prints = prints }) more
   labelled {due} {L} {d} {hand} M more l v now m same ok sent shown stands aside =
@@ -525,12 +636,12 @@ module _ {outset : Outset} {ahead : List Item} where
             grants = obey_append GrantsRule p q n d.labels l w m.allowed.grants may.grants;
             agrees = obey_append AgreesRule p q n d.labels l w m.allowed.agrees (subst (λ (z : World). Agrees p z.spots) told m.agrees);
           };
-          sends = sent ∙ ap (λ z. d.sends ++ causes p n l z) spots ∙ ap (λ xs. xs ++ causes p n l (after_labels p n d.labels w.spots)) m.sends ∙ sym (causes_append p n d.labels l w.spots);
           prints = shown ∙ ap (λ z. d.prints ++ shown_by l z) spots ∙ ap (λ xs. xs ++ shown_by l (after_labels p n d.labels w.spots)) m.prints ∙ sym (shown_append p n d.labels l w.spots);
           here = stands.here;
           there = stands.there;
           links = stands.links;
+          turns = stands.turns;
           agrees = stands.agrees;
-          aside = aside_append m.aside (subst (λ z. Beside p n z l due ahead d.node now hand more) spots aside);
+          aside = aside_append m.aside (subst (λ z. Beside p n z l due ahead d.node now hand more) spots aside) (sent ∙ ap (λ z. d.sends ++ causes p n l z) spots);
         };
       }

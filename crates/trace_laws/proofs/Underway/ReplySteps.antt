@@ -1,9 +1,7 @@
 -- Replies, on an event in its midst: what is judged, and then told.
 use Rattle.std.proofs.Common.{◌≡◌, ℕ, List, [], ◌∷◌, Option, Some, None, true, false, eqb, cond, refl, sym, ap, ◌∙◌, subst, map}
 use Rattle.std.proofs.lemmas.Bool.{eq-eqb}
-use Rattle.slot_space.specs.Replies.{reply_code}
 use Rattle.slot_space.specs.declared.names.Tid.{Tid}
-use Rattle.slot_space.specs.declared.names.Reply.TheVariants as replies
 use Rattle.run_trace.specs.declared.label.Label.TheVariants.{Judged, Told}
 use Rattle.run_trace.specs.declared.label.Extra.TheVariants.{Nothing}
 use Rattle.run_trace.specs.declared.node.Wait.TheVariants as wait
@@ -11,14 +9,14 @@ use Rattle.run_trace.specs.Names.{is_tid}
 use Rattle.run_trace.specs.Program.{Program}
 use Rattle.run_trace.specs.Guests.{Guest, waits, told}
 use Rattle.run_trace.specs.declared.call.Call.{Call}
-use Rattle.run_trace.specs.declared.call.Call.TheVariants.{Create, MigrateSelf}
+use Rattle.run_trace.specs.declared.call.Call.TheVariants.{MigrateSelf}
 use Rattle.run_trace.specs.Calls.{extra_of}
 use Rattle.run_trace.specs.Local.{EventSoFar}
 use Rattle.run_trace.specs.Steps.{say, arrive, keep, judge, tell, tell_found, judge_as}
 use Rattle.run_trace.specs.Machine.{answer, judge_and_tell}
 use Rattle.run_trace.specs.Keyed.{StandsFor}
 use Rattle.run_trace.specs.Spots.{Stage, Ready, Due, Served, Told_next, Told_then, Departs, Life, On, Response, Spot, Spots, update, after_label, second_of, judged_stage, judged_life, judged_guest, told_stage}
-use Rattle.run_trace.specs.Rules.{MayTell, lowest_free}
+use Rattle.run_trace.specs.Rules.{MayTell}
 use Rattle.run_trace.specs.Stands.{Busy, busy, busy_name, busy_part, thread_part, row_part, listed, listed_name, held_in_stage, holding_of}
 use Rattle.run_trace.proofs.Lemmas.{is-true, is-refl}
 use Rattle.trace_laws.proofs.Lists.KeyedLemmas.{kept, unfronted, refronted, map_kept, map_set}
@@ -26,7 +24,7 @@ use Rattle.trace_laws.proofs.Underway.Steps.{in_hand, own_stays, own_goes, on_no
 use Rattle.run_trace.specs.Causes.{causes, judged_causes}
 use Rattle.run_trace.specs.World.{World, world_after}
 use Rattle.run_trace.specs.Obeying.{Allows}
-use Rattle.trace_laws.proofs.Underway.Midst.{Outset, having_said, Own, Links, Midst, spots_with, Keeps, keeps, Then, updated}
+use Rattle.trace_laws.proofs.Underway.Midst.{as_before, Outset, having_said, Own, Links, Midst, spots_with, Keeps, keeps, Then, updated}
 use Rattle.trace_laws.proofs.Lists.Parts.{thread_was, row_was, busy_was, rows_arrived, busy_none}
 use Rattle.trace_laws.proofs.Lists.Stages.{is_in_hand, hand_home, hand_busy, hand_thread, hand_row, told_home, told_thread, told_row, told_held}
 use Rattle.run_trace.specs.Items.{Item}
@@ -76,6 +74,8 @@ module _ {outset : Outset} {ahead : List Item} {L : Links} where
         free = refl;
         halted = refl;
         next = own_stays m refl refl (hand_busy n b then);
+        after = as_before;
+        talk = refl;
         run_lists = refl;
         booted = refl;
       })
@@ -118,6 +118,8 @@ module _ {outset : Outset} {ahead : List Item} {L : Links} where
         free = refl;
         halted = refl;
         next = own;
+        after = as_before;
+        talk = refl;
         run_lists = refl;
         booted = refl;
       })
@@ -138,7 +140,7 @@ module _ {outset : Outset} {ahead : List Item} {L : Links} where
       let r : Spot = told_with n m.now.spots t Ready in
       tells_ok d t Told_next hs hs m refl refl (λ g. refl)
       (unfronted is_tid is-true is-refl busy_name (busy_part n) v.threads t r hs (busy t (On n Told_next)) m.here.busy refl (busy_none n t r (On n Ready) refl refl))
-      (own_goes m refl refl refl)
+      (own_goes m refl refl refl refl)
 
   -- it is told, and leaves next
   tell_then_ok : (d : EventSoFar) (t : Tid) (to : ℕ) (hs : List Busy) → (m : Midst outset ahead L d (busy t (On n (Told_then to)) ∷ hs)) → Midst outset ahead L (tell t (m.now.spots.threads t).verdict.code (second_of (m.now.spots.threads t).verdict.extra) d) (busy t (On n (Departs to)) ∷ hs)
@@ -154,18 +156,7 @@ module _ {outset : Outset} {ahead : List Item} {L : Links} where
   answer_ok d t code hs m =
       let x : (m.now.spots.threads t).life ≡ On n (Due code) = in_hand m in
       let same = judged_same p n m.now.spots t code None (On n (Due code)) x in
-      let k = judge_ok t code None (Due code) Told_next m (record { solo = tt; holders = tt; life = rw x refl; replies = rw x (refl, refl); grants = rw x tt }) same (ap (judged_causes t) x) refl refl (keeps _ _ refl) in
-      subst (λ (z : Response). Midst outset ahead L (tell t z.code (second_of z.extra) (judge t code None d)) hs) (judged_verdict p n m.now k.midst.now t code None _ k.now same)
-      (tell_ok (judge t code None d) t hs k.midst)
-
-  -- Full, where the node has no slot
-  pub refuse_ok : (d : EventSoFar) (t : Tid) (e a k : ℕ) (hs : List Busy) → (m : Midst outset ahead L d (busy t (On n (Served (Create e a k))) ∷ hs)) → lowest_free n 1 m.now.spots ≡ None → Midst outset ahead L (answer t (reply_code replies.Full) d) hs
-  refuse_ok d t e a k hs m none =
-      let stage : Stage = Served (Create e a k) in
-      let x : (m.now.spots.threads t).life ≡ On n stage = in_hand m in
-      let code : ℕ = reply_code replies.Full in
-      let same = judged_same p n m.now.spots t code None (On n stage) x in
-      let k = judge_ok t code None stage Told_next m (record { solo = tt; holders = tt; life = rw x refl; replies = rw x (refl, refl); grants = rw x none }) same (ap (judged_causes t) x) refl refl (keeps _ _ refl) in
+      let k = judge_ok t code None (Due code) Told_next m (record { solo = tt; holders = tt; life = rw x refl; replies = rw x (refl, refl); grants = tt }) same (ap (judged_causes t) x) refl refl (keeps _ _ refl) in
       subst (λ (z : Response). Midst outset ahead L (tell t z.code (second_of z.extra) (judge t code None d)) hs) (judged_verdict p n m.now k.midst.now t code None _ k.now same)
       (tell_ok (judge t code None d) t hs k.midst)
 
@@ -177,7 +168,7 @@ module _ {outset : Outset} {ahead : List Item} {L : Links} where
       let x : (m.now.spots.threads t).life ≡ On n stage = in_hand m in
       let same = judged_same p n m.now.spots t 0 None (On n stage) x
       ∙ ap (λ z. spots_with (update v.threads t (record { life = On n (cond z Told_next (Told_then to)); guest = (m.now.spots.threads t).guest; verdict = record { code = 0; extra = Nothing } })) v.slots v.births v.sems v.halts v.remote) away in
-      let k = judge_ok t 0 None stage (Told_then to) m (record { solo = tt; holders = tt; life = rw x refl; replies = rw x (refl, refl); grants = rw x tt }) same (ap (judged_causes t) x) refl refl (keeps _ _ refl) in
+      let k = judge_ok t 0 None stage (Told_then to) m (record { solo = tt; holders = tt; life = rw x refl; replies = rw x (refl, refl); grants = tt }) same (ap (judged_causes t) x) refl refl (keeps _ _ refl) in
       subst (λ (z : Response). Midst outset ahead L (tell t z.code (second_of z.extra) (judge t 0 None d)) (busy t (On n (Departs to)) ∷ hs)) (judged_verdict p n m.now k.midst.now t 0 None _ k.now same)
       (tell_then_ok (judge t 0 None d) t to hs k.midst)
 
@@ -189,7 +180,7 @@ module _ {outset : Outset} {ahead : List Item} {L : Links} where
       let x : (m.now.spots.threads t).life ≡ On n stage = in_hand m in
       let same = judged_same p n m.now.spots t 0 None (On n stage) x
       ∙ ap (λ z. spots_with (update v.threads t (record { life = On n (cond z Told_next (Told_then to)); guest = (m.now.spots.threads t).guest; verdict = record { code = 0; extra = Nothing } })) v.slots v.births v.sems v.halts v.remote) stays in
-      let k = judge_ok t 0 None stage Told_next m (record { solo = tt; holders = tt; life = rw x refl; replies = rw x (refl, refl); grants = rw x tt }) same (ap (judged_causes t) x) refl refl (keeps _ _ refl) in
+      let k = judge_ok t 0 None stage Told_next m (record { solo = tt; holders = tt; life = rw x refl; replies = rw x (refl, refl); grants = tt }) same (ap (judged_causes t) x) refl refl (keeps _ _ refl) in
       subst (λ (z : Response). Midst outset ahead L (tell t z.code (second_of z.extra) (judge t 0 None d)) hs) (judged_verdict p n m.now k.midst.now t 0 None _ k.now same)
       (tell_ok (judge t 0 None d) t hs k.midst)
 
@@ -222,6 +213,8 @@ module _ {outset : Outset} {ahead : List Item} {L : Links} where
         free = refl;
         halted = refl;
         next = own_stays m refl refl (eq-eqb n n refl);
+        after = as_before;
+        talk = refl;
         run_lists = refl;
         booted = refl;
       })

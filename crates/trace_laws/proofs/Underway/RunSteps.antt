@@ -20,13 +20,13 @@ use Rattle.run_trace.proofs.Lemmas.{is-true, is-refl}
 use Rattle.trace_laws.proofs.Lists.KeyedLemmas.{lookup-set_same, kept, replaced, fronted, map_set}
 use Rattle.trace_laws.proofs.Lives.RunLemmas.{run_does, run_stepped, run_slots}
 use Rattle.trace_laws.proofs.Lists.Arriving.{ran_lists}
-use Rattle.trace_laws.proofs.Underway.Steps.{own_starts, own_alone, home_step}
+use Rattle.trace_laws.proofs.Underway.Steps.{own_starts, own_alone, after_first, home_step}
 use Rattle.run_trace.specs.World.{World, world_after}
 use Rattle.run_trace.specs.Obeying.{Allows}
 use Rattle.trace_laws.proofs.Underway.Midst.{Outset, having_said, Links, Midst, spots_with, keeps, Then, updated}
 use Rattle.trace_laws.proofs.Lists.Parts.{thread_was, row_was, busy_was, rows_without, listed_without, listed_arrived, busy_none}
 use Rattle.trace_laws.proofs.Lists.Stages.{is_in_hand, hand_home, hand_busy, hand_thread, hand_row}
-use Rattle.run_trace.specs.Items.{is_busy, Item, Runs}
+use Rattle.run_trace.specs.Items.{is_busy, is_seeking, Item, Runs}
 
 -- a thread that has run is still here
 pub ran_there : (t : Tid) (vp : ℕ) (r : Run) (x : Thread) (d : EventSoFar) → thread_at t d ≡ Some x → thread_at t (ran t vp r x d) ≡ Some (record x { guest = with_state r.state x.guest })
@@ -97,7 +97,9 @@ module _ {outset : Outset} {ahead : List Item} {L : Links} where
         sems = refl;
         free = refl;
         halted = refl;
-        next = own_starts (_, _, refl) refl (ap (is_busy n) y ∙ hand_busy n b here);
+        next = own_starts (_, _, refl) refl refl (ap (is_busy n) y ∙ hand_busy n b here);
+        after = after_first (Runs t vp) refl;
+        talk = refl;
         run_lists = sym (off s.guest.priority d.node.run_lists);
         booted = refl;
       })
@@ -136,7 +138,9 @@ module _ {outset : Outset} {ahead : List Item} {L : Links} where
         sems = refl;
         free = refl;
         halted = refl;
-        next = own_alone (_, _, refl) refl (ap (is_busy n) y);
+        next = own_alone (_, _, refl) refl refl (ap (is_busy n) y) (ap (is_seeking n) y);
+        after = after_first (Runs t vp) refl;
+        talk = refl;
         run_lists = sym (off s.guest.priority d.node.run_lists);
         booted = refl;
       })

@@ -26,11 +26,11 @@ use Rattle.run_trace.specs.Keyed.{StandsFor}
 use Rattle.run_trace.specs.Causes.{asked_causes}
 use Rattle.run_trace.specs.Spots.{Stage, Running, Due, Queues, Answers, Going, Life, On, Spot, Spots, Remote, update, at_node, answered_stage, stage_of_call, going_by_call, sems_by_call, remote_after, after_label}
 use Rattle.run_trace.specs.Stands.{Here, Busy, busy, busy_name, busy_part, thread_part, waiter_in_life, row_part, listed, listed_name, ways_of, phase_of, held}
-use Rattle.run_trace.specs.Items.{Thread as Its, Item, is_busy, as_list, one_going}
+use Rattle.run_trace.specs.Items.{is_seeking, Thread as Its, Item, is_busy, as_list, one_going}
 use Rattle.run_trace.proofs.Lemmas.{is-true, is-refl, is-other, is-flip}
 use Rattle.trace_laws.proofs.Lists.KeyedLemmas.{kept, refronted, reseconded, unfronted, map_kept, map_set, set-set, lookup-set_same}
 use Rattle.trace_laws.proofs.Lists.Queues.{IsShortened}
-use Rattle.trace_laws.proofs.Lists.Parts.{thread_was, row_was, busy_was, busy_none, away_thread, away_row}
+use Rattle.trace_laws.proofs.Lists.Parts.{both_idle, thread_was, row_was, busy_was, busy_none, away_thread, away_row}
 use Rattle.trace_laws.proofs.Underway.Midst.{Outset, StandsAmid, amid, Links, Midst, under, spots_with, updated, labelled, Beside, beside, beside_both, links_kept, AreQueued, queued, queued_kept, keeps}
 use Rattle.trace_laws.proofs.Underway.Steps.{own_stays, own_goes, own_next, in_hand}
 use Rattle.trace_laws.proofs.Underway.CallSteps.{call_at, bytes_at, asked_spots, asked_as}
@@ -41,13 +41,15 @@ use Rattle.trace_laws.proofs.Underway.Semaphores.{queued_same, queued_more, spot
 -- ## What the node and the others have, where only semaphores change, or a thread in hand comes to be due a reply
 
 -- node n has these semaphores then
-pub sems_amid : {p : Program} {net : Net} {n : ℕ} {v : Spots} {M : Links} {s : Local} {hand : List Busy} (new : List SemRow) → StandsAmid p net n v M s hand → AreQueued (at_node v.sems n new) v.threads
-    → StandsAmid p net n (spots_with v.threads v.slots v.births (at_node v.sems n new) v.halts v.remote) M (record s { sems = new }) hand
+pub sems_amid : {p : Program} {net : Net} {n : ℕ} {v : Spots} {M : Links} {s : Local} {hand : List Busy} {ahead : List Item} (new : List SemRow) → StandsAmid p net n v M s hand ahead → AreQueued (at_node v.sems n new) v.threads
+    → StandsAmid p net n (spots_with v.threads v.slots v.births (at_node v.sems n new) v.halts v.remote) M (record s { sems = new }) hand ahead
 sems_amid {p} {net} {n} {v} new o queues = record {
-  here = record { threads = o.here.threads; rows = o.here.rows; busy = o.here.busy; births = o.here.births; sems = rw (eq-eqb n n refl) refl; free = o.here.free; halted = o.here.halted };
-  there = λ k e. (let h : Here k v (net.nodes k) [] = o.there k e in record { threads = h.threads; rows = h.rows; busy = h.busy; births = h.births; sems = h.sems ∙ sym (others_same v.sems n new k e); free = h.free; halted = h.halted });
+  here = record { threads = o.here.threads; rows = o.here.rows; busy = o.here.busy; seekers = o.here.seekers; births = o.here.births; sems = rw (eq-eqb n n refl) refl; free = o.here.free; halted = o.here.halted };
+  there = λ k e. (let h : Here k v (net.nodes k) [] [] = o.there k e in record { threads = h.threads; rows = h.rows; busy = h.busy; seekers = h.seekers; births = h.births; sems = h.sems ∙ sym (others_same v.sems n new k e); free = h.free; halted = h.halted });
   links = o.links;
+  turns = o.turns;
   agrees = record {
+    seeks = o.agrees.seeks;
     homes = o.agrees.homes;
     named = o.agrees.named;
     awaits = o.agrees.awaits;
@@ -65,9 +67,9 @@ abbrev pub due_spot : ℕ → ℕ → Spot → Spot
 due_spot n code s = record s { life = On n (Due code) }
 
 -- a thread that has come to a call is due this reply
-pub due_amid : {p : Program} {net : Net} {n : ℕ} {v : Spots} {M : Links} {s : Local} {hand : List Busy} {remote : Remote} (code : ℕ) (more : List Busy) (t : Tid) → StandsAmid p net n v M s hand → (v.threads t).life ≡ On n Running
+pub due_amid : {p : Program} {net : Net} {n : ℕ} {v : Spots} {M : Links} {s : Local} {hand : List Busy} {ahead : List Item} {remote : Remote} (code : ℕ) (more : List Busy) (t : Tid) → StandsAmid p net n v M s hand ahead → (v.threads t).life ≡ On n Running
     → StandsFor is_tid busy_name (busy_part n) more (update v.threads t (due_spot n code (v.threads t)))
-    → StandsAmid p net n (spots_with (update v.threads t (due_spot n code (v.threads t))) v.slots v.births v.sems v.halts remote) M s more
+    → StandsAmid p net n (spots_with (update v.threads t (due_spot n code (v.threads t))) v.slots v.births v.sems v.halts remote) M s more ahead
 due_amid {n = n} {v} {M} {s} code more t o x hands =
     let old : Spot = v.threads t in
     let r : Spot = due_spot n code old in
@@ -77,10 +79,10 @@ due_amid {n = n} {v} {M} {s} code more t o x hands =
       rows = kept is_tid is-true is-refl listed_name (row_part n) v.threads t r (map listed s.run_lists.rows) o.here.rows (row_was n t r (Due code) refl ∙ sym (row_was n t old Running x));
       busy = hands;
     })
-    (record { births = refl; sems = o.here.sems; free = refl; halted = refl })
+    (record { births = refl; sems = o.here.sems; free = refl; halted = refl; talk = refl })
     (home_spot r Running (Due code) x refl refl refl (keeps _ _ (sym (ap (λ l. held l old.guest) x)))
     (queued_kept v.threads t r (queued o.agrees) (λ h j. ap (λ l. waiter_in_life h j t l) x) (λ h j. refl)) (λ k e. refl))
-    (links_kept t r v.threads M o.links (sym (ap (λ l. ways_of t l old.verdict old.guest) x)))
+    (links_kept t r v.threads M o.links (sym (ap (λ l. ways_of t l old.verdict old.guest) x))) (λ i j. refl)
 
 -- ## Replies to threads of any node
 
@@ -141,6 +143,10 @@ pub roused_lists : (b : Bool) (u : Tid) (g : Guest) (s : Local) → (roused b u 
 roused_lists true u g s = refl
 roused_lists false u g s = refl
 
+pub roused_talk : (b : Bool) (u : Tid) (g : Guest) (s : Local) → (roused b u g s).talk ≡ s.talk
+roused_talk true u g s = refl
+roused_talk false u g s = refl
+
 pub roused_booted : (b : Bool) (u : Tid) (g : Guest) (s : Local) → (roused b u g s).booted ≡ s.booted
 roused_booted true u g s = refl
 roused_booted false u g s = refl
@@ -150,7 +156,7 @@ module _ {outset : Outset} {ahead : List Item} {L : Links} where
 
   pub asks_then : (d : EventSoFar) (t : Tid) {other : Going} {b : Stage} {new : List SemRow} {hs : List Busy} (now : Local) (more : List Busy) → (m : Midst outset ahead L d (busy t (On n Running) ∷ hs))
       → IsAsked p n t m.now.spots other b new → asked_causes t b ≡ []
-      → StandsAmid p net n (asked_spots n m.now.spots t [] other b (at_node m.now.spots.sems n new)) (under n L d.sends) now more
+      → StandsAmid p net n (asked_spots n m.now.spots t [] other b (at_node m.now.spots.sems n new)) (under n L d.sends) now more ahead
       → Beside p n m.now.spots (asked_label m.now.spots t) ahead ahead d.node now (busy t (On n Running) ∷ hs) more
       → Midst outset ahead L (record { node = now; labels = d.labels ++ asked_label m.now.spots t ∷ []; sends = d.sends; prints = d.prints }) more
   asks_then d t {other} {b} {new} now more m asked quiet stands aside =
@@ -180,7 +186,7 @@ module _ {outset : Outset} {ahead : List Item} {L : Links} where
       (due_amid code (busy t (On n (Due code)) ∷ hs) t (sems_amid new (amid m) (queued_same n new (queued m.agrees) all same)) x
       (refronted is_tid is-true is-refl busy_name (busy_part n) v.threads t r hs (busy t (On n Running)) (busy t (On n (Due code))) m.here.busy refl refl (busy_was n t r (On n (Due code)) refl (eq-eqb n n refl))))
       (beside (own_stays m refl (ap (λ z. as_list (one_going z) ++ Its t ∷ []) asked.going) (eq-eqb n n refl))
-      (asked_of d t m asked t (On n (Due code)) (ap (λ (z : Spot). z.life) (updated v.threads t r))) refl refl)
+      (asked_of d t m asked t (On n (Due code)) (ap (λ (z : Spot). z.life) (updated v.threads t r))) refl refl refl)
 
   -- the thread waits for a semaphore of the node, as the last
   pub asks_waiting_ok : (d : EventSoFar) (t : Tid) (id : ℕ) (new : List SemRow) (hs : List Busy) → (m : Midst outset ahead L d (busy t (On n Running) ∷ hs))
@@ -200,24 +206,27 @@ module _ {outset : Outset} {ahead : List Item} {L : Links} where
         rows = kept is_tid is-true is-refl listed_name (row_part n) v.threads t r (map listed d.node.run_lists.rows) m.here.rows (row_was n t r (Queues id) refl ∙ sym (row_was n t s Running x));
         busy = unfronted is_tid is-true is-refl busy_name (busy_part n) v.threads t r hs (busy t (On n Running)) m.here.busy refl (busy_none n t r (On n (Queues id)) refl refl);
       })
-      (record { births = refl; sems = sym (own_sems v.sems); free = refl; halted = refl })
+      (record { births = refl; sems = sym (own_sems v.sems); free = refl; halted = refl; talk = refl })
       (record {
         frame = λ k e. record {
           thread = away_thread n k t r (Queues id) refl e ∙ sym (away_thread n k t s Running x e);
           row = away_row n k t r (Queues id) refl e ∙ sym (away_row n k t s Running x e);
           busy = busy_none k t r (On n (Queues id)) refl refl ∙ sym (busy_none k t s (On n Running) x e);
+          seeker = both_idle k t s r (ap (is_seeking k) x) refl;
         };
         phase = sym (ap phase_of x);
         born = λ e. absurd (cc (e, x));
         waits = λ u k e. absurd (cc (e, x));
         holds = keeps _ _ (sym (ap (λ l. held l s.guest) x));
-        fits = record { waits = λ u k e. absurd (cc e); signals = λ k i up e. absurd (cc e); stays = λ k e. absurd (cc e) };
+        fits = record { seeks = λ k e. absurd (cc e); waits = λ u k e. absurd (cc e); signals = λ k i up e. absurd (cc e); stays = λ k e. absurd (cc e) };
+        seeks = λ k. ap (is_seeking k) x;
+        rests = λ k. refl;
         queued = queued_more v.threads t r n n id new (queued m.agrees) (λ h j. ap (λ l. waiter_in_life h j t l) x) refl here all more;
         others = others_same v.sems n new;
       })
-      (links_kept t r v.threads (under n L d.sends) m.links (sym (ap (λ l. ways_of t l s.verdict s.guest) x))))
-      (beside (own_goes m refl (ap (λ z. as_list (one_going z) ++ Its t ∷ []) asked.going) refl)
-      (asked_of d t m asked t (On n (Queues id)) (ap (λ (z : Spot). z.life) (updated v.threads t r))) refl refl)
+      (links_kept t r v.threads (under n L d.sends) m.links (sym (ap (λ l. ways_of t l s.verdict s.guest) x))) (λ i j. refl))
+      (beside (own_goes m refl (ap (λ z. as_list (one_going z) ++ Its t ∷ []) asked.going) refl refl)
+      (asked_of d t m asked t (On n (Queues id)) (ap (λ (z : Spot). z.life) (updated v.threads t r))) refl refl refl)
     where
       own_sems : (z : ℕ → List SemRow) → at_node z n new n ≡ new
       own_sems z = rw (eq-eqb n n refl) refl
@@ -225,10 +234,10 @@ module _ {outset : Outset} {ahead : List Item} {L : Links} where
   -- a thread that is set going is in hand before the one in hand, which is due a reply; nodes and links stand for the first change as yet
   pub asks_both : (d : EventSoFar) (t u : Tid) (code : ℕ) (life : Life) {new : List SemRow} (hs : List Busy) (now : Local) → (m : Midst outset ahead L d (busy t (On n Running) ∷ hs))
       → IsAsked p n t m.now.spots (Some (u, life)) (Due code) new → is_tid u t ≡ false → is_busy n life ≡ true
-      → StandsAmid p net n (spots_with (update m.now.spots.threads u (record (m.now.spots.threads u) { life = life })) m.now.spots.slots m.now.spots.births (at_node m.now.spots.sems n new) m.now.spots.halts m.now.spots.remote) (under n L d.sends) now (busy u life ∷ busy t (On n Running) ∷ hs)
-      → now.run_lists ≡ d.node.run_lists → now.booted ≡ d.node.booted
+      → StandsAmid p net n (spots_with (update m.now.spots.threads u (record (m.now.spots.threads u) { life = life })) m.now.spots.slots m.now.spots.births (at_node m.now.spots.sems n new) m.now.spots.halts m.now.spots.remote) (under n L d.sends) now (busy u life ∷ busy t (On n Running) ∷ hs) ahead
+      → now.run_lists ≡ d.node.run_lists → now.booted ≡ d.node.booted → now.talk ≡ d.node.talk
       → Midst outset ahead L (record { node = now; labels = d.labels ++ asked_label m.now.spots t ∷ []; sends = d.sends; prints = d.prints }) (busy u life ∷ busy t (On n (Due code)) ∷ hs)
-  asks_both d t u code life {new} hs now m asked apart busied stands run_lists booted =
+  asks_both d t u code life {new} hs now m asked apart busied stands run_lists booted talk =
       let v : Spots = m.now.spots in
       let x : (v.threads t).life ≡ On n Running = in_hand m in
       let ru : Spot = record (v.threads u) { life = life } in
@@ -238,15 +247,16 @@ module _ {outset : Outset} {ahead : List Item} {L : Links} where
       let second = due_amid code (busy u life ∷ busy t (On n (Due code)) ∷ hs) t stands (ap (λ (z : Spot). z.life) here ∙ x)
       (reseconded is_tid is-true is-refl busy_name (busy_part n) f t r hs (busy u life) (busy t (On n Running)) (busy t (On n (Due code))) stands.here.busy refl refl (busy_was n t r (On n (Due code)) refl (eq-eqb n n refl))) in
       asks_then d t now (busy u life ∷ busy t (On n (Due code)) ∷ hs) m asked refl
-      (subst (λ (s : Spot). StandsAmid p net n (spots_with (update f t (due_spot n code s)) v.slots v.births (at_node v.sems n new) v.halts (remote_after (asked_label v t) v.remote)) (under n L d.sends) now (busy u life ∷ busy t (On n (Due code)) ∷ hs)) here second)
+      (subst (λ (s : Spot). StandsAmid p net n (spots_with (update f t (due_spot n code s)) v.slots v.births (at_node v.sems n new) v.halts (remote_after (asked_label v t) v.remote)) (under n L d.sends) now (busy u life ∷ busy t (On n (Due code)) ∷ hs) ahead) here second)
       (beside_both (record {
         heirs = ap (λ z. as_list (one_going z) ++ Its t ∷ []) asked.going;
+        front = λ sends talk. refl;
         next = own_next (asked_label v t) m refl;
         still = rw (busied, eq-eqb n n refl) refl;
       })
       (asked_of d t m asked u life (ap (λ (z : Spot). z.life) (at_first_of v.threads u t ru _ apart)))
       (asked_of d t m asked t (On n (Due code)) (ap (λ (z : Spot). z.life) (updated f t _)))
-      run_lists booted)
+      run_lists booted talk)
 
   -- the thread that waited first is let go, and has its reply before the one that raised the semaphore
   pub asks_woken_ok : (d : EventSoFar) (t u : Tid) (at k : ℕ) (new : List SemRow) (hs : List Busy) → (m : Midst outset ahead L d (busy t (On n Running) ∷ hs))
@@ -261,4 +271,4 @@ module _ {outset : Outset} {ahead : List Item} {L : Links} where
       let apart : is_tid u t ≡ false = is-other u t (λ e. (let y = was.life in absurd (cc (y, x, ap (λ z. (v.threads z).life) e)))) in
       woken_ok (asks_here t (call_at v t) new d) u at g (busy t (On n (Due 0)) ∷ hs)
       (λ e. m.here.threads.shows u ∙ thread_was n u (v.threads u) (Queues was.id) (was.life ∙ ap (λ i. On i (Queues was.id)) (sym (eqb-true n at e))) ∙ (rw (eq-eqb (node_in was.id) n was.node) refl))
-      (asks_both d t u 0 (woken_life n at) hs (roused (eqb n at) u g (record d.node { sems = new })) m asked apart (woken_busy n at) (woken_amid k at u new (amid m) less all) (roused_lists (eqb n at) u g (record d.node { sems = new })) (roused_booted (eqb n at) u g (record d.node { sems = new })))
+      (asks_both d t u 0 (woken_life n at) hs (roused (eqb n at) u g (record d.node { sems = new })) m asked apart (woken_busy n at) (woken_amid k at u new (amid m) less all) (roused_lists (eqb n at) u g (record d.node { sems = new })) (roused_booted (eqb n at) u g (record d.node { sems = new })) (roused_talk (eqb n at) u g (record d.node { sems = new })))

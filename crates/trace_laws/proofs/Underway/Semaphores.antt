@@ -1,4 +1,6 @@
 -- The queues of semaphores, when a thread comes to wait or is let go; and a thread's new spot beside other semaphores.
+use Rattle.run_trace.specs.Calls.{call_of}
+use Rattle.run_trace.specs.Items.{Item, is_seeking}
 use Rattle.std.proofs.Common.{◌≡◌, ℕ, List, [], ◌∷◌, ◌++◌, Option, Some, None, Bool, true, false, eqb, cond, ◌&&◌, refl, sym, ap, ◌∙◌, subst, map}
 use Rattle.std.specs.Prelude.{All}
 use Rattle.std.specs.Map.{set_value}
@@ -16,14 +18,14 @@ use Rattle.run_trace.specs.Local.{Local}
 use Rattle.run_trace.specs.Cluster.{Net}
 use Rattle.run_trace.specs.Keyed.{StandsFor, item_of}
 use Rattle.run_trace.specs.Spots.{Stage, Queues, Answers, Due, Awaits, Life, Unborn, On, Spot, Spots, Remote, update, at_node, answered_stage}
-use Rattle.run_trace.specs.Stands.{Busy, busy, busy_name, busy_part, thread_part, thread_in_life, row_part, row_in_life, listed, listed_name, ways_of, phase_of, held, waiter_name, waiter_in_life, waiter_part}
+use Rattle.run_trace.specs.Stands.{serving, Busy, busy, busy_name, busy_part, thread_part, thread_in_life, row_part, row_in_life, listed, listed_name, ways_of, phase_of, held, waiter_name, waiter_in_life, waiter_part}
 use Rattle.run_trace.proofs.Lemmas.{is-true, is-refl}
 use Rattle.trace_laws.proofs.Lists.KeyedLemmas.{kept, added, fronted, unfronted, map_kept, map_set}
 use Rattle.trace_laws.proofs.Lists.Queues.{IsShortened}
-use Rattle.trace_laws.proofs.Lists.Parts.{thread_was, row_was, busy_was, away_thread, away_row, busy_none, frame_home}
+use Rattle.trace_laws.proofs.Lists.Parts.{both_idle, thread_was, row_was, busy_was, away_thread, away_row, busy_none, frame_home}
 use Rattle.trace_laws.proofs.Lists.Stages.{is_home, home_quiet, home_plain}
-use Rattle.trace_laws.proofs.Underway.Midst.{StandsAmid, Links, LinkStands, Frame, spots_with, here_kept, links_kept, agrees_queued, AreQueued, queued, Quiet, Fits, fits, plain, Plain, Keeps, keeps}
-use Rattle.trace_laws.proofs.Underway.Steps.{Ties}
+use Rattle.trace_laws.proofs.Underway.Midst.{in_turn_kept, turn_words, StandsAmid, Links, LinkStands, Frame, spots_with, here_kept, links_kept, agrees_queued, AreQueued, queued, Quiet, Fits, fits, plain, Plain, Keeps, keeps}
+use Rattle.trace_laws.proofs.Underway.Steps.{seekers_kept, Ties}
 
 -- ## Queues
 
@@ -126,7 +128,9 @@ pub record IsSpot (n : ℕ) (t : Tid) (r : Spot) (v : Spots) (z : ℕ → List S
   pub born : (v.threads t).life ≡ Unborn → ⊥
   pub waits : (u : Tid) (k : ℕ) → (v.threads t).life ≡ On k (Awaits u) → ⊥
   pub holds : Keeps (held (v.threads t).life (v.threads t).guest) (held r.life r.guest)
-  pub fits : Fits v.halts r.life
+  pub fits : Fits v.halts (call_of r.guest.solo.state) r.life
+  pub seeks : (k : ℕ) → is_seeking k (v.threads t).life ≡ false
+  pub rests : (k : ℕ) → is_seeking k r.life ≡ false
   pub queued : AreQueued z (update v.threads t r)
   pub others : (k : ℕ) → eqb n k ≡ false → z k ≡ v.sems k
 
@@ -136,22 +140,25 @@ pub record IsBeside (old now : Local) (rows : List SemRow) : Type 0 where
   pub sems : now.sems ≡ rows
   pub free : now.slots.free ≡ old.slots.free
   pub halted : now.halted ≡ old.halted
+  pub talk : now.talk ≡ old.talk
 
-pub spot_amid : {p : Program} {net : Net} {n : ℕ} {v : Spots} {M N : Links} {s : Local} {hand : List Busy} {z : ℕ → List SemRow} {remote : Remote} (now : Local) (more : List Busy) (t : Tid) (r : Spot)
-    → StandsAmid p net n v M s hand → Ties n v t r now more → IsBeside s now (z n) → IsSpot n t r v z → ((i j : ℕ) → LinkStands i j (N i j) (update v.threads t r))
-    → StandsAmid p net n (spots_with (update v.threads t r) v.slots v.births z v.halts remote) N now more
-spot_amid {p} {net} {n} {v} now more t r o ties keeps spot links = record {
+pub spot_amid : {p : Program} {net : Net} {n : ℕ} {v : Spots} {M N : Links} {s : Local} {hand : List Busy} {ahead : List Item} {z : ℕ → List SemRow} {remote : Remote} (now : Local) (more : List Busy) (t : Tid) (r : Spot)
+    → StandsAmid p net n v M s hand ahead → Ties n v t r now more → IsBeside s now (z n) → IsSpot n t r v z → ((i j : ℕ) → LinkStands i j (N i j) (update v.threads t r)) → ((i j : ℕ) → turn_words N i j ≡ turn_words M i j)
+    → StandsAmid p net n (spots_with (update v.threads t r) v.slots v.births z v.halts remote) N now more ahead
+spot_amid {p} {net} {n} {v} {M} {N} {s} {ahead = ahead} now more t r o ties keeps spot links words = record {
   here = record {
     threads = ties.threads;
     rows = ties.rows;
     busy = ties.busy;
+    seekers = seekers_kept n v.threads t r o.here.seekers (ap (λ z. serving ahead ++ z.claims) keeps.talk) (spot.seeks n) (spot.rests n);
     births = keeps.births ∙ o.here.births;
     sems = keeps.sems;
     free = λ x. ap (λ (xs : List ℕ). has x xs) keeps.free ∙ o.here.free x;
     halted = keeps.halted ∙ o.here.halted;
   };
-  there = λ k e. here_kept k v t r (net.nodes k) [] (o.there k e) (spot.frame k e) refl (spot.others k e) (λ x. refl) refl;
+  there = λ k e. here_kept k v t r (net.nodes k) [] [] (o.there k e) (spot.frame k e) refl (spot.others k e) (λ x. refl) refl;
   links = links;
+  turns = in_turn_kept net n s.talk now.talk M N ahead ahead o.turns keeps.talk words refl refl;
   agrees = agrees_queued p v t r v.halts o.agrees spot.phase spot.born spot.waits spot.holds spot.fits spot.queued (λ k e. e);
 }
 
@@ -168,6 +175,8 @@ home_spot {n} {t} {v} r a b x y at_first then holds queues others =
       waits = old.waits;
       holds = holds;
       fits = fits new;
+      seeks = old.seeks;
+      rests = new.seeks;
       queued = queues;
       others = others;
     }
@@ -190,11 +199,11 @@ pub others_same : (z : ℕ → List SemRow) (n : ℕ) (new : List SemRow) (k : �
 others_same z n new k e = rw e refl
 
 -- the thread that waited first is let go
-pub woken_amid : {p : Program} {net : Net} {n : ℕ} {v : Spots} {M : Links} {s : Local} {hand : List Busy} {remote : Remote} (k at : ℕ) (u : Tid) (new : List SemRow)
-    → StandsAmid p net n v M s hand → IsShortened k (u, at) (v.sems n) new → All IsSemaphore new
+pub woken_amid : {p : Program} {net : Net} {n : ℕ} {v : Spots} {M : Links} {s : Local} {hand : List Busy} {ahead : List Item} {remote : Remote} (k at : ℕ) (u : Tid) (new : List SemRow)
+    → StandsAmid p net n v M s hand ahead → IsShortened k (u, at) (v.sems n) new → All IsSemaphore new
     → StandsAmid p net n (spots_with (update v.threads u (woken_spot n at (v.threads u))) v.slots v.births (at_node v.sems n new) v.halts remote) M
-    (roused (eqb n at) u (v.threads u).guest (record s { sems = new })) (busy u (woken_life n at) ∷ hand)
-woken_amid {p} {net} {n} {v} {M} {s} {hand} {remote} k at u new o less all = by (eqb n at) refl
+    (roused (eqb n at) u (v.threads u).guest (record s { sems = new })) (busy u (woken_life n at) ∷ hand) ahead
+woken_amid {p} {net} {n} {v} {M} {s} {hand} {ahead} {remote} k at u new o less all = by (eqb n at) refl
   where
     old : Spot
     old = v.threads u
@@ -207,11 +216,11 @@ woken_amid {p} {net} {n} {v} {M} {s} {hand} {remote} k at u new o less all = by 
 
     by : (b : Bool) → eqb n at ≡ b
         → StandsAmid p net n (spots_with (update v.threads u (record old { life = On at (cond b (Due 0) (Answers n (replies.Value 0) None)) })) v.slots v.births (at_node v.sems n new) v.halts remote) M
-        (roused b u old.guest (record s { sems = new })) (busy u (On at (cond b (Due 0) (Answers n (replies.Value 0) None))) ∷ hand)
+        (roused b u old.guest (record s { sems = new })) (busy u (On at (cond b (Due 0) (Answers n (replies.Value 0) None))) ∷ hand) ahead
     by true e =
         let same : n ≡ at = eqb-true n at e in
         let x : old.life ≡ On n (Queues was.id) = was.life ∙ ap (λ i. On i (Queues was.id)) (sym same) in
-        subst (λ i. StandsAmid p net n (spots_with (update v.threads u (record old { life = On i (Due 0) })) v.slots v.births (at_node v.sems n new) v.halts remote) M (roused true u old.guest (record s { sems = new })) (busy u (On i (Due 0)) ∷ hand)) same
+        subst (λ i. StandsAmid p net n (spots_with (update v.threads u (record old { life = On i (Due 0) })) v.slots v.births (at_node v.sems n new) v.halts remote) M (roused true u old.guest (record s { sems = new })) (busy u (On i (Due 0)) ∷ hand) ahead) same
         (spot_amid _ (busy u (On n (Due 0)) ∷ hand) u (record old { life = On n (Due 0) }) o
         (record {
           threads = map_set is_tid is-true is-refl (thread_part n) v.threads u (record old { life = On n (Due 0) }) s.threads (waits wait.ForSemaphore old.guest) (waits wait.No old.guest) o.here.threads
@@ -219,22 +228,25 @@ woken_amid {p} {net} {n} {v} {M} {s} {hand} {remote} k at u new o less all = by 
           rows = kept is_tid is-true is-refl listed_name (row_part n) v.threads u (record old { life = On n (Due 0) }) (map listed s.run_lists.rows) o.here.rows (row_was n u (record old { life = On n (Due 0) }) (Due 0) refl ∙ sym (row_was n u old (Queues was.id) x));
           busy = fronted is_tid is-true is-refl busy_name (busy_part n) v.threads u (record old { life = On n (Due 0) }) hand (busy u (On n (Due 0))) o.here.busy refl (busy_none n u old (On n (Queues was.id)) x refl) (busy_was n u (record old { life = On n (Due 0) }) (On n (Due 0)) refl (eq-eqb n n refl));
         })
-        (record { births = refl; sems = sym new_here; free = refl; halted = refl })
+        (record { births = refl; sems = sym new_here; free = refl; halted = refl; talk = refl })
         (record {
           frame = λ j f. record {
             thread = away_thread n j u (record old { life = On n (Due 0) }) (Due 0) refl f ∙ sym (away_thread n j u old (Queues was.id) x f);
             row = away_row n j u (record old { life = On n (Due 0) }) (Due 0) refl f ∙ sym (away_row n j u old (Queues was.id) x f);
             busy = busy_none j u (record old { life = On n (Due 0) }) (On n (Due 0)) refl f ∙ sym (busy_none j u old (On n (Queues was.id)) x refl);
+            seeker = both_idle j u old (record old { life = On n (Due 0) }) (ap (is_seeking j) x) refl;
           };
           phase = sym (ap phase_of x);
           born = λ f. absurd (cc (f, x));
           waits = λ w j f. absurd (cc (f, x));
           holds = keeps _ _ (sym (ap (λ l. held l old.guest) x));
           fits = fits (plain _ refl);
+          seeks = λ j. ap (is_seeking j) x;
+          rests = λ j. refl;
           queued = queued_less v.threads u (record old { life = On n (Due 0) }) n k at new (queued o.agrees) (λ h j. refl) less all;
           others = others_same v.sems n new;
         })
-        (links_kept u (record old { life = On n (Due 0) }) v.threads M o.links (sym (ap (λ l. ways_of u l old.verdict old.guest) x))))
+        (links_kept u (record old { life = On n (Due 0) }) v.threads M o.links (sym (ap (λ l. ways_of u l old.verdict old.guest) x))) (λ i j. refl))
     by false e =
         let x : old.life ≡ On at (Queues was.id) = was.life in
         let life : Life = On at (Answers n (replies.Value 0) None) in
@@ -245,22 +257,25 @@ woken_amid {p} {net} {n} {v} {M} {s} {hand} {remote} k at u new o less all = by 
           rows = kept is_tid is-true is-refl listed_name (row_part n) v.threads u r (map listed s.run_lists.rows) o.here.rows (away_row at n u r (Answers n (replies.Value 0) None) refl (off at e) ∙ sym (away_row at n u old (Queues was.id) x (off at e)));
           busy = fronted is_tid is-true is-refl busy_name (busy_part n) v.threads u r hand (busy u life) o.here.busy refl (busy_none n u old (On at (Queues was.id)) x refl) (busy_was n u r life refl (eq-eqb n n refl));
         })
-        (record { births = refl; sems = sym new_here; free = refl; halted = refl })
+        (record { births = refl; sems = sym new_here; free = refl; halted = refl; talk = refl })
         (record {
           frame = λ j f. record {
             thread = sym (ap (λ l. thread_in_life j l old.guest) x ∙ ap (λ b. cond (eqb at j) (Some (waits (cond b wait.ForSemaphore wait.ForAnswer) old.guest)) None) (ap (λ i. eqb i j) was.node ∙ f));
             row = sym (ap (λ l. row_in_life j u l old.guest.priority) x);
             busy = busy_none j u r life refl f ∙ sym (busy_none j u old (On at (Queues was.id)) x refl);
+            seeker = both_idle j u old r (ap (is_seeking j) x) refl;
           };
           phase = sym (ap phase_of x);
           born = λ f. absurd (cc (f, x));
           waits = λ w j f. absurd (cc (f, x));
           holds = keeps _ _ (sym (ap (λ l. held l old.guest) x));
           fits = fits (plain _ refl);
+          seeks = λ j. ap (is_seeking j) x;
+          rests = λ j. refl;
           queued = queued_less v.threads u r n k at new (queued o.agrees) (λ h j. refl) less all;
           others = others_same v.sems n new;
         })
-        (links_kept u r v.threads M o.links (sym (ap (λ l. ways_of u l old.verdict old.guest) x)))
+        (links_kept u r v.threads M o.links (sym (ap (λ l. ways_of u l old.verdict old.guest) x))) (λ i j. refl)
       where
         off : (at : ℕ) → eqb n at ≡ false → eqb at n ≡ false
         off at e = elim (eqb at n) as (λ b. eqb at n ≡ b → b ≡ false) [ true ↦ λ f. (let one : at ≡ n = eqb-true at n f in absurd (cc (e, eq-eqb n at (sym one)))) | false ↦ λ f. refl ] refl

@@ -45,8 +45,8 @@ is_ready_on n (On m Ready) e = ap (λ i. On i Ready) (eqb-true m n e)
 is_ready_on n life e = absurd (cc e)
 
 -- a thread that is ready is about to leave, and in hand
-departs_amid : {p : Program} {net : Net} {n : ℕ} {v : Spots} {M : Links} {s : Local} {hand : List Busy} {remote : Remote} (u : Tid) (to : ℕ) → StandsAmid p net n v M s hand → (v.threads u).life ≡ On n Ready
-    → StandsAmid p net n (spots_with (update v.threads u (record (v.threads u) { life = On n (Departs to) })) v.slots v.births v.sems v.halts remote) M s (busy u (On n (Departs to)) ∷ hand)
+departs_amid : {p : Program} {net : Net} {n : ℕ} {v : Spots} {M : Links} {s : Local} {hand : List Busy} {ahead : List Item} {remote : Remote} (u : Tid) (to : ℕ) → StandsAmid p net n v M s hand ahead → (v.threads u).life ≡ On n Ready
+    → StandsAmid p net n (spots_with (update v.threads u (record (v.threads u) { life = On n (Departs to) })) v.slots v.births v.sems v.halts remote) M s (busy u (On n (Departs to)) ∷ hand) ahead
 departs_amid {n = n} {v} {M} {s} {hand} u to o x =
     let old : Spot = v.threads u in
     let r : Spot = record old { life = On n (Departs to) } in
@@ -56,10 +56,10 @@ departs_amid {n = n} {v} {M} {s} {hand} u to o x =
       rows = kept is_tid is-true is-refl listed_name (row_part n) v.threads u r (map listed s.run_lists.rows) o.here.rows (row_was n u r (Departs to) refl ∙ sym (row_was n u old Ready x));
       busy = fronted is_tid is-true is-refl busy_name (busy_part n) v.threads u r hand (busy u (On n (Departs to))) o.here.busy refl (busy_none n u old (On n Ready) x refl) (busy_was n u r (On n (Departs to)) refl (eq-eqb n n refl));
     })
-    (record { births = refl; sems = o.here.sems; free = refl; halted = refl })
+    (record { births = refl; sems = o.here.sems; free = refl; halted = refl; talk = refl })
     (home_spot r Ready (Departs to) x refl refl refl (keeps _ _ (sym (ap (λ l. held l old.guest) x)))
     (queued_kept v.threads u r (queued o.agrees) (λ h j. ap (waiter_in_life h j u) x) (λ h j. refl)) (λ k e. refl))
-    (links_kept u r v.threads M o.links (sym (ap (λ l. ways_of u l old.verdict old.guest) x)))
+    (links_kept u r v.threads M o.links (sym (ap (λ l. ways_of u l old.verdict old.guest) x))) (λ i j. refl)
 
 module _ {outset : Outset} {ahead : List Item} {L : Links} where
   open outset use {program as p, net, occasion as q, node as n, opening, world as w}
@@ -108,8 +108,8 @@ module _ {outset : Outset} {ahead : List Item} {L : Links} where
             bytes = asked.bytes;
           } in
           let k : Midst outset ahead L after (busy u (On n (Departs to)) ∷ busy t (On n (Due 0)) ∷ []) = asks_both d t u 0 (On n (Departs to)) [] d.node m both apart (eq-eqb n n refl)
-          (subst (λ z. StandsAmid p net n (spots_with (update m.now.spots.threads u (record (m.now.spots.threads u) { life = On n (Departs to) })) m.now.spots.slots m.now.spots.births z m.now.spots.halts m.now.spots.remote) (under n L d.sends) d.node (busy u (On n (Departs to)) ∷ busy t (On n Running) ∷ []))
-          (sym (same_at m.now.spots.sems n (m.now.spots.sems n) refl)) (departs_amid u to (amid m) x)) refl refl in
+          (subst (λ z. StandsAmid p net n (spots_with (update m.now.spots.threads u (record (m.now.spots.threads u) { life = On n (Departs to) })) m.now.spots.slots m.now.spots.births z m.now.spots.halts m.now.spots.remote) (under n L d.sends) d.node (busy u (On n (Departs to)) ∷ busy t (On n Running) ∷ []) ahead)
+          (sym (same_at m.now.spots.sems n (m.now.spots.sems n) refl)) (departs_amid u to (amid m) x)) refl refl refl in
           subst (λ c. Midst outset ahead L (answer t 0 (cond c after (at_thread u (goes p u to) after))) []) (sym f)
           (answer_ok (at_thread u (goes p u to) after) t 0 []
           (at_ok after (busy t (On n (Due 0)) ∷ []) u (Departs to) (goes p u to) k (in_hand k) refl

@@ -1,6 +1,6 @@
 -- What the small steps of an event are made of: a label of one thread, by which it stays on its node, comes to wait for what a packet
 -- brings, or does anything else; and what it means that the event is busy with a thread.
-use Rattle.std.proofs.Common.{◌≡◌, ℕ, List, [], ◌∷◌, ◌++◌, Some, true, false, eqb, refl, sym, ap, ◌∙◌, subst, map}
+use Rattle.std.proofs.Common.{Bool, ◌≡◌, ℕ, List, [], ◌∷◌, ◌++◌, Some, true, false, eqb, refl, sym, ap, ◌∙◌, subst, map}
 use Rattle.std.specs.Map.{lookup}
 use Rattle.std.proofs.lemmas.List.{append-nil}
 use Rattle.slot_space.specs.Sets.{has}
@@ -17,16 +17,19 @@ use Rattle.run_trace.specs.Steps.{at_found, at_thread}
 use Rattle.run_trace.specs.Keyed.{StandsFor, MapStandsFor}
 use Rattle.run_trace.specs.Spots.{Stage, Life, On, Spot, Spots, update, remote_after, after_label}
 use Rattle.run_trace.specs.Console.{shown_by}
-use Rattle.run_trace.specs.Stands.{Busy, busy, busy_name, busy_part, thread_part, thread_in_stage, row_part, listed, listed_name, word_subject, word_of, way, ways_of, phase_of, held, held_in_stage}
-use Rattle.run_trace.proofs.Lemmas.{is-refl}
+use Rattle.run_trace.specs.Cluster.{Net}
+use Rattle.run_trace.specs.Stands.{Here, itself, seeker_part, serving, Busy, busy, busy_name, busy_part, thread_part, thread_in_stage, row_part, listed, listed_name, word_subject, word_of, way, ways_of, phase_of, held, held_in_stage}
+use Rattle.run_trace.proofs.Lemmas.{is-true, is-refl}
 use Rattle.trace_laws.proofs.Lists.Arriving.{run_lists_after}
-use Rattle.run_trace.specs.Causes.{causes, send_to}
+use Rattle.run_trace.specs.Causes.{causes}
+use Rattle.run_trace.specs.Talks.{one_send}
 use Rattle.run_trace.specs.World.{World}
 use Rattle.run_trace.specs.Obeying.{Allows, IsBy, IsNext}
-use Rattle.trace_laws.proofs.Underway.Midst.{Outset, doing, having_said, Own, beside, Links, Midst, under, LinkStands, Frame, spots_with, labelled, here_kept, agrees_kept, Quiet, Plain, fits, links_kept, Keeps, put_link, Then, updated}
+use Rattle.trace_laws.proofs.Underway.Midst.{Speaks, StandsAmid, IsAsBefore, in_turn_kept, turn_words, no_seeker, put_turns, Outset, doing, having_said, Own, beside, Links, Midst, under, LinkStands, Frame, spots_with, labelled, here_kept, agrees_kept, Quiet, Plain, fits, links_kept, Keeps, put_link, Then, updated}
+use Rattle.trace_laws.proofs.Lists.KeyedLemmas.{kept}
 use Rattle.trace_laws.proofs.Lists.Parts.{thread_was, at_hand, frame_home}
 use Rattle.trace_laws.proofs.Lists.Stages.{is_home, home_way, home_quiet, home_plain}
-use Rattle.run_trace.specs.Items.{Thread as Its, is_busy, doer, goes_on_with, Item}
+use Rattle.run_trace.specs.Items.{Thread as Its, is_busy, is_seeking, doer, goes_on_with, Item, Says, Runs, Does, Serves, Grants, Decides, Ends_turn, Wants_again}
 
 -- the life that a label has given its thread
 pub life_then : (p : Program) (n : ℕ) (v : Spots) (l : Label) (t : Tid) (r : Spot) (u : Spots) → after_label p n l v ≡ u → u.threads ≡ update v.threads t r → ((after_label p n l v).threads t).life ≡ r.life
@@ -48,14 +51,17 @@ pub record IsMove (outset : Outset) (due ahead : List Item) (d : EventSoFar) (ha
   pub free : now.slots.free ≡ d.node.slots.free
   pub halted : now.halted ≡ d.node.halted
   pub next : Own outset.program outset.node l t v.spots due ahead hand more r.life
+  pub after : IsAsBefore due ahead
+  pub talk : now.talk ≡ d.node.talk
   pub run_lists : now.run_lists ≡ run_lists_after l v.spots d.node.run_lists
   pub booted : now.booted ≡ d.node.booted
 
 -- what the label sends and prints, and what is on the links then
-pub record IsCarried (p : Program) (n : ℕ) (M : Links) (d : EventSoFar) (l : Label) (t : Tid) (r : Spot) (v : Spots) (sends : List Send) (prints : List ℕ) : Type 0 where
+pub record IsCarried (p : Program) (n : ℕ) (L M : Links) (d : EventSoFar) (l : Label) (t : Tid) (r : Spot) (v : Spots) (sends : List Send) (prints : List ℕ) : Type 0 where
   pub sent : sends ≡ d.sends ++ causes p n l v
   pub shown : prints ≡ d.prints ++ shown_by l v
   pub links : (i j : ℕ) → LinkStands i j (under n M sends i j) (update v.threads t r)
+  pub turns : (i j : ℕ) → turn_words (under n M sends) i j ≡ turn_words (under n L d.sends) i j
 
 -- what the other nodes and t's home see of t's new spot
 pub record IsSeen (n : ℕ) (t : Tid) (r : Spot) (v : Spots) : Type 0 where
@@ -76,29 +82,80 @@ pub record IsAtHome (p : Program) (n : ℕ) (l : Label) (t : Tid) (r : Spot) (a 
 
 -- t's one packet goes to a node
 pub record IsSent (p : Program) (n : ℕ) (l : Label) (t : Tid) (r : Spot) (to : ℕ) (body : Body) (v : Spots) : Type 0 where
-  pub sent : causes p n l v ≡ send_to to body
+  pub sent : causes p n l v ≡ one_send to body
   pub shown : shown_by l v ≡ []
   pub before : ways_of t (v.threads t).life (v.threads t).verdict (v.threads t).guest ≡ []
   pub after : ways_of t r.life r.verdict r.guest ≡ way n to (word_of to body)
   pub name : word_subject (word_of to body) ≡ Its t
 
--- a label that is the first of what is ahead, after which the event is busy with its thread, or with none
-pub own_starts : {p : Program} {n : ℕ} {ahead : List Item} {i : Item} {v : Spots} {t : Tid} {l : Label} {new next : Life} → IsBy n l v i → goes_on_with p n l v ≡ Its t ∷ [] → is_busy n new ≡ true
-    → Own p n l t v (i ∷ ahead) ahead [] (busy t next ∷ []) new
-own_starts by on busied = record { heir = on; next = by; still = rw busied refl }
+-- ## What is ahead
 
-pub own_alone : {p : Program} {n : ℕ} {ahead : List Item} {i : Item} {v : Spots} {t : Tid} {l : Label} {new : Life} → IsBy n l v i → goes_on_with p n l v ≡ Its t ∷ [] → is_busy n new ≡ false
+-- an item that says something whatever there is
+abbrev pub is_spoken : Item → Bool
+is_spoken (Says l) = true
+is_spoken (Runs t vp) = true
+is_spoken (Does s) = true
+is_spoken _ = false
+
+spoken_front : (n : ℕ) (v : Spots) (i : Item) (is : List Item) → is_spoken i ≡ true → Speaks n v (i ∷ is)
+spoken_front n v (Says l) is e = λ sends talk. refl
+spoken_front n v (Runs t vp) is e = λ sends talk. refl
+spoken_front n v (Does s) is e = λ sends talk. refl
+spoken_front n v (Serves t) is e = absurd (cc e)
+spoken_front n v Grants is e = absurd (cc e)
+spoken_front n v (Decides t) is e = absurd (cc e)
+spoken_front n v Ends_turn is e = absurd (cc e)
+spoken_front n v Wants_again is e = absurd (cc e)
+
+-- of turns it says nothing, and serves nobody
+pub after_first : (i : Item) {ahead : List Item} → is_spoken i ≡ true → IsAsBefore (i ∷ ahead) ahead
+after_first (Says l) e = record { turns = refl; wants = refl; serves = refl }
+after_first (Runs t vp) e = record { turns = refl; wants = refl; serves = refl }
+after_first (Does s) e = record { turns = refl; wants = refl; serves = refl }
+after_first (Serves t) e = absurd (cc e)
+after_first Grants e = absurd (cc e)
+after_first (Decides t) e = absurd (cc e)
+after_first Ends_turn e = absurd (cc e)
+after_first Wants_again e = absurd (cc e)
+
+-- who stands so with what was due stands so with what is ahead
+pub stands_as : {p : Program} {net : Net} {n : ℕ} {v : Spots} {M : Links} {s : Local} {hand : List Busy} {due ahead : List Item} → IsAsBefore due ahead → StandsAmid p net n v M s hand due → StandsAmid p net n v M s hand ahead
+stands_as {p} {net} {n} {v} {M} {s} {hand} {due} {ahead} same o = record {
+  here = subst (λ xs. Here n v s hand xs) (sym same.serves) o.here;
+  there = o.there;
+  links = o.links;
+  turns = in_turn_kept net n s.talk s.talk M M due ahead o.turns refl (λ i j. refl) same.turns same.wants;
+  agrees = o.agrees;
+}
+
+-- a label that is the first of what is ahead, after which the event is busy with its thread, or with none
+pub own_starts : {p : Program} {n : ℕ} {ahead : List Item} {i : Item} {v : Spots} {t : Tid} {l : Label} {new next : Life} → IsBy n l v i → is_spoken i ≡ true → goes_on_with p n l v ≡ Its t ∷ [] → is_busy n new ≡ true
+    → Own p n l t v (i ∷ ahead) ahead [] (busy t next ∷ []) new
+own_starts {n = n} {ahead} {i} {v} by spoken on busied = record { heir = on; front = spoken_front n v i ahead spoken; next = by; still = rw busied refl }
+
+pub own_alone : {p : Program} {n : ℕ} {ahead : List Item} {i : Item} {v : Spots} {t : Tid} {l : Label} {new : Life} → IsBy n l v i → is_spoken i ≡ true → goes_on_with p n l v ≡ Its t ∷ [] → is_busy n new ≡ false → is_seeking n new ≡ false
     → Own p n l t v (i ∷ ahead) ahead [] [] new
-own_alone by on idle = record { heir = on; next = by; still = rw idle refl }
+own_alone {n = n} {ahead} {i} {v} by spoken on idle rests = record { heir = on; front = spoken_front n v i ahead spoken; next = by; still = rw (idle, rests) refl }
+
+-- the threads that seek slots, where one has a new spot that seeks none, before or after
+pub seekers_kept : (n : ℕ) {xs ys : List Tid} (w : Tid → Spot) (t : Tid) (r : Spot) → StandsFor is_tid itself (seeker_part n) xs w → ys ≡ xs → is_seeking n (w t).life ≡ false → is_seeking n r.life ≡ false
+    → StandsFor is_tid itself (seeker_part n) ys (update w t r)
+seekers_kept n {xs} w t r h same old new = subst (λ zs. StandsFor is_tid itself (seeker_part n) zs (update w t r)) (sym same)
+    (kept is_tid is-true is-refl itself (seeker_part n) w t r xs h (no_seeker n t r new ∙ sym (no_seeker n t (w t) old)))
+
+-- the thread of this stage, as it is on the node
+pub on_node : {outset : Outset} {ahead : List Item} {L : Links} {d : EventSoFar} {hand : List Busy} (t : Tid) (a : Stage) → (m : Midst outset ahead L d hand) → (m.now.spots.threads t).life ≡ On outset.node a
+    → lookup (is_tid t) d.node.threads ≡ thread_in_stage outset.node a (m.now.spots.threads t).guest
+on_node {outset} t a m x = m.here.threads.shows t ∙ thread_was outset.node t (m.now.spots.threads t) a x
 
 module _ {outset : Outset} {ahead : List Item} where
   open outset use {program as p, net, occasion as q, node as n, opening, world as w}
 
   -- a label of one thread, that leaves slots, births and halts; before it, what is due was ahead
   pub moved : {due : List Item} {L : Links} {d : EventSoFar} {hand : List Busy} {sends : List Send} {prints : List ℕ} (M : Links) (more : List Busy) (l : Label) (t : Tid) (r : Spot) (now : Local)
-      → (m : Midst outset due L d hand) → IsMove outset due ahead d hand more l t r now m.now → IsCarried p n M d l t r m.now.spots sends prints → IsSeen n t r m.now.spots
+      → (m : Midst outset due L d hand) → IsMove outset due ahead d hand more l t r now m.now → IsCarried p n L M d l t r m.now.spots sends prints → IsSeen n t r m.now.spots
       → Then outset ahead M m.now l (record { node = now; labels = d.labels ++ l ∷ []; sends = sends; prints = prints }) more
-  moved M more l t r now m move carried seen =
+  moved {due} {L} {d} {sends = sends} M more l t r now m move carried seen =
       let v : Spots = m.now.spots in
       labelled M more l (spots_with (update v.threads t r) v.slots v.births v.sems v.halts (remote_after l v.remote)) now m move.same move.may carried.sent carried.shown
       (record {
@@ -106,16 +163,18 @@ module _ {outset : Outset} {ahead : List Item} where
           threads = move.ties.threads;
           rows = move.ties.rows;
           busy = move.ties.busy;
+          seekers = seekers_kept n v.threads t r m.here.seekers (ap (λ (z : List Tid). z ++ now.talk.claims) move.after.serves ∙ ap (λ z. serving due ++ z.claims) move.talk) (seen.quiet.seeks n) (seen.whole.seeks n);
           births = move.births ∙ m.here.births;
           sems = move.sems ∙ m.here.sems;
           free = λ x. ap (λ (xs : List ℕ). has x xs) move.free ∙ m.here.free x;
           halted = move.halted ∙ m.here.halted;
         };
-        there = λ k e. here_kept k v t r (net.nodes k) [] (m.there k e) (seen.frame k e) refl refl (λ x. refl) refl;
+        there = λ k e. here_kept k v t r (net.nodes k) [] [] (m.there k e) (seen.frame k e) refl refl (λ x. refl) refl;
         links = carried.links;
+        turns = in_turn_kept net n _ _ (under n L d.sends) (under n M sends) due ahead m.turns move.talk carried.turns move.after.turns move.after.wants;
         agrees = agrees_kept p v t r v.halts m.agrees seen.phase seen.quiet seen.holds (fits seen.whole) (λ j k. seen.whole.queues j k t) (λ k e. e);
       })
-      (beside move.next (life_then p n v l t r _ move.same refl) move.run_lists move.booted)
+      (beside move.next (life_then p n v l t r _ move.same refl) move.run_lists move.booted move.talk)
 
   -- a label that leaves its thread on node n, and no packet
   pub home_step : {due : List Item} {L : Links} {d : EventSoFar} {hand : List Busy} (more : List Busy) (l : Label) (t : Tid) (r : Spot) (now : Local) (a b : Stage)
@@ -131,6 +190,7 @@ module _ {outset : Outset} {ahead : List Item} where
         sent = sym (append-nil d.sends) ∙ ap (λ z. d.sends ++ z) (sym home.sent);
         shown = sym (append-nil d.prints) ∙ ap (λ z. d.prints ++ z) (sym home.shown);
         links = λ i j. links_kept t r m.now.spots.threads (under n L d.sends) m.links (new ∙ sym old) i j;
+        turns = λ i j. refl;
       })
       (record {
         frame = λ k e. frame_home n k t s r a b home.was home.is home.home_was home.home_is e;
@@ -143,13 +203,14 @@ module _ {outset : Outset} {ahead : List Item} where
   -- a label by which its thread, on node n, comes to wait for what a packet brings
   pub send_step : {due : List Item} {L : Links} {d : EventSoFar} {hand : List Busy} (more : List Busy) (l : Label) (t : Tid) (r : Spot) (now : Local) (to : ℕ) (body : Body)
       → (m : Midst outset due L d hand) → IsMove outset due ahead d hand more l t r now m.now → IsSent p n l t r to body m.now.spots → IsSeen n t r m.now.spots
-      → Then outset ahead L m.now l (record { node = now; labels = d.labels ++ l ∷ []; sends = d.sends ++ send_to to body; prints = d.prints }) more
+      → Then outset ahead L m.now l (record { node = now; labels = d.labels ++ l ∷ []; sends = d.sends ++ one_send to body; prints = d.prints }) more
   send_step {L = L} {d = d} more l t r now to body m move packet seen =
       moved L more l t r now m move
       (record {
         sent = ap (λ z. d.sends ++ z) (sym packet.sent);
         shown = sym (append-nil d.prints) ∙ ap (λ z. d.prints ++ z) (sym packet.shown);
         links = λ i j. put_link n to body t r L d.sends m.now.spots.threads m.links packet.name (packet.after ∙ ap (λ xs. xs ++ way n to (word_of to body)) (sym packet.before)) i j;
+        turns = λ i j. put_turns n to body t L d.sends packet.name i j;
       })
       seen
 
@@ -171,18 +232,14 @@ module _ {outset : Outset} {ahead : List Item} where
   -- a label of the thread in hand, which stays there, or is let go
   pub own_stays : {L : Links} {d : EventSoFar} {t : Tid} {life : Life} {hs : List Busy} {l : Label} {new next : Life} → (m : Midst outset ahead L d (busy t life ∷ hs)) → doer l ≡ Some (Its t) → goes_on_with p n l m.now.spots ≡ Its t ∷ [] → is_busy n new ≡ true
       → Own p n l t m.now.spots ahead ahead (busy t life ∷ hs) (busy t next ∷ hs) new
-  own_stays m by on busied = record { heir = on; next = (by, (at_front m).1); still = rw busied refl }
+  own_stays m by on busied = record { heir = on; front = λ sends talk. refl; next = (by, (at_front m).1); still = rw busied refl }
 
-  pub own_goes : {L : Links} {d : EventSoFar} {t : Tid} {life : Life} {hs : List Busy} {l : Label} {new : Life} → (m : Midst outset ahead L d (busy t life ∷ hs)) → doer l ≡ Some (Its t) → goes_on_with p n l m.now.spots ≡ Its t ∷ [] → is_busy n new ≡ false
+  pub own_goes : {L : Links} {d : EventSoFar} {t : Tid} {life : Life} {hs : List Busy} {l : Label} {new : Life} → (m : Midst outset ahead L d (busy t life ∷ hs)) → doer l ≡ Some (Its t) → goes_on_with p n l m.now.spots ≡ Its t ∷ [] → is_busy n new ≡ false → is_seeking n new ≡ false
       → Own p n l t m.now.spots ahead ahead (busy t life ∷ hs) hs new
-  own_goes m by on idle = record { heir = on; next = (by, (at_front m).1); still = rw idle refl }
-
-  -- the thread of this stage, as it is on the node
-  pub on_node : {L : Links} {d : EventSoFar} {hand : List Busy} (t : Tid) (a : Stage) → (m : Midst outset ahead L d hand) → (m.now.spots.threads t).life ≡ On n a → lookup (is_tid t) d.node.threads ≡ thread_in_stage n a (m.now.spots.threads t).guest
-  on_node t a m x = m.here.threads.shows t ∙ thread_was n t (m.now.spots.threads t) a x
+  own_goes m by on idle rests = record { heir = on; front = λ sends talk. refl; next = (by, (at_front m).1); still = rw (idle, rests) refl }
 
   -- a step of the thread, as it is on the node
-  pub at_ok : {L : Links} (d : EventSoFar) {hand : List Busy} (more : List Busy) (t : Tid) (a : Stage) (step : Thread → EventSoFar → EventSoFar) → (m : Midst outset ahead L d hand) → (m.now.spots.threads t).life ≡ On n a
+  pub at_ok : {due : List Item} {L : Links} (d : EventSoFar) {hand : List Busy} (more : List Busy) (t : Tid) (a : Stage) (step : Thread → EventSoFar → EventSoFar) → (m : Midst outset due L d hand) → (m.now.spots.threads t).life ≡ On n a
       → thread_in_stage n a (m.now.spots.threads t).guest ≡ Some (waits wait.No (m.now.spots.threads t).guest)
       → Midst outset ahead L (step (waits wait.No (m.now.spots.threads t).guest) d) more → Midst outset ahead L (at_thread t step d) more
-  at_ok {L} d more t a step m x there done = subst (λ o. Midst outset ahead L (at_found o step d) more) (sym (on_node t a m x ∙ there)) done
+  at_ok {L = L} d more t a step m x there done = subst (λ o. Midst outset ahead L (at_found o step d) more) (sym (on_node t a m x ∙ there)) done

@@ -12,6 +12,7 @@ use Rattle.slot_space.specs.declared.names.Reply.{Reply as TheReply}
 use Rattle.marcel_core.specs.declared.birth.Birth.{Birth}
 use Rattle.marcel_core.specs.declared.birth.Birth.TheVariants.{Lives, Awaited, Detached, Ended, Over}
 use Rattle.marcel_core.specs.Homes.{is_open}
+use Rattle.run_trace.specs.declared.label.Label.{Label}
 use Rattle.run_trace.specs.declared.label.Label.TheVariants.{Judged, Told, Came, Shown}
 use Rattle.run_trace.specs.declared.label.Extra.TheVariants.{Nothing}
 use Rattle.run_trace.specs.declared.packet.Body.TheVariants.{ShowDone, Answer}
@@ -24,20 +25,20 @@ use Rattle.run_trace.specs.Local.{Local, EventSoFar, nothing}
 use Rattle.run_trace.specs.Steps.{say, put, print, arrive, keep, thread_in, comes, tell, tell_found, reply_by_link, shows, acknowledges, line_of}
 use Rattle.run_trace.specs.Machine.{may_come, lives_yet, are_away}
 use Rattle.run_trace.specs.Keyed.{AreDistinct}
-use Rattle.run_trace.specs.Spots.{Stage, Ready, Shows, Showing, Shown_there, Answers, Answered, On, Moving, Spot, Spots, Of_thread, update, shown_life, judged_life, judged_guest, told_stage, second_of}
-use Rattle.run_trace.specs.Rules.{MayTell, is_free}
+use Rattle.run_trace.specs.Spots.{Stage, Ready, Shows, Showing, Shown_there, Answers, Answered, On, Moving, Spot, Spots, Of_thread, is_free, update, shown_life, judged_life, judged_guest, told_stage, second_of}
+use Rattle.run_trace.specs.Rules.{MayTell}
 use Rattle.run_trace.specs.Console.{asked_bytes}
-use Rattle.run_trace.specs.Stands.{Busy, busy, busy_name, busy_part, thread_part, thread_in_life, row_part, row_in_life, listed, listed_name, Word, Travels, Line, Line_shown, way, ways_of, phase_of, phase_at, During, held, slots_held, is_thread}
+use Rattle.run_trace.specs.Stands.{Busy, busy, busy_name, busy_part, thread_part, thread_in_life, row_part, row_in_life, listed, listed_name, Word, Travels, Line, Line_shown, way, ways_of, phase_of, phase_at, During, held, slots_held, is_thread, words_about, AreInTurn}
 use Rattle.run_trace.proofs.Lemmas.{is-true, is-refl}
 use Rattle.trace_laws.proofs.Lists.KeyedLemmas.{kept, fronted, unfronted, map_kept, map_set, map_added}
-use Rattle.trace_laws.proofs.Underway.Midst.{Outset, links_less, Links, Midst, quiet, plain, plain_quiet, keeps, LinkStands, spots_with, take_link, nothing_sent, nothing_sent_from}
-use Rattle.trace_laws.proofs.Lists.Parts.{thread_holds, rows_arrived, away_thread, away_row, busy_none, thread_was, row_was}
+use Rattle.trace_laws.proofs.Underway.Midst.{talks_amid, to_do_amid, in_turn_kept, turn_words, none_under, take_turns, under, as_before, Outset, links_less, Links, Midst, quiet, plain, plain_quiet, keeps, LinkStands, spots_with, take_link, nothing_sent, nothing_sent_from}
+use Rattle.trace_laws.proofs.Lists.Parts.{both_idle, thread_holds, rows_arrived, away_thread, away_row, busy_none, thread_was, row_was}
 use Rattle.trace_laws.proofs.Lists.Stages.{StandsWaiting}
 use Rattle.trace_laws.proofs.Outcomes.Consequences.{OnNode, on_node_is}
-use Rattle.trace_laws.proofs.Underway.Steps.{own_goes, moved, send_step, in_hand, busy_in_hand}
+use Rattle.trace_laws.proofs.Underway.Steps.{after_first, own_goes, moved, send_step, in_hand, busy_in_hand}
 use Rattle.run_trace.specs.Calls.{extra_of}
 use Rattle.run_trace.specs.Causes.{judged_causes}
-use Rattle.run_trace.specs.Items.{is_busy, Item, Says}
+use Rattle.run_trace.specs.Items.{is_busy, is_seeking, Item, Says, Turns}
 
 -- ## What a home and a map have
 
@@ -71,6 +72,17 @@ all_entries same same-true same-refl test (e ∷ es) a each =
 pub links_whole : {outset : Outset} {due : List Item} {L : Links} {s : Local} → (m : Midst outset due L (nothing s) []) → (i j : ℕ) → LinkStands i j (L i j) m.now.spots.threads
 links_whole {outset} {L = L} m i j = nothing_sent_from outset.node L i j m.now.spots.threads (m.links i j)
 
+-- a thread's packet is no word of a turn
+pub taken_turns : {outset : Outset} {due : List Item} {L : Links} {s : Local} (from : ℕ) (t : Tid) → Midst outset due L (nothing s) [] → (i j : ℕ) → turn_words (under outset.node (links_less outset.node L from t) []) i j ≡ turn_words (under outset.node L []) i j
+taken_turns {outset} {L = L} from t m i j =
+    let n : ℕ = outset.node in
+    ap (λ xs. words_about xs Turns) (none_under n (links_less n L from t) i j) ∙ take_turns from n t L i j ∙ ap (λ xs. words_about xs Turns) (sym (none_under n L i j))
+
+-- after a label that says nothing of turns, at which a thread's packet was taken
+pub still_in_turn : {outset : Outset} {ahead : List Item} {L : Links} {s : Local} (l : Label) (from : ℕ) (t : Tid) → Midst outset (Says l ∷ ahead) L (nothing s) []
+    → AreInTurn (talks_amid outset.net outset.node s.talk) (turn_words (under outset.node (links_less outset.node L from t) [])) (to_do_amid outset.node ahead)
+still_in_turn {outset} {ahead} {L} {s} l from t m = in_turn_kept outset.net outset.node s.talk s.talk (under outset.node L []) (under outset.node (links_less outset.node L from t) []) (Says l ∷ ahead) ahead m.turns refl (taken_turns from t m) refl refl
+
 module _ {outset : Outset} {ahead : List Item} {L : Links} where
   open outset use {program as p, net, occasion as q, node as n, opening, world as w}
 
@@ -96,13 +108,16 @@ module _ {outset : Outset} {ahead : List Item} {L : Links} where
         sems = refl;
         free = refl;
         halted = refl;
-        next = record { heir = refl; next = refl; still = rw here_busy refl };
+        after = after_first (Says (Shown t)) refl;
+        talk = refl;
+        next = record { heir = refl; front = λ sends talk. refl; next = refl; still = rw here_busy refl };
         run_lists = refl;
         booted = refl;
       })
       (record {
         sent = refl;
         shown = ap (λ z. line_of t (asked_bytes z)) (sym x);
+        turns = taken_turns from t m;
         links = λ i j. nothing_sent n (links_less n L from t) i j (update m.now.spots.threads t r) (take_link from n (Line t bytes) t r L m.now.spots.threads (links_whole m) (ap (λ z. ways_of t z o.verdict o.guest) x ∙ ap (λ z. way from z (Line t bytes)) (sym zero)) i j);
       })
       (record {
@@ -110,6 +125,7 @@ module _ {outset : Outset} {ahead : List Item} {L : Links} where
           thread = sym (ap (λ z. thread_in_life k z o.guest) x);
           row = sym (ap (λ z. row_in_life k t z o.guest.priority) x);
           busy = busy_none k t r (On from Showing) refl (ap (λ z. eqb z k) (sym zero) ∙ e) ∙ sym (busy_none k t o (On from (Shows bytes)) x refl);
+          seeker = both_idle k t o r (ap (is_seeking k) x) refl;
         };
         phase = sym (ap phase_of x);
         quiet = quiet x refl;
@@ -142,13 +158,16 @@ module _ {outset : Outset} {ahead : List Item} {L : Links} where
         sems = refl;
         free = refl;
         halted = refl;
-        next = record { heir = refl; next = refl; still = refl };
+        after = after_first (Says (Told t)) refl;
+        talk = refl;
+        next = record { heir = refl; front = λ sends talk. refl; next = refl; still = refl };
         run_lists = refl;
         booted = refl;
       })
       (record {
         sent = refl;
         shown = refl;
+        turns = taken_turns from t m;
         links = λ i j. nothing_sent n (links_less n L from t) i j (update m.now.spots.threads t r) (take_link from n y t r L m.now.spots.threads (links_whole m) (ap (λ z. ways_of t z o.verdict o.guest) x ∙ ways) i j);
       })
       (record {
@@ -156,6 +175,7 @@ module _ {outset : Outset} {ahead : List Item} {L : Links} where
           thread = away_thread n k t r Ready refl e ∙ sym (away_thread n k t o a x e);
           row = away_row n k t r Ready refl e ∙ sym (away_row n k t o a x e);
           busy = busy_none k t r (On n Ready) refl refl ∙ sym (busy_none k t o (On n a) x (still.idle k));
+          seeker = both_idle k t o r ((quiet x (plain_quiet n a still.plain)).seeks k) refl;
         };
         phase = sym (ap phase_of x);
         quiet = quiet x (plain_quiet n a still.plain);
@@ -176,7 +196,7 @@ module _ {outset : Outset} {ahead : List Item} {L : Links} where
       (send_step hs (Judged t 0 Nothing) t r d.node at (ShowDone t) m
       (record {
         same = ap (λ z. spots_with (update v.threads t (record { life = judged_life z; guest = judged_guest z o.guest; verdict = record { code = 0; extra = Nothing } })) v.slots v.births v.sems v.halts v.remote) x;
-        may = record { solo = tt; holders = tt; life = rw x (sym zero); replies = rw x (refl, refl); grants = rw x tt };
+        may = record { solo = tt; holders = tt; life = rw x (sym zero); replies = rw x (refl, refl); grants = tt };
         ties = record {
           threads = map_kept is_tid is-true is-refl (thread_part n) v.threads t r d.node.threads m.here.threads (sym (ap (λ z. thread_in_life n z o.guest) x));
           rows = kept is_tid is-true is-refl listed_name (row_part n) v.threads t r (map listed d.node.run_lists.rows) m.here.rows (sym (ap (λ z. row_in_life n t z o.guest.priority) x));
@@ -186,7 +206,9 @@ module _ {outset : Outset} {ahead : List Item} {L : Links} where
         sems = refl;
         free = refl;
         halted = refl;
-        next = own_goes m refl refl refl;
+        after = as_before;
+        talk = refl;
+        next = own_goes m refl refl refl refl;
         run_lists = refl;
         booted = refl;
       })
@@ -202,6 +224,7 @@ module _ {outset : Outset} {ahead : List Item} {L : Links} where
           thread = sym (ap (λ z. thread_in_life k z o.guest) x);
           row = sym (ap (λ z. row_in_life k t z o.guest.priority) x);
           busy = sym (busy_none k t o (On at Showing) x (ap (λ z. eqb z k) zero ∙ e));
+          seeker = both_idle k t o r (ap (is_seeking k) x) refl;
         };
         phase = sym (ap phase_of x);
         quiet = quiet x refl;
@@ -219,7 +242,7 @@ module _ {outset : Outset} {ahead : List Item} {L : Links} where
       (send_step hs (Judged t (reply_code reply) (extra_of second)) t r d.node at (Answer t reply second) m
       (record {
         same = ap (λ z. spots_with (update v.threads t (record { life = judged_life z; guest = judged_guest z o.guest; verdict = record { code = reply_code reply; extra = extra_of second } })) v.slots v.births v.sems v.halts v.remote) x;
-        may = record { solo = tt; holders = tt; life = rw x refl; replies = rw x (refl, refl); grants = rw x tt };
+        may = record { solo = tt; holders = tt; life = rw x refl; replies = rw x (refl, refl); grants = tt };
         ties = record {
           threads = map_kept is_tid is-true is-refl (thread_part n) v.threads t r d.node.threads m.here.threads (sym (ap (λ z. thread_in_life n z o.guest) x));
           rows = kept is_tid is-true is-refl listed_name (row_part n) v.threads t r (map listed d.node.run_lists.rows) m.here.rows (sym (ap (λ z. row_in_life n t z o.guest.priority) x));
@@ -229,7 +252,9 @@ module _ {outset : Outset} {ahead : List Item} {L : Links} where
         sems = refl;
         free = refl;
         halted = refl;
-        next = own_goes m refl refl refl;
+        after = as_before;
+        talk = refl;
+        next = own_goes m refl refl refl refl;
         run_lists = refl;
         booted = refl;
       })
@@ -245,6 +270,7 @@ module _ {outset : Outset} {ahead : List Item} {L : Links} where
           thread = sym (ap (λ z. thread_in_life k z o.guest) x);
           row = sym (ap (λ z. row_in_life k t z o.guest.priority) x);
           busy = sym (busy_none k t o (On at (Answers n reply second)) x e);
+          seeker = both_idle k t o r (ap (is_seeking k) x) refl;
         };
         phase = sym (ap phase_of x);
         quiet = quiet x refl;
@@ -306,13 +332,16 @@ module _ {outset : Outset} {ahead : List Item} {L : Links} where
         sems = refl;
         free = refl;
         halted = refl;
-        next = record { heir = refl; next = refl; still = refl };
+        after = after_first (Says (Came t)) refl;
+        talk = refl;
+        next = record { heir = refl; front = λ sends talk. refl; next = refl; still = refl };
         run_lists = refl;
         booted = refl;
       })
       (record {
         sent = refl;
         shown = refl;
+        turns = taken_turns from t m;
         links = λ i j. nothing_sent n (links_less n L from t) i j (update m.now.spots.threads t r) (take_link from n (Travels (packed t o.guest)) t r L m.now.spots.threads (links_whole m) (ap (λ z. ways_of t z o.verdict o.guest) x) i j);
       })
       (record {
@@ -320,6 +349,7 @@ module _ {outset : Outset} {ahead : List Item} {L : Links} where
           thread = away_thread n k t r Ready refl e ∙ sym (ap (λ z. thread_in_life k z o.guest) x);
           row = away_row n k t r Ready refl e ∙ sym (ap (λ z. row_in_life k t z o.guest.priority) x);
           busy = busy_none k t r (On n Ready) refl refl ∙ sym (busy_none k t o (Moving from n) x refl);
+          seeker = both_idle k t o r (ap (is_seeking k) x) refl;
         };
         phase = sym (ap phase_of x);
         quiet = quiet x refl;
