@@ -290,7 +290,7 @@ module _ (c : ClusterView) (before kept : List Entry) (s : StandsFor c before ke
   none_shown : 0 ≢ n → shown ≡ []
   none_shown ne =
       let rules = (keeping.legal c before kept s n inside v at act range able new d).rules.1 in
-      subst (λ w. shown_by_all p n d.done.labels w ≡ []) (told_spots p (first_world p) trace) (silent p _ n d.done.labels (world_of p (first_world p) trace) rules.to_do (λ e. ne (sym e)) rules.goes)
+      subst (λ w. shown_by_all p n d.done.labels w ≡ []) (told_spots p (first_world p) trace) (silent p _ n d.done.labels (world_of p (first_world p) trace) rules.first (λ e. ne (sym e)) rules.goes)
 
   first : (o : Option NodeView) (z : NodeView) → o ≡ Some z → console_at o ≡ z.console
   first o z e = ap console_at e

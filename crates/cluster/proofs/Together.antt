@@ -437,7 +437,7 @@ module _ (shell : ShellView) (ran : List NodeView) (f : Fits shell ran) (before 
                 ∙ ap (λ bs. console_of p (at_first p) trace ++ (printed (own 0 (events_of p net (entries_in ts))) ++ bs)) (sym here)
             by false e before_it =
                 let none : shown_by_all p x.node x.labels (spots_of p (at_first p) xs) ≡ [] =
-                subst (λ w. shown_by_all p x.node x.labels w ≡ []) (told_spots p (first_world p) xs) (silent p _ x.node x.labels (world_of p (first_world p) xs) k.1.to_do (λ z. absurd (cc (e, eq-eqb t.event.node 0 z))) k.1.goes) in
+                subst (λ w. shown_by_all p x.node x.labels w ≡ []) (told_spots p (first_world p) xs) (silent p _ x.node x.labels (world_of p (first_world p) xs) k.1.first (λ z. absurd (cc (e, eq-eqb t.event.node 0 z))) k.1.goes) in
                 ap (λ bs. console_of p (at_first p) xs ++ bs) none ∙ append-nil (console_of p (at_first p) xs) ∙ before_it
 
         console : console_of p (at_first p) ((entries ++ kept) ++ before) ≡ console_of p (at_first p) before ++ console_in mid

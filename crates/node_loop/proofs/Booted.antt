@@ -27,18 +27,20 @@ use Rattle.run_trace.specs.declared.entry.Act.TheVariants.{Boot, Run as RunThrea
 use Rattle.run_trace.specs.declared.label.Why.{Why}
 use Rattle.run_trace.specs.declared.label.Why.TheVariants as why
 use Rattle.run_trace.specs.declared.packet.Body.{Body}
-use Rattle.run_trace.specs.declared.packet.Body.TheVariants.{Mover, Show, ShowDone, JoinAsk, DetachAsk, SemAsk, Answer, EndNote}
+use Rattle.run_trace.specs.declared.packet.Body.TheVariants.{Mover, Show, ShowDone, JoinAsk, DetachAsk, SemAsk, Answer, EndNote, Want, Turn, Over}
 use Rattle.run_trace.specs.declared.packet.Packet.{Packet}
+use Rattle.run_trace.specs.declared.packet.Send.{Send}
 use Rattle.run_trace.specs.declared.node.ReadyRow.{ReadyRow}
 use Rattle.run_trace.specs.Names.{is_tid, tid_of}
 use Rattle.run_trace.specs.Program.{Program, nodes_of, code_of, main_priority, tree_of}
 use Rattle.run_trace.specs.Guests.{Guest, Thread, Run, run_of, heap_of, with_placed, without_block, slots_for}
-use Rattle.run_trace.specs.Calls.{call_of, refusal, bytes_of, place_code}
+use Rattle.run_trace.specs.Calls.{call_of, refusal, bytes_of, place_code, slots_wanted}
+use Rattle.run_trace.specs.Talks.{Talk, one_send, want_sends, claiming, with_claims, after_turn, again_sends, again, turn_to, listing_sends, listing, next_turn, without_first}
 use Rattle.run_trace.specs.RunLists.{best_on, is_listed}
 use Rattle.pack_thread.specs.Threads.{PackedThread as Packed}
 use Rattle.run_trace.specs.Local.{Local, EventSoFar, nothing, with_booted}
-use Rattle.run_trace.specs.Steps.{say, put, print, arrive, take_off, thread_at, at_thread, at_found, keep, thread_in, thread_out, slots_out, slots_in, birth_in, change_birth, halt, next_name, birth, ran, asks, asks_show, asks_join, asks_detach, asks_signal, asks_here, asks_waiting, halts, judge, tell_found, tell, judge_as, reply_by_link, takes_run, returns, gives, ends, leaves, comes, shows, acknowledges, hears, hears_detach, hears_signal, knows}
-use Rattle.run_trace.specs.Machine.{answer, end_thread, free_slot, creates_in, creates, judge_and_tell, places, run_for, allocates_with, allocates, returns_any, frees_block, frees, goes, migrates, sends_away, sends, replies_to, answers_p, answers_v, lowers, raises, signals, hears_call, moves_found, does, calls, boots_in, boots, stopped, run_thread, run_found, run_picked, judges_join, tells_joiner, accepts, is_stray, takes, is_range, acts, local_event, turn_event, is_beyond}
+use Rattle.run_trace.specs.Steps.{say, put, print, arrive, take_off, thread_at, at_thread, at_found, keep, thread_in, thread_out, slots_out, slots_in, birth_in, change_birth, halt, next_name, birth, ran, asks, asks_show, asks_join, asks_detach, asks_signal, asks_here, asks_waiting, asks_slots, speaks, decides, halts, judge, tell_found, tell, judge_as, reply_by_link, takes_run, returns, gives, ends, leaves, comes, shows, acknowledges, hears, hears_detach, hears_signal, knows}
+use Rattle.run_trace.specs.Machine.{answer, end_thread, free_slot, claims, creates_in, creates, judge_and_tell, places, run_for, allocates_in, allocates, serves_call, serves_thread, serves, allocates_at, has_run_for, refuses, ends_turn, wants_again, leaves_claims, grants, returns_any, frees_block, frees, goes, migrates, sends_away, sends, replies_to, answers_p, answers_v, lowers, raises, signals, hears_call, moves_found, does, calls, boots_in, boots, stopped, run_thread, run_found, run_picked, judges_join, tells_joiner, accepts, is_stray, takes, is_range, acts, local_event, turn_event, is_beyond}
 
 -- ## Steps
 
@@ -98,6 +100,18 @@ asks_here_keeps t c sems d = kept refl
 asks_waiting_keeps : (t : Tid) (c : Call) (sems : List SemRow) (x : Thread) (d : EventSoFar) → Kept d (asks_waiting t c sems x d)
 unfolding asks_waiting asks keep say
 asks_waiting_keeps t c sems x d = kept refl
+
+asks_slots_keeps : (t : Tid) (c : Call) (x : Thread) (d : EventSoFar) → Kept d (asks_slots t c x d)
+unfolding asks_slots asks keep say
+asks_slots_keeps t c x d = kept refl
+
+speaks_keeps : (sends : List Send) (talk : Talk) (d : EventSoFar) → Kept d (speaks sends talk d)
+unfolding speaks
+speaks_keeps sends talk d = kept refl
+
+decides_keeps : (t : Tid) (count : ℕ) (x : Thread) (d : EventSoFar) → Kept d (decides t count x d)
+unfolding decides keep say
+decides_keeps t count x d = kept refl
 
 halts_keeps : (t : Tid) (x : Thread) (d : EventSoFar) → Kept d (halts t x d)
 unfolding halts halt keep say
@@ -165,11 +179,14 @@ knows_keeps me seq end d = kept refl
 
 -- ## Compositions
 
+claims_keep : (t : Tid) (d : EventSoFar) → Kept d (claims t d)
+claims_keep t d = speaks_keeps (want_sends d.node.talk) (claiming t d.node.talk) d
+
 creates_keeps : (me : ℕ) (t : Tid) (entry argument priority : ℕ) (d : EventSoFar) → Kept d (creates me t entry argument priority d)
 creates_keeps me t entry argument priority d = by (free_slot d.node.slots.free)
   where
     by : (o : Option ℕ) → Kept d (creates_in me t entry argument priority o d)
-    by None = answer_keeps t (reply_code replies.Full) d
+    by None = claims_keep t d
     by (Some slot) = then (birth_keeps me (why.Create t) entry argument priority slot d) (answer_keeps t (tid_value (next_name me d)) _)
 
 places_keep : (t : Tid) (size : ℕ) (x : Thread) (d : EventSoFar) → Kept d (places t size x d)
@@ -179,11 +196,49 @@ places_keep t size x d =
 allocates_keeps : (t : Tid) (size : ℕ) (x : Thread) (d : EventSoFar) → Kept d (allocates t size x d)
 allocates_keeps t size x d = by (run_for size x.guest d.node.slots.free)
   where
-    by : (o : Option ℕ) → Kept d (allocates_with t size o x d)
-    by None = places_keep t size x d
+    by : (o : Option ℕ) → Kept d (allocates_in t size o x d)
+    by None = claims_keep t d
     by (Some first) =
         let e : EventSoFar = takes_run t first (slots_for size) x.guest d in
         then (takes_keep t first (slots_for size) x.guest d) (at_keeps t (places t size) e (λ y. places_keep t size y e))
+
+serves_call_keeps : (me : ℕ) (t : Tid) (c : Call) (x : Thread) (d : EventSoFar) → Kept d (serves_call me t c x d)
+serves_call_keeps me t (Create entry argument priority) x d = creates_keeps me t entry argument priority d
+serves_call_keeps me t (Isomalloc len) x d = allocates_keeps t (rounded len) x d
+serves_call_keeps me t _ x d = kept refl
+
+serves_keep : (me : ℕ) (t : Tid) (d : EventSoFar) → Kept d (serves me t d)
+serves_keep me t d = at_keeps t (serves_thread me t) d (λ x. serves_call_keeps me t (call_of x.guest.solo.state) x d)
+
+allocates_at_keeps : (me : ℕ) (t : Tid) (len : ℕ) (o : Option ℕ) (x : Thread) (d : EventSoFar) → Kept d (allocates_at me t len o x d)
+allocates_at_keeps me t len None x d = then (asks_slots_keeps t (Isomalloc len) x d) (serves_keep me t _)
+allocates_at_keeps me t len (Some address) x d =
+    then (asks_keeps t (Isomalloc len) d) (at_keeps t (places t (rounded len)) _ (λ y. places_keep t (rounded len) y _))
+
+-- the node has the turn
+ends_turn_keeps : (d : EventSoFar) → Kept d (ends_turn d)
+ends_turn_keeps d = speaks_keeps (one_send 0 Over) (after_turn d.node.talk) d
+
+refuses_keeps : (t : Tid) (d : EventSoFar) → Kept d (at_thread t (refuses t) d)
+refuses_keeps t d =
+    at_keeps t (refuses t) d (λ x. then (decides_keeps t (slots_wanted (call_of x.guest.solo.state)) x d) (answer_keeps t (reply_code replies.Full) _))
+
+grants_keep : (me : ℕ) (ts : List Tid) (d : EventSoFar) → Kept d (grants me ts d)
+grants_keep me [] d = ends_turn_keeps d
+grants_keep me (t ∷ ts) d = by (has_run_for (thread_at t d) d.node.slots.free) (grants_keep me ts (serves me t (leaves_claims ts d)))
+  where
+    left : Kept d (leaves_claims ts d)
+    left = speaks_keeps [] (with_claims ts d.node.talk) d
+
+    refused : EventSoFar
+    refused = ends_turn (at_thread t (refuses t) (leaves_claims ts d))
+
+    by : (b : Bool) → Kept (serves me t (leaves_claims ts d)) (grants me ts (serves me t (leaves_claims ts d)))
+        → Kept d (cond b (grants me ts (serves me t (leaves_claims ts d))) (wants_again refused))
+    by true more = then (then left (serves_keep me t (leaves_claims ts d))) more
+    by false more =
+        then (then (then left (refuses_keeps t (leaves_claims ts d))) (ends_turn_keeps _))
+        (speaks_keeps (again_sends refused.node.talk.claims refused.node.talk) (again refused.node.talk.claims refused.node.talk) refused)
 
 frees_keep : (t : Tid) (address : ℕ) (x : Thread) (d : EventSoFar) → Kept d (frees t address x d)
 frees_keep t address x d =
@@ -267,14 +322,17 @@ does_keeps p me t Name bytes d = then (asks_keeps t Name d) (answer_keeps t (tid
 does_keeps p me t Node bytes d = then (asks_keeps t Node d) (answer_keeps t me _)
 does_keeps p me t Nodes bytes d = then (asks_keeps t Nodes d) (answer_keeps t (nodes_of p) _)
 does_keeps p me t Yield bytes d = then (asks_keeps t Yield d) (answer_keeps t 0 _)
-does_keeps p me t (Create entry argument priority) bytes d = then (asks_keeps t (Create entry argument priority) d) (creates_keeps me t entry argument priority _)
+does_keeps p me t (Create entry argument priority) bytes d =
+    let c : Call = Create entry argument priority in then (at_keeps t (asks_slots t c) d (λ x. asks_slots_keeps t c x d)) (serves_keep me t _)
 does_keeps p me t (Join name) bytes d = at_keeps t (asks_join t (Join name) (tid_of name)) d (λ x. asks_join_keeps t (Join name) (tid_of name) x d)
 does_keeps p me t (Detach name) bytes d = at_keeps t (asks_detach t (Detach name) (tid_of name)) d (λ x. asks_detach_keeps t (Detach name) (tid_of name) x d)
 does_keeps p me t (SemNew value) bytes d =
     then (asks_here_keeps t (SemNew value) (with_one_more value d.node.sems) d) (answer_keeps t (name_on me (length d.node.sems)) _)
 does_keeps p me t (SemP id) bytes d = signals_keeps me t (SemP id) id false d
 does_keeps p me t (SemV id) bytes d = signals_keeps me t (SemV id) id true d
-does_keeps p me t (Isomalloc len) bytes d = then (asks_keeps t (Isomalloc len) d) (at_keeps t (allocates t (rounded len)) _ (λ x. allocates_keeps t (rounded len) x _))
+does_keeps p me t (Isomalloc len) bytes d =
+    at_keeps t (λ x. allocates_at me t len (place (heap_of x.guest.solo) (rounded len)) x) d
+    (λ x. allocates_at_keeps me t len (place (heap_of x.guest.solo) (rounded len)) x d)
 does_keeps p me t (Isofree address) bytes d = then (asks_keeps t (Isofree address) d) (at_keeps t (frees t address) _ (λ x. frees_keep t address x _))
 does_keeps p me t (MigrateSelf to) bytes d = then (then (asks_keeps t (MigrateSelf to) d) (answer_keeps t 0 _)) (migrates_keeps p me to t _)
 does_keeps p me t (Migrate name to) bytes d = then (asks_keeps t (Migrate name to) d) (sends_keeps p me (tid_of name) to t (eqb name (tid_value t)) _)
@@ -331,6 +389,9 @@ accepts_keeps p me from (EndNote seq end) s = then (knows_keeps me seq end (noth
     tells : (o : Option (Tid × ℕ)) (d : EventSoFar) → Kept d (tells_joiner end o d)
     tells None d = kept refl
     tells (Some by) d = reply_keeps by.0 by.1 _ _ d
+accepts_keeps p me from Want s = speaks_keeps (listing_sends from s.talk.wanting) (listing from s.talk) (nothing s)
+accepts_keeps p me from Turn s = grants_keep me s.talk.claims (nothing s)
+accepts_keeps p me from Over s = speaks_keeps (turn_to (without_first s.talk.wanting)) (next_turn s.talk) (nothing s)
 
 takes_keeps : (p : Program) (me from : ℕ) (body : Body) (s : Local) → Kept (nothing s) (takes p me from body s)
 takes_keeps p me from body s = by (is_stray p me from s body)

@@ -1,37 +1,18 @@
--- isomalloc and isofree in code are those of the definition.
-use Rattle.std.proofs.Common.{◌≡◌, ℕ, List, [], ◌∷◌, Bool, true, false, Option, Some, None, refl, sym, ap, ◌∙◌}
+-- isofree in code is that of the definition.
+use Rattle.std.proofs.Common.{◌≡◌, ℕ, List, [], ◌∷◌, Bool, true, false, Some, None, refl, sym, ap, ◌∙◌}
 use Rattle.std.specs.Map.{lookup, set_value}
 use Rattle.slot_space.specs.declared.names.Tid.{Tid}
 use Rattle.iso_blocks.specs.Heap.{emptied}
 use Rattle.run_trace.specs.declared.label.Label.TheVariants.{Judged}
 use Rattle.run_trace.specs.declared.label.Extra.TheVariants.{Nothing}
 use Rattle.run_trace.specs.declared.node.Wait.TheVariants as wait
-use Rattle.run_trace.specs.Guests.{Thread, Guest, waits, heap_of, slots_for, gives_slots, without_slots, without_block}
+use Rattle.run_trace.specs.Guests.{Thread, Guest, waits, heap_of, gives_slots, without_slots, without_block}
 use Rattle.rv_step.specs.Memory.{Memory}
 use Rattle.run_trace.specs.Names.{is_tid}
 use Rattle.run_trace.specs.Local.{EventSoFar, with_threads}
-use Rattle.run_trace.specs.Steps.{at_found, at_thread, thread_at, say, keep, slots_in, tell, judge_as, returns, takes_run}
-use Rattle.run_trace.specs.Machine.{places, allocates, allocates_with, returns_any, frees_block, frees}
-use Rattle.node_state.specs.Heaps.{claim_found, takes_at, drops_at, gives_back}
-
--- ## isomalloc
-
-pub placed_at_once : (t : Tid) (size : ℕ) (d new : EventSoFar) → None ≡ claim_found size d (thread_at t d) → new ≡ at_thread t (places t size) d → new ≡ at_thread t (allocates t size) d
-placed_at_once t size d new = by (thread_at t d)
-  where
-    by : (o : Option Thread) → None ≡ claim_found size d o → new ≡ at_found o (places t size) d → new ≡ at_found o (allocates t size) d
-    by None e n = n
-    by (Some x) e n = n ∙ ap (λ o. allocates_with t size o x d) e
-
-pub placed_after : (t : Tid) (size first count : ℕ) (d mid new : EventSoFar) → count ≡ slots_for size → Some first ≡ claim_found size d (thread_at t d) → mid ≡ at_thread t (takes_at t first count) d
-    → new ≡ at_thread t (places t size) mid → new ≡ at_thread t (allocates t size) d
-placed_after t size first count d mid new c = by (thread_at t d)
-  where
-    by : (o : Option Thread) → Some first ≡ claim_found size d o → mid ≡ at_found o (takes_at t first count) d → new ≡ at_thread t (places t size) mid → new ≡ at_found o (allocates t size) d
-    by None e m n = absurd (cc e)
-    by (Some x) e m n = n ∙ ap (at_thread t (places t size)) (m ∙ ap (λ k. takes_run t first k x.guest d) c) ∙ ap (λ o. allocates_with t size o x d) e
-
--- ## isofree
+use Rattle.run_trace.specs.Steps.{at_found, at_thread, thread_at, say, keep, slots_in, tell, judge_as, returns}
+use Rattle.run_trace.specs.Machine.{returns_any, frees_block, frees}
+use Rattle.node_state.specs.Heaps.{drops_at, gives_back}
 
 -- a thread that gives slots back stays where it is
 pub gave_there : (t u : Tid) (slots : List ℕ) (d : EventSoFar) → thread_at u (gives_back t slots d) ≡ thread_at u d

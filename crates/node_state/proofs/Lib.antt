@@ -6,3 +6,5 @@ pub mod Found
 pub mod Coming
 pub mod Possible
 pub mod Waiting
+pub mod InTurn
+pub mod Granting

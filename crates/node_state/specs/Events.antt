@@ -1,12 +1,14 @@
 -- What an event of a node in code is.
-use Rattle.std.specs.Prelude.{◌≡◌, ℕ, ◌%◌, [], Option, Some, None, Bool, true, false, length, nat_lt}
+use Rattle.std.specs.Prelude.{◌≡◌, ℕ, ◌<◌, ◌%◌, [], Option, Some, None, Bool, true, false, length, nat_lt, ⊤}
 use Rattle.rv_inst.specs.declared.image.Image.{Image}
 use Rattle.slot_space.specs.Addresses.{starting_slots}
+use Rattle.slot_space.specs.Limits.{node_limit}
 use Rattle.run_trace.specs.declared.entry.Act.{Act}
 use Rattle.run_trace.specs.declared.entry.Act.TheVariants.{Boot, Run, Take, Move}
 use Rattle.run_trace.specs.declared.entry.Setup.{Setup}
 use Rattle.run_trace.specs.RunLists.{is_listed}
 use Rattle.run_trace.specs.Program.{Program}
+use Rattle.run_trace.specs.Talks.{silent}
 use Rattle.run_trace.specs.Local.{Local, EventSoFar}
 use Rattle.node_state.specs.declared.output.EventOutput.{EventOutput}
 
@@ -27,6 +29,7 @@ fresh_in setup n = record {
   births = [];
   sems = [];
   halted = false;
+  talk = silent;
 }
 
 -- a thread can be picked, or the one that is to move is on the run list
@@ -35,6 +38,11 @@ can_act s Boot = true
 can_act s (Run vp quantum) = nat_lt 0 (length s.run_lists.rows)
 can_act s (Take from) = true
 can_act s (Move t to) = is_listed t s.run_lists.rows
+
+-- the node that a packet is taken from has one of the numbers that there may be
+abbrev pub IsFromNode : Act → Type 0
+IsFromNode (Take from) = from < node_limit
+IsFromNode _ = ⊤
 
 -- the event that leaves this node and has come to this
 abbrev pub event_of : Local → EventOutput → EventSoFar

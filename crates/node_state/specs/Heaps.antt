@@ -8,12 +8,7 @@ use Rattle.run_trace.specs.declared.node.Wait.TheVariants as wait
 use Rattle.run_trace.specs.Guests.{Thread, waits, heap_of, gives_slots, without_block}
 use Rattle.run_trace.specs.Local.{EventSoFar}
 use Rattle.run_trace.specs.Steps.{say, keep, slots_in, takes_run}
-use Rattle.run_trace.specs.Machine.{run_for}
 use Rattle.node_thread.specs.Views.{IsNew}
-
-abbrev pub claim_found : ℕ → EventSoFar → Option Thread → Option ℕ
-claim_found size d None = None
-claim_found size d (Some x) = run_for size x.guest d.node.slots.free
 
 abbrev pub IsNewAt : (first count : ℕ) → Option Thread → Type 0
 IsNewAt first count None = ⊤

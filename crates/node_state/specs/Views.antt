@@ -9,6 +9,7 @@ use Rattle.run_trace.specs.declared.label.Label.{Label}
 use Rattle.run_trace.specs.declared.packet.Send.{Send}
 use Rattle.run_trace.specs.Names.{tid_cmp}
 use Rattle.run_trace.specs.Guests.{Thread}
+use Rattle.run_trace.specs.Talks.{Talk}
 use Rattle.run_trace.specs.RunLists.{RunLists}
 use Rattle.run_trace.specs.Local.{Local, EventSoFar}
 
@@ -16,8 +17,11 @@ use Rattle.run_trace.specs.Local.{Local, EventSoFar}
 abbrev pub AreInOrder : List (Tid × Thread) → Type 0
 AreInOrder threads = IsStrictlySortedBy tid_cmp (keys_of threads)
 
-abbrev pub local_of : Bool → List ℕ → List (Tid × Thread) → RunLists → List Birth → List SemRow → Bool → Local
-local_of booted free threads run_lists births sems halted = record {
+abbrev pub talk_of : List Tid → Bool → List ℕ → Talk
+talk_of claims wants wanting = record { claims = claims; wants = wants; wanting = wanting }
+
+abbrev pub local_of : Bool → List ℕ → List (Tid × Thread) → RunLists → List Birth → List SemRow → Bool → Talk → Local
+local_of booted free threads run_lists births sems halted talk = record {
   booted = booted;
   slots = record { free = free };
   threads = threads;
@@ -25,6 +29,7 @@ local_of booted free threads run_lists births sems halted = record {
   births = births;
   sems = sems;
   halted = halted;
+  talk = talk;
 }
 
 abbrev pub doing_of : Local → List Label → List Send → List ℕ → EventSoFar

@@ -4,7 +4,7 @@ ghost use Rattle.std.specs.Prelude.{◌≡◌, ℕ, IfOk, true};
 ghost use Rattle.run_trace.specs.Machine.{boots, run_found, run_picked, is_range, acts, local_event};
 ghost use Rattle.run_trace.specs.Local.{nothing};
 ghost use Rattle.run_trace.specs.Steps.{thread_at};
-ghost use Rattle.node_state.specs.Events.{StartsAligned, Becomes, can_act};
+ghost use Rattle.node_state.specs.Events.{StartsAligned, Becomes, IsFromNode, can_act};
 ghost use Rattle.run_trace.specs.Trees.{Tree};
 ghost use Rattle.run_trace.specs.RunLists.{best_on};
 
@@ -85,7 +85,8 @@ impl EventSoFar {
     /// The act's numbers are such as the node can do.
     #[tactic(auto, unfolding(run_trace::specs::Machine::is_range))]
     fn is_range(&self, here: &Here<'_>, act: &Act) -> bool
-        ensures { result ≡ is_range here.now.program.now here.now.me self.now.node act.now }
+        ensures range { result ≡ is_range here.now.program.now here.now.me self.now.node act.now }
+        ensures from { result ≡ true → IsFromNode act.now }
     {
         let nodes = here.program.nodes();
         let me = here.me;
@@ -107,6 +108,7 @@ impl EventSoFar {
         requires node { self.old ≡ nothing self.old.node }
         requires image { StartsAligned here.now.program.now.image }
         requires can { can_act self.old.node act.now ≡ true }
+        requires from { IsFromNode act.now }
         ensures { IfOk result (λ did. Becomes (acts here.now.program.now here.now.me self.old.node act.now took) self.old self.new did) }
     {
         match took {

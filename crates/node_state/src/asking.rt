@@ -1,7 +1,7 @@
 //! What a thread asks, and what it is told.
 
 ghost use Rattle.std.specs.Prelude.{◌≡◌, IfOk};
-ghost use Rattle.run_trace.specs.Steps.{say, at_thread, asks, asks_show, asks_join, asks_detach, halts, judge, tell, reply_by_link};
+ghost use Rattle.run_trace.specs.Steps.{say, at_thread, asks, asks_show, asks_join, asks_detach, asks_slots, halts, judge, tell, reply_by_link};
 ghost use Rattle.run_trace.specs.Calls.{args_of, extra_of, number_of};
 ghost use Rattle.run_trace.specs.declared.label.Label.TheVariants as label_of;
 ghost use Rattle.node_state.specs.Asking.{asks_by_link};
@@ -81,6 +81,19 @@ impl EventSoFar {
         thread.wait_for(Wait::ForAnswer);
         self.asks(t, call)?;
         self.put(to, body)
+    }
+
+    /// The thread asks, and seeks slots for its call.
+    #[tactic(auto, unfolding(run_trace::specs::Steps::asks_slots, run_trace::specs::Steps::keep))]
+    pub(crate) fn asks_slots(&mut self, t: &Tid, call: Call) -> Result<(), NoMemory>
+        ensures { IfOk result (λ _. self.new ≡ at_thread t.now (asks_slots t.now call) self.old) }
+    {
+        let node = &mut self.node;
+        let Some(thread) = node.threads.get_mut(t) else {
+            return Ok(());
+        };
+        thread.wait_for(Wait::ForSlots);
+        self.asks(t, call)
     }
 
     /// The thread asks to join that one: the join goes to its home.

@@ -1,8 +1,8 @@
 //! The calls, the acts and the packets, composed of the small steps.
 
-ghost use Rattle.std.specs.Prelude.{◌≡◌, ◌≤◌, ◌%◌, [], IfOk};
-ghost use Rattle.run_trace.specs.Steps.{at_thread, thread_at, asks};
-ghost use Rattle.run_trace.specs.Machine.{answer, creates, does, calls, stopped};
+ghost use Rattle.std.specs.Prelude.{◌≡◌, [], IfOk};
+ghost use Rattle.run_trace.specs.Steps.{at_thread, thread_at, asks, asks_slots};
+ghost use Rattle.run_trace.specs.Machine.{answer, serves, does, calls, stopped};
 ghost use Rattle.node_state.specs.Asking.{IsSmall, NamesBlockAt, IsHere, CanBeDone, refused_by, named_by};
 
 use crate::call::Checked;
@@ -12,7 +12,7 @@ use crate::here::Here;
 use crate::names::tid_of;
 use basics::{Items, NoMemory};
 use marcel_core::End;
-use run_trace::{Call, Why};
+use run_trace::Call;
 use rv_step::Stop;
 use slot_space::{NodeNo, Reply, Tid};
 
@@ -33,27 +33,12 @@ impl EventSoFar {
         self.answer(t, code)
     }
 
-    /// The thread creates another one, where there is a slot for it.
-    fn creates(
-        &mut self,
-        here: &Here<'_>,
-        t: &Tid,
-        entry: u64,
-        argument: u64,
-        priority: u8,
-    ) -> Result<(), NoMemory>
-        requires aligned { entry % 4 ≡ 0 }
-        requires low { priority ≤ 7 }
-        ensures { IfOk result (λ _. self.new ≡ creates here.now.me t.now entry argument priority self.old) }
+    /// The thread creates another one, for which it seeks a slot.
+    fn asks_slot(&mut self, here: &Here<'_>, t: &Tid, call: Call) -> Result<(), NoMemory>
+        ensures { IfOk result (λ _. self.new ≡ serves here.now.me t.now (at_thread t.now (asks_slots t.now call) self.old)) }
     {
-        match self.free_slot() {
-            None => self.answer(t, Reply::Full.code()),
-            Some(slot) => {
-                let child = self.next_name(here);
-                self.birth(here, Why::Create(*t), entry, argument, priority, slot)?;
-                self.answer(t, child.value())
-            }
-        }
+        self.asks_slots(t, call)?;
+        self.serves(here, t)
     }
 
     /// A call past its checks, which names no bytes.
@@ -73,23 +58,13 @@ impl EventSoFar {
             Call::Node => self.asks_and_hears(t, call, here.me.0 as u64),
             Call::Nodes => self.asks_and_hears(t, call, here.program.nodes() as u64),
             Call::Yield => self.asks_and_hears(t, call, 0),
-            Call::Create {
-                entry,
-                argument,
-                priority,
-            } => {
-                self.asks(t, call)?;
-                self.creates(here, t, entry, argument, priority as u8)
-            }
+            Call::Create { .. } => self.asks_slot(here, t, call),
             Call::Join(name) => self.asks_join(t, call, &tid_of(name)),
             Call::Detach(name) => self.asks_detach(t, call, &tid_of(name)),
             Call::SemNew(value) => self.makes(here, t, call, value),
             Call::SemP(id) => self.signals(here, t, call, id, false),
             Call::SemV(id) => self.signals(here, t, call, id, true),
-            Call::Isomalloc(len) => {
-                self.asks(t, call)?;
-                self.allocates(t, len)
-            }
+            Call::Isomalloc(len) => self.isomallocs(here, t, len),
             Call::Isofree(address) => {
                 self.asks(t, call)?;
                 self.frees(t, address)

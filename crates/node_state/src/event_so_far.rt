@@ -7,6 +7,7 @@ ghost use Rattle.node_state.specs.Events.{fresh_in};
 
 use crate::output::EventOutput;
 use crate::state::LocalState;
+use crate::talk::Talk;
 use basics::{Items, NoMemory};
 use marcel_core::{BIRTH_LIMIT, Homes};
 use marcel_sync::Sems;
@@ -56,6 +57,7 @@ impl EventSoFar {
                 homes: Homes::new(alloc, me),
                 sems: Sems::new(alloc, me, setup.geometry.nodes()),
                 halted: false,
+                talk: Talk::new(alloc),
             },
             pool: Pool::new(alloc),
             labels: Vec::new(alloc),

@@ -3,22 +3,23 @@
 ghost use Rattle.std.specs.Prelude.{◌≡◌, ◌<◌, ◌≤◌, ◌+◌, ℕ, true, false, IfOk, IfSome};
 ghost use Rattle.slot_space.specs.Limits.{slot_limit};
 ghost use Rattle.slot_space.specs.Sets.{has, minus, run};
-ghost use Rattle.iso_blocks.specs.Heap.{rounded};
+ghost use Rattle.iso_blocks.specs.Heap.{rounded, place};
 ghost use Rattle.run_trace.specs.Steps.{at_thread, thread_at};
-ghost use Rattle.run_trace.specs.Machine.{free_run, places, allocates, frees};
+ghost use Rattle.run_trace.specs.Machine.{free_run, places, allocates, allocates_at, frees};
 ghost use Rattle.run_trace.specs.Calls.{place_code};
-ghost use Rattle.run_trace.specs.Guests.{slots_for};
+ghost use Rattle.run_trace.specs.Guests.{slots_for, heap_of};
 ghost use Rattle.node_thread.specs.Limits.{block_limit};
 ghost use Rattle.node_state.specs.Asking.{HasBlock};
-ghost use Rattle.node_state.specs.Heaps.{CanBeTaken, claim_found, takes_at, drops_at, gives_back};
+ghost use Rattle.node_state.specs.Heaps.{CanBeTaken, takes_at, drops_at, gives_back};
 
 use crate::event_so_far::EventSoFar;
+use crate::here::Here;
 use basics::{Items, NoMemory};
-use run_trace::Label;
+use run_trace::{Call, Label};
 use slot_space::{Reply, SLOT_SIZE, SlotNo, SlotSet, Tid};
 
 /// How many slots a block of at least so many bytes takes.
-fn slots_for(len: u64) -> u16
+pub(crate) fn slots_for(len: u64) -> u16
     requires some { 1 ≤ len }
     requires few { len ≤ block_limit }
     ensures count { result ≡ slots_for (rounded len) }
@@ -54,25 +55,6 @@ fn new_run(own: &SlotSet, held: &SlotSet, count: u16) -> Option<SlotNo>
 }
 
 impl EventSoFar {
-    /// The run that the thread takes for a block of at least so many bytes: none where the block has a place.
-    fn claim(&self, t: &Tid, len: u64, count: u16) -> Option<SlotNo>
-        requires some { 1 ≤ len }
-        requires few { len ≤ block_limit }
-        requires count { count ≡ slots_for (rounded len) }
-        requires one { 1 ≤ count }
-        ensures run { result ≡ claim_found (rounded len) self.now (thread_at t.now self.now) }
-        ensures new { IfSome result (CanBeTaken (thread_at t.now self.now) count) }
-    {
-        let node = &self.node;
-        let Some(thread) = node.threads.get(t) else {
-            return None;
-        };
-        match thread.place_of(len) {
-            Some(_) => None,
-            None => new_run(&node.free, &thread.slots(), count),
-        }
-    }
-
     /// The thread takes a run of the node's slots for its heap.
     #[tactic(auto, unfolding(run_trace::specs::Steps::takes_run, run_trace::specs::Steps::keep, run_trace::specs::Steps::slots_out))]
     fn takes_run(&mut self, t: &Tid, first: SlotNo, count: u16) -> Result<(), NoMemory>
@@ -108,18 +90,44 @@ impl EventSoFar {
         self.answer(t, place_code(address))
     }
 
-    /// isomalloc, past its checks.
-    #[tactic(auto, using(crate::proofs::Heaps::placed_at_once, crate::proofs::Heaps::placed_after))]
+    /// The thread takes slots for its block, which is placed, or claims them where the node has no such run.
     pub(crate) fn allocates(&mut self, t: &Tid, len: u64) -> Result<(), NoMemory>
         requires some { 0 < len }
         requires few { len ≤ block_limit }
         ensures { IfOk result (λ _. self.new ≡ at_thread t.now (allocates t.now (rounded len)) self.old) }
     {
         let count = slots_for(len);
-        match self.claim(t, len, count) {
-            None => self.places(t, len),
+        let node = &self.node;
+        let Some(thread) = node.threads.get(t) else {
+            return Ok(());
+        };
+        match new_run(&node.free, &thread.slots(), count) {
+            None => self.claims(t),
             Some(first) => {
                 self.takes_run(t, first, count)?;
+                self.places(t, len)
+            }
+        }
+    }
+
+    /// isomalloc, past its checks: a block that has no place takes slots first.
+    pub(crate) fn isomallocs(&mut self, here: &Here<'_>, t: &Tid, len: u64) -> Result<(), NoMemory>
+        requires some { 0 < len }
+        requires few { len ≤ block_limit }
+        ensures { IfOk result (λ _. self.new ≡ at_thread t.now (λ x. allocates_at here.now.me t.now len (place (heap_of x.guest.solo) (rounded len)) x) self.old) }
+    {
+        let call = Call::Isomalloc(len);
+        let node = &self.node;
+        let Some(thread) = node.threads.get(t) else {
+            return Ok(());
+        };
+        match thread.place_of(len) {
+            None => {
+                self.asks_slots(t, call)?;
+                self.serves(here, t)
+            }
+            Some(_) => {
+                self.asks(t, call)?;
                 self.places(t, len)
             }
         }

@@ -19,6 +19,8 @@ mod packets;
 mod running;
 mod semaphores;
 mod state;
+mod talk;
+mod turns;
 
 pub use node::NodeState;
 pub use output::EventOutput;

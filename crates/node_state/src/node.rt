@@ -61,7 +61,8 @@ impl NodeState {
     }
 
     /// One event: what it has come to, or None where the act isn't possible, and then nothing has changed. Want of memory is
-    /// also where a home can't count another birth or another semaphore, or the run list another arrival.
+    /// also where a home can't count another birth or another semaphore, or the run list another arrival, and where slots are claimed for
+    /// a call that its checks refuse, as none is.
     pub fn event(
         &mut self,
         program: &Program,

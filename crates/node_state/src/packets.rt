@@ -1,6 +1,7 @@
 //! What a node does with a packet. One that it doesn't expect comes to nothing.
 
-ghost use Rattle.std.specs.Prelude.{◌≡◌, IfOk, true, slice_get};
+ghost use Rattle.std.specs.Prelude.{◌≡◌, ◌<◌, IfOk, true, slice_get};
+ghost use Rattle.slot_space.specs.Limits.{node_limit};
 ghost use Rattle.marcel_core.specs.Homes.{verdict, detach_verdict, joiner, is_open};
 ghost use Rattle.run_trace.specs.declared.packet.Body.TheVariants as body_of;
 ghost use Rattle.run_trace.specs.Local.{nothing};
@@ -269,6 +270,43 @@ impl EventSoFar {
         self.tells_joiner(end, joiner)
     }
 
+    /// Another node wants a turn.
+    fn takes_want(&mut self, here: &Here<'_>, from: NodeNo) -> Result<(), NoMemory>
+        requires node { self.old ≡ nothing self.old.node }
+        requires from { from < node_limit }
+        ensures { IfOk result (λ _. self.new ≡ takes here.now.program.now here.now.me from body_of.Want self.old.node) }
+    {
+        let node = &self.node;
+        if !(here.me.0 == 0 && !node.talk.lists(from)) {
+            return Ok(());
+        }
+        self.lists(from)
+    }
+
+    /// This node has the turn.
+    fn takes_turn(&mut self, here: &Here<'_>, from: NodeNo) -> Result<(), NoMemory>
+        requires { self.old ≡ nothing self.old.node }
+        ensures { IfOk result (λ _. self.new ≡ takes here.now.program.now here.now.me from body_of.Turn self.old.node) }
+    {
+        let node = &self.node;
+        if !node.talk.wants() {
+            return Ok(());
+        }
+        self.grants(here)
+    }
+
+    /// The turn of another node is over.
+    fn takes_over(&mut self, here: &Here<'_>, from: NodeNo) -> Result<(), NoMemory>
+        requires { self.old ≡ nothing self.old.node }
+        ensures { IfOk result (λ _. self.new ≡ takes here.now.program.now here.now.me from body_of.Over self.old.node) }
+    {
+        let node = &self.node;
+        if !(here.me.0 == 0 && node.talk.has_turn(from)) {
+            return Ok(());
+        }
+        self.passes_turn(from)
+    }
+
     /// A packet is taken.
     pub(crate) fn takes(
         &mut self,
@@ -276,7 +314,8 @@ impl EventSoFar {
         from: NodeNo,
         body: Body,
     ) -> Result<(), NoMemory>
-        requires { self.old ≡ nothing self.old.node }
+        requires node { self.old ≡ nothing self.old.node }
+        requires from { from < node_limit }
         ensures { IfOk result (λ _. self.new ≡ takes here.now.program.now here.now.me from body self.old.node) }
     {
         match body {
@@ -290,6 +329,9 @@ impl EventSoFar {
                 self.takes_answer(here, from, &t, reply, second)
             }
             Body::EndNote { seq, end } => self.takes_end(here, from, seq, end),
+            Body::Want => self.takes_want(here, from),
+            Body::Turn => self.takes_turn(here, from),
+            Body::Over => self.takes_over(here, from),
         }
     }
 }

@@ -4,6 +4,7 @@ ghost use Rattle.std.specs.Prelude.{◌≡◌, IfOk};
 ghost use Rattle.run_trace.specs.Guests.{unwaiting};
 ghost use Rattle.node_state.specs.Events.{can_act};
 
+use crate::talk::Talk;
 use basics::NoMemory;
 use marcel_core::Homes;
 use marcel_sync::Sems;
@@ -29,6 +30,8 @@ pub(crate) struct LocalState {
     /// The semaphores that were made here.
     pub(crate) sems: Sems,
     pub(crate) halted: bool,
+    /// What it keeps of the negotiation of slots.
+    pub(crate) talk: Talk,
 }
 
 impl Model for LocalState {
@@ -37,7 +40,7 @@ impl Model for LocalState {
 
     ghost Value = { Local };
 
-    ghost view = { λ s. local_of s.booted s.free s.threads.entries s.run_list s.homes.births s.sems.sems s.halted };
+    ghost view = { λ s. local_of s.booted s.free s.threads.entries s.run_list s.homes.births s.sems.sems s.halted s.talk };
 }
 
 impl LocalState {

@@ -36,7 +36,7 @@ nothing_shown p (suc (suc n)) =
     ap (λ ls. console_of p (at_first p) (boot_entries p (suc n)) ++ shown_by_all p (suc n) ls (spots_of p (at_first p) (boot_entries p (suc n)))) (no_labels p n)
     ∙ ap (λ (bytes : List ℕ). bytes ++ []) (nothing_shown p (suc n))
 
-listed_somewhere : (w : Spots) (s : Local) → Here 0 w s [] → (w.threads (tid 0 0)).life ≡ On 0 Ready → s.run_lists.rows ≡ [] → ⊥
+listed_somewhere : (w : Spots) (s : Local) → Here 0 w s [] [] → (w.threads (tid 0 0)).life ≡ On 0 Ready → s.run_lists.rows ≡ [] → ⊥
 listed_somewhere w s h life none =
     let shown : item_of is_tid listed_name (map listed s.run_lists.rows) (tid 0 0) ≡ Some (record { tid = tid 0 0; list = 0; priority = (w.threads (tid 0 0)).guest.priority }) =
     h.rows.shows (tid 0 0) ∙ ap (λ z. row_in_life 0 (tid 0 0) z (w.threads (tid 0 0)).guest.priority) life in
@@ -58,7 +58,7 @@ runs_possible moves p net n count pick none =
 pub main_listed : (p : Program) → Legal p (boot_entries p (nodes_of p)) → has_pick (net_after p (boot_entries p (nodes_of p))) 0 ≡ true
 main_listed p legal = by (nodes_of p) refl
   where
-    here : Here 0 (spots_of p (at_first p) (boot_entries p (nodes_of p))) ((net_after p (boot_entries p (nodes_of p))).nodes 0) []
+    here : Here 0 (spots_of p (at_first p) (boot_entries p (nodes_of p))) ((net_after p (boot_entries p (nodes_of p))).nodes 0) [] []
     here = (stands_after p (boot_entries p (nodes_of p)) legal.runs).nodes 0
 
     by : (k : ℕ) → nodes_of p ≡ k → has_pick (net_after p (boot_entries p (nodes_of p))) 0 ≡ true

@@ -1,0 +1,7 @@
+use Rattle.std.proofs.Common.{ap, ◌∙◌}
+use Rattle.run_trace.specs.Talks.{Talk, is_wanting}
+use Rattle.node_state.proofs.InTurn.{listed}
+use Rattle.node_state.proofs.talk.Talk.lists.Goals as goal
+
+pub returns : goal.returns
+returns c = c.lists.ensures.listed ∙ listed c.args.node c.self.inside.arbiter ∙ ap (λ (k : Talk). is_wanting c.args.node k.wanting) c.self.view_is
