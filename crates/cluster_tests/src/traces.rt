@@ -61,10 +61,28 @@ const WAITS: [u32; 12] = [
     0x0000_8067,
 ];
 
+/// It creates a thread and returns. That one creates a thread, which returns, and returns.
+const CLAIMS: [u32; 14] = [
+    0x0000_0517,
+    0x01c5_0513,
+    0x0000_0593,
+    0x0030_0613,
+    0x0060_0893,
+    0x0000_0073,
+    0x0000_8067,
+    0x0000_0517,
+    0x0185_0513,
+    0x0000_0593,
+    0x0030_0613,
+    0x0060_0893,
+    0x0000_0073,
+    0x0000_8067,
+];
+
 /// It jumps to itself.
 const LOOPS: [u32; 1] = [0x0000_006f];
 
-const KNOWN: [Known; 5] = [
+const KNOWN: [Known; 6] = [
     Known {
         words: &HI,
         slots: 256,
@@ -161,22 +179,101 @@ born 0.0 main 65544 0 0 4295032832 0
 @ 2 0 1 run 0 1000
 ran 0.0 0 5 call
 asked 0.0 create 65576 7 3
+@ 3 0 2 take 0
+@ 4 0 3 take 0
+decided 0.0 1 -
 judged 0.0 -4
 told 0.0
-@ 3 0 2 run 0 1000
+@ 5 0 4 take 0
+@ 6 0 5 run 0 1000
 ran 0.0 0 1 call
 asked 0.0 join 18446744073709551612
 judged 0.0 -2
 told 0.0
-@ 4 0 3 run 0 1000
+@ 7 0 6 run 0 1000
 ran 0.0 0 2 call
 asked 0.0 exit 18446744073709551614
 gave 0.0 0
 ended 0.0 exit 18446744073709551614
-@ 5 0 4 take 0
+@ 8 0 7 take 0
 known 0.0
 ",
-        wrong: &[],
+        wrong: &[
+            ("7 3\n", "7 3\njudged 0.0 -4\ntold 0.0\n", 1),
+            (
+                "7 3\n",
+                "7 3\ndecided 0.0 1 -\njudged 0.0 -4\ntold 0.0\n",
+                1,
+            ),
+            ("@ 3 0 2 take 0\n", "", 2),
+            ("decided 0.0 1 -\n", "", 3),
+            ("decided 0.0 1 -", "decided 0.0 2 -", 3),
+            ("decided 0.0 1 -", "decided 0.0 1 0", 3),
+            ("judged 0.0 -4\ntold 0.0\n", "", 3),
+            ("decided 0.0 1 -\njudged 0.0 -4\ntold 0.0\n", "", 3),
+            ("told 0.0\n", "told 0.0\ndecided 0.0 1 -\n", 3),
+            ("@ 4 0 3", "@ 3 0 3", 3),
+        ],
+    },
+    Known {
+        words: &CLAIMS,
+        slots: 2,
+        trace: "@ 1 0 0 boot
+born 0.0 main 65544 0 0 4295032832 0
+@ 2 0 1 run 0 1000
+ran 0.0 0 5 call
+asked 0.0 create 65572 0 3
+born 0.1 create 0.0 65572 0 0 4295098368 1
+judged 0.0 1
+told 0.0
+@ 3 0 2 run 0 1000
+ran 0.1 0 5 call
+asked 0.1 create 65596 0 3
+@ 4 0 3 run 0 1000
+ran 0.0 0 2 call
+asked 0.0 exit 1
+gave 0.0 0
+ended 0.0 exit 1
+@ 5 0 4 take 0
+@ 6 0 5 take 0
+known 0.0
+@ 7 0 6 take 0
+born 0.2 create 0.1 65596 0 0 4295032832 0
+judged 0.1 2
+told 0.1
+@ 8 0 7 run 0 1000
+ran 0.2 0 2 call
+asked 0.2 exit 0
+gave 0.2 0
+ended 0.2 exit 0
+@ 9 0 8 run 0 1000
+ran 0.1 0 2 call
+asked 0.1 exit 2
+gave 0.1 1
+ended 0.1 exit 2
+@ 10 0 9 take 0
+@ 11 0 10 take 0
+known 0.2
+@ 12 0 11 take 0
+known 0.1
+",
+        wrong: &[
+            (
+                "ended 0.0 exit 1\n",
+                "ended 0.0 exit 1\nborn 0.2 create 0.1 65596 0 0 4295032832 0\n",
+                3,
+            ),
+            ("@ 6 0 5 take 0\nknown 0.0\n", "", 5),
+            (
+                "born 0.2 create 0.1 65596 0 0 4295032832 0\njudged 0.1 2\n",
+                "decided 0.1 1 -\njudged 0.1 -4\n",
+                6,
+            ),
+            ("born 0.2 create 0.1", "born 0.2 create 0.0", 6),
+            ("65596 0 0 4295032832 0", "65596 0 0 4295098368 1", 6),
+            ("judged 0.1 2\ntold 0.1\n", "", 6),
+            ("@ 10 0 9 take 0\n", "", 9),
+        ],
     },
     Known {
         words: &WAITS,
