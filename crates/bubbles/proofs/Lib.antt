@@ -1,0 +1,12 @@
+pub mod Updates
+pub mod Weights
+pub mod Counts
+pub mod Midst
+pub mod Arrive
+pub mod Ends
+pub mod Picks
+pub mod Whole
+pub mod Members
+pub mod Calls
+pub mod Leaving
+pub mod Gathering

@@ -1,0 +1,4 @@
+pub mod Rows
+pub mod Forests
+pub mod Picking
+pub mod Standing
