@@ -40,6 +40,7 @@ midst_bubble list c es w m =
           (subst (λ o. 1 ≤ filled o) (sym (state_same w.bubbles c Queued)) (filled_now (bubble_of c w.bubbles) hc (m.fills_up c)))
           (λ n. subst (λ o. 1 ≤ filled o) (sym (state_other w.bubbles c b Queued n)) (m.fills_up b));
       threads = λ t. let f = place_added_other rows y (Thread t) refl in let i = inside_queue w.bubbles c (Thread t) hc in rw (f, i) (m.threads t);
+      names = m.names;
     }
 
 pub light_bubble : (list c : ℕ) (es : List Entity) (w : ForestView) → IsMidst (Bubble c ∷ es) w → (b : ℕ) → weight_of (arrives list (Bubble c) w) b ≤ weight_of w b
@@ -64,6 +65,7 @@ midst_thread list u es w m =
       fills_up = m.fills_up;
       threads = λ t. elim (is_entity (Thread u) (Thread t)) as (λ v. is_entity (Thread u) (Thread t) ≡ v → on (place_of (Thread t) rows) + (inside (Thread t) w.bubbles + (if v then suc (count (Thread t) es) else count (Thread t) es)) ≤ 1 → on (place_of (Thread t) (rows ++ y ∷ [])) + (inside (Thread t) w.bubbles + count (Thread t) es) ≤ 1)
           [ true ↦ λ q h. omega (arith, place_added_same rows y (Thread t) q, h) | false ↦ λ q h. rw (place_added_other rows y (Thread t) q) h ] refl (m.threads t);
+      names = m.names;
     }
 
 pub light_thread : (list : ℕ) (u : Tid) (w : ForestView) (b : ℕ) → weight_of (arrives list (Thread u) w) b ≤ weight_of w b
@@ -98,6 +100,7 @@ midst_open c w m q =
           (subst (λ o. 1 ≤ filled o) (sym (state_same w.bubbles c IsBurst)) bq.2)
           (λ n. subst (λ o. 1 ≤ filled o) (sym (state_other w.bubbles c b IsBurst n)) (m.fills_up b));
       threads = λ t. let i = inside_burst w.bubbles c (Thread t) q in let f = place_without_other rows (Bubble c) (Thread t) refl in rw f (omega (arith, m.threads t, i));
+      names = m.names;
     }
 
 pub light_open : (c : ℕ) (w : ForestView) (b : ℕ) → weight_of (bursting c w) b ≤ weight_of w b

@@ -12,12 +12,13 @@ use Rattle.levels.proofs.Lemmas.{is_same}
 use Rattle.bubbles.specs.declared.bubble.BubbleState.{BubbleState}
 use Rattle.bubbles.specs.declared.bubble.BubbleState.TheVariants.{Filling, Held, Queued, Burst as IsBurst}
 use Rattle.bubbles.specs.declared.bubble.BubbleRow.{BubbleRow}
-use Rattle.bubbles.specs.Rows.{bubble_row, bubble_of, with_state, is_filling_as, is_filling, thread_of, last_list}
+use Rattle.bubbles.specs.Rows.{bubble_row, bubble_of, with_state, is_filling_as, is_filling, known_thread, thread_of, last_list}
 use Rattle.bubbles.specs.Forests.{ForestView, empty_forest, arrives, holding, joined, with_bubble, wakes, wakes_if, wakes_filled, inserts, inserts_if, inserts_filled, with_thread, enters, enters_at, goes_on}
 use Rattle.bubbles.specs.Standing.{on, queued, held, filled, inside, count, IsMidst, IsForest, IsAway}
 use Rattle.bubbles.proofs.Counts.{state_other, state_same, in_state}
 use Rattle.bubbles.proofs.Midst.{count_self, count_other}
 use Rattle.bubbles.proofs.Arrive.{by_number, midst_thread, midst_bubble}
+use Rattle.bubbles.proofs.Known.{named_added}
 use Rattle.bubbles.proofs.Members.{inside_member, inside_new, inside_hold, queued_member, held_member, filled_member, filling_state, state_twice, priority_state}
 
 -- ## Who is on its way
@@ -33,9 +34,10 @@ coming_thread t w m z = record {
     | true ↦ λ q. let e : on (place_of (Thread u) w.lists.rows) + inside (Thread u) w.bubbles ≡ 0 = subst (λ x. on (place_of x w.lists.rows) + inside x w.bubbles ≡ 0) (is_same (Thread t) (Thread u) q) z in omega (arith, e)
     | false ↦ λ q. m.threads u
   ] refl;
+  names = m.names;
 }
 
-filling_only : (o : Option BubbleRow) → is_filling o ≡ true → (queued o ≡ 0) × (held o ≡ 0)
+pub filling_only : (o : Option BubbleRow) → is_filling o ≡ true → (queued o ≡ 0) × (held o ≡ 0)
 filling_only None h = (refl, refl)
 filling_only (Some x) h = first x.state h
   where
@@ -73,11 +75,12 @@ coming_bubble c x w m e s l =
           (subst (λ o. 1 ≤ filled o) (sym (state_same w.bubbles c Held)) (held_filled x o e l))
           (λ n. subst (λ o. 1 ≤ filled o) (sym (state_other w.bubbles c b Held n)) (m.fills_up b));
       threads = λ t. let i = inside_hold w.bubbles c (Thread t) f in omega (arith, i, m.threads t);
+      names = m.names;
     }
 
 -- ## Who joins a bubble
 
-count_first : (u e : Entity) (es : List Entity) → count u (e ∷ es) ≡ count u (e ∷ []) + count u es
+pub count_first : (u e : Entity) (es : List Entity) → count u (e ∷ es) ≡ count u (e ∷ []) + count u es
 count_first u e es = elim (is_entity e u) as (λ v. cond v (suc (count u es)) (count u es) ≡ cond v 1 0 + count u es) [ true ↦ omega arith | false ↦ omega arith ]
 
 pub joins : (b : ℕ) (e : Entity) (es : List Entity) (w : ForestView) → IsMidst (e ∷ es) w → is_filling (bubble_of b w.bubbles) ≡ true → IsMidst es (joined b e w)
@@ -87,6 +90,7 @@ joins b e es w m f = record {
   holds = λ a. omega (arith, inside_member w.bubbles b e (Bubble a) f, count_first (Bubble a) e es, held_member w.bubbles b a e, m.holds a);
   fills_up = λ a. filled_member w.bubbles b a e (m.fills_up a);
   threads = λ t. omega (arith, inside_member w.bubbles b e (Thread t) f, count_first (Thread t) e es, m.threads t);
+  names = m.names;
 }
 
 -- ## The calls
@@ -111,12 +115,13 @@ forest_new priority depth w m =
           (subst (λ o. 1 ≤ filled o) (sym last) (omega arith))
           (λ k. subst (λ o. 1 ≤ filled o) (sym (other b k)) (m.fills_up b));
       threads = λ t. let i = inside_new w.bubbles x (Thread t) refl in omega (arith, i, m.threads t);
+      names = m.names;
     }
 
 pub forest_empty : (tree : Tree) → IsForest (empty_forest tree)
-forest_empty tree = record { apart = tt; queues = λ b. refl; holds = λ b. refl; fills_up = λ b. omega arith; threads = λ t. omega arith }
+forest_empty tree = record { apart = tt; queues = λ b. refl; holds = λ b. refl; fills_up = λ b. omega arith; threads = λ t. omega arith; names = tt }
 
-wakes_same : (c : ℕ) (w : ForestView) → arrives 0 (Bubble c) (holding c w) ≡ arrives 0 (Bubble c) w
+pub wakes_same : (c : ℕ) (w : ForestView) → arrives 0 (Bubble c) (holding c w) ≡ arrives 0 (Bubble c) w
 wakes_same c w = let s = state_twice w.bubbles c Queued Held in let p = priority_state w.bubbles c c Held in rw (s, p) refl
 
 pub forest_wakes : (b : ℕ) (w : ForestView) → IsForest w → IsForest (wakes b w).after
@@ -161,17 +166,17 @@ forest_inserts b c w m = by_same (eqb b c) refl
 pub forest_goes_on : (t : Tid) (w : ForestView) → IsForest w → IsAway t w → IsForest (goes_on t w)
 forest_goes_on t w m z = midst_thread (last_list (thread_of t w.threads)) t [] w (coming_thread t w m z)
 
-forest_known : (t : Tid) (priority : ℕ) (w : ForestView) → IsForest w → IsForest (with_thread t priority w)
-forest_known t priority w m = record { apart = m.apart; queues = m.queues; holds = m.holds; fills_up = m.fills_up; threads = m.threads }
+forest_known : (t : Tid) (priority : ℕ) (w : ForestView) → IsForest w → thread_of t w.threads ≡ None → IsForest (with_thread t priority w)
+forest_known t priority w m n = record { apart = m.apart; queues = m.queues; holds = m.holds; fills_up = m.fills_up; threads = m.threads; names = named_added w.threads (known_thread t priority 0) m.names n }
 
-pub forest_enters : (t : Tid) (priority : ℕ) (bubble : Option ℕ) (w : ForestView) → IsForest w → IsAway t w → IsForest (enters t priority bubble w)
-forest_enters t priority bubble w m z = by_bubble bubble
+pub forest_enters : (t : Tid) (priority : ℕ) (bubble : Option ℕ) (w : ForestView) → IsForest w → IsAway t w → thread_of t w.threads ≡ None → IsForest (enters t priority bubble w)
+forest_enters t priority bubble w m z n = by_bubble bubble
   where
     u : ForestView
     u = with_thread t priority w
 
     coming : IsMidst (Thread t ∷ []) u
-    coming = coming_thread t u (forest_known t priority w m) z
+    coming = coming_thread t u (forest_known t priority w m n) z
 
     by_filling : (b : ℕ) (v : Bool) → is_filling (bubble_of b w.bubbles) ≡ v → IsForest (enters_at (Some b) t u)
     by_filling b true f = rw f (joins b (Thread t) [] u coming f)

@@ -60,7 +60,7 @@ back_done kept ms i w l = ap (λ (es : List Entity). back_with kept es w) (drop_
 -- ## The forest is kept
 
 -- a bubble that isn't Held is a member of Burst ones alone
-nowhere_loose : (e : Entity) (xs : List BubbleRow) (b : ℕ) → inside e xs ≡ 0 → (held (bubble_of b xs) + queued (bubble_of b xs) ≡ 0) ⊎ (count e (members_of (bubble_of b xs)) ≡ 0)
+pub nowhere_loose : (e : Entity) (xs : List BubbleRow) (b : ℕ) → inside e xs ≡ 0 → (held (bubble_of b xs) + queued (bubble_of b xs) ≡ 0) ⊎ (count e (members_of (bubble_of b xs)) ≡ 0)
 nowhere_loose e [] b z = inl refl
 nowhere_loose e (x ∷ xs) zero z = first x.state (omega (arith, z))
   where
@@ -71,7 +71,7 @@ nowhere_loose e (x ∷ xs) zero z = first x.state (omega (arith, z))
     first IsBurst q = inl refl
 nowhere_loose e (x ∷ xs) (suc b) z = nowhere_loose e xs b (omega (arith, z))
 
-forest_apart : (b : ℕ) (w : ForestView) → IsForest w → held (bubble_of b w.bubbles) ≡ 0 → IsForest (apart_from_others b w)
+pub forest_apart : (b : ℕ) (w : ForestView) → IsForest w → held (bubble_of b w.bubbles) ≡ 0 → IsForest (apart_from_others b w)
 forest_apart b w m z =
     let nowhere : inside (Bubble b) w.bubbles ≡ 0 = omega (arith, m.holds b, z) in
     record {
@@ -82,13 +82,14 @@ forest_apart b w m z =
           (λ n. omega (arith, inside_other (Bubble b) (Bubble a) w.bubbles (bubbles_differ b a n), held_left (Bubble b) w.bubbles a, m.holds a));
       fills_up = λ a. filled_left (Bubble b) w.bubbles a (nowhere_loose (Bubble b) w.bubbles a nowhere) (m.fills_up a);
       threads = λ t. omega (arith, inside_other (Bubble b) (Thread t) w.bubbles refl, m.threads t);
+      names = m.names;
     }
 
 abbrev pub is_burst_row : Option BubbleRow → Bool
 is_burst_row None = false
 is_burst_row (Some x) = is_burst_as x.state
 
-burst_only : (o : Option BubbleRow) → is_burst_row o ≡ true → (queued o ≡ 0) × (held o ≡ 0)
+pub burst_only : (o : Option BubbleRow) → is_burst_row o ≡ true → (queued o ≡ 0) × (held o ≡ 0)
 burst_only None h = (refl, refl)
 burst_only (Some x) h = first x.state h
   where
@@ -98,17 +99,17 @@ burst_only (Some x) h = first x.state h
     first Queued q = absurd (cc q)
     first IsBurst q = (refl, refl)
 
-burst_left : (e : Entity) (xs : List BubbleRow) (b : ℕ) → is_burst_row (bubble_of b (without_member e xs)) ≡ is_burst_row (bubble_of b xs)
+pub burst_left : (e : Entity) (xs : List BubbleRow) (b : ℕ) → is_burst_row (bubble_of b (without_member e xs)) ≡ is_burst_row (bubble_of b xs)
 burst_left e [] b = refl
 burst_left e (x ∷ xs) zero = refl
 burst_left e (x ∷ xs) (suc b) = burst_left e xs b
 
-on_one : (o : Option Place) → is_some o ≡ true → on o ≡ 1
+pub on_one : (o : Option Place) → is_some o ≡ true → on o ≡ 1
 on_one None h = absurd (cc h)
 on_one (Some x) h = refl
 
 -- a Queued bubble that is held keeps its members
-inside_back : (xs : List BubbleRow) (c : ℕ) (u : Entity) → queued (bubble_of c xs) ≡ 1 → inside u (with_state c Held xs) ≡ inside u xs
+pub inside_back : (xs : List BubbleRow) (c : ℕ) (u : Entity) → queued (bubble_of c xs) ≡ 1 → inside u (with_state c Held xs) ≡ inside u xs
 inside_back [] c u h = refl
 inside_back (x ∷ xs) zero u h = first x.state h
   where
@@ -146,6 +147,7 @@ thread_back t es w m z = record {
         omega (arith, here, off, k, m.threads u)
     | false ↦ λ q k. let same : on (place_of (Thread u) (without (Thread t) w.lists.rows)) ≡ on (place_of (Thread u) w.lists.rows) = ap on (place_without_other w.lists.rows (Thread t) (Thread u) q) in omega (arith, same, k, m.threads u)
   ] refl (count_joined (Thread u) es (Thread t ∷ []));
+  names = m.names;
 }
 
 bubble_back : (c : ℕ) (es : List Entity) (w : ForestView) → IsMidst es w → on (place_of (Bubble c) w.lists.rows) ≡ 1 → IsMidst (es ++ Bubble c ∷ []) (taken_back (Bubble c) w)
@@ -170,14 +172,15 @@ bubble_back c es w m z =
       threads = λ t.
           let same : on (place_of (Thread t) (without (Bubble c) rows)) ≡ on (place_of (Thread t) rows) = ap on (place_without_other rows (Bubble c) (Thread t) refl) in
           omega (arith, same, inside_back w.bubbles c (Thread t) q, count_joined (Thread t) es (Bubble c ∷ []), m.threads t);
+      names = m.names;
     }
 
 -- the forest while a Burst bubble takes members back
-record IsBack (b : ℕ) (coming : List Entity) (w : ForestView) : Type 0 where
+pub record IsBack (b : ℕ) (coming : List Entity) (w : ForestView) : Type 0 where
   pub midst : IsMidst coming w
   pub burst : is_burst_row (bubble_of b w.bubbles) ≡ true
 
-one_back : (b : ℕ) (e : Entity) (coming : List Entity) (w : ForestView) → IsBack b coming w → is_some (place_of e w.lists.rows) ≡ true → IsBack b (coming ++ e ∷ []) (taken_back e w)
+pub one_back : (b : ℕ) (e : Entity) (coming : List Entity) (w : ForestView) → IsBack b coming w → is_some (place_of e w.lists.rows) ≡ true → IsBack b (coming ++ e ∷ []) (taken_back e w)
 one_back b (Thread t) coming w k h = record { midst = thread_back t coming w k.midst (on_one (place_of (Thread t) w.lists.rows) h); burst = k.burst }
 one_back b (Bubble c) coming w k h =
     let z : on (place_of (Bubble c) w.lists.rows) ≡ 1 = on_one (place_of (Bubble c) w.lists.rows) h in
@@ -185,7 +188,7 @@ one_back b (Bubble c) coming w k h =
     let other : c ≡ b → ⊥ = λ e. let n : queued (bubble_of c w.bubbles) ≡ 0 = ap (λ a. queued (bubble_of a w.bubbles)) e ∙ (burst_only (bubble_of b w.bubbles) k.burst).0 in omega (arith, n, queued_one) in
     record { midst = bubble_back c coming w k.midst z; burst = ap is_burst_row (state_other w.bubbles c b Held other) ∙ k.burst }
 
-every_back : (b : ℕ) (es coming : List Entity) (w : ForestView) → IsBack b coming w → IsBack b (coming ++ (all_back es w).kept) (all_back es w).after
+pub every_back : (b : ℕ) (es coming : List Entity) (w : ForestView) → IsBack b coming w → IsBack b (coming ++ (all_back es w).kept) (all_back es w).after
 every_back b [] coming w k = subst (λ xs. IsBack b xs w) (sym (append-nil coming)) k
 every_back b (e ∷ es) coming w k = by_place (is_some (place_of e w.lists.rows)) refl (λ h. every_back b es (coming ++ e ∷ []) (taken_back e w) (one_back b e coming w k h)) (every_back b es coming w k)
   where
@@ -198,7 +201,7 @@ every_back b (e ∷ es) coming w k = by_place (is_some (place_of e w.lists.rows)
 
 -- ## Filled again
 
-inside_refill : (xs : List BubbleRow) (b : ℕ) (es : List Entity) (u : Entity) → is_burst_row (bubble_of b xs) ≡ true → inside u (refilled b es xs) ≡ inside u xs + count u es
+pub inside_refill : (xs : List BubbleRow) (b : ℕ) (es : List Entity) (u : Entity) → is_burst_row (bubble_of b xs) ≡ true → inside u (refilled b es xs) ≡ inside u xs + count u es
 inside_refill [] b es u h = absurd (cc h)
 inside_refill (x ∷ xs) zero es u h = first x.state h
   where
@@ -237,6 +240,7 @@ forest_refilled b es w k = record {
   holds = λ a. omega (arith, inside_refill w.bubbles b es (Bubble a) k.burst, held_refill w.bubbles b a es k.burst, k.midst.holds a);
   fills_up = λ a. filled_refill w.bubbles b a es (k.midst.fills_up a);
   threads = λ t. omega (arith, inside_refill w.bubbles b es (Thread t) k.burst, k.midst.threads t);
+  names = k.midst.names;
 }
 
 pub forest_gathers : (b : ℕ) (w : ForestView) → IsForest w → IsForest (gathers b w).after

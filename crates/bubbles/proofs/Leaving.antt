@@ -15,6 +15,7 @@ use Rattle.bubbles.specs.Rows.{bubble_of, members_of, thread_of, first_out, with
 use Rattle.bubbles.specs.Forests.{ForestView, gone, leaves}
 use Rattle.bubbles.specs.Standing.{on, queued_as, held_as, queued, held, shows, count, inside, fills, filled, IsForest, IsLoose}
 use Rattle.bubbles.proofs.Counts.{place_without_same}
+use Rattle.bubbles.proofs.Known.{named_out}
 
 -- ## The first item that passes
 
@@ -75,7 +76,7 @@ out_all (x ∷ xs) (suc i) e l = ap (λ ys. x ∷ ys) (out_all xs i e (omega ari
 
 -- ## The forest is kept
 
-count_less : (e u : Entity) (xs : List Entity) → count u (first_out (λ m. is_entity m e) xs) ≤ count u xs
+pub count_less : (e u : Entity) (xs : List Entity) → count u (first_out (λ m. is_entity m e) xs) ≤ count u xs
 count_less e u [] = omega arith
 count_less e u (x ∷ xs) =
     elim (is_entity x e) as (λ v. count u (cond v xs (x ∷ first_out (λ m. is_entity m e) xs)) ≤ count u (x ∷ xs)) [
@@ -83,7 +84,7 @@ count_less e u (x ∷ xs) =
       | false ↦ elim (is_entity x u) as (λ c. cond c (suc (count u (first_out (λ m. is_entity m e) xs))) (count u (first_out (λ m. is_entity m e) xs)) ≤ cond c (suc (count u xs)) (count u xs)) [ true ↦ omega (arith, count_less e u xs) | false ↦ count_less e u xs ]
     ]
 
-count_other : (e u : Entity) (xs : List Entity) → is_entity e u ≡ false → count u (first_out (λ m. is_entity m e) xs) ≡ count u xs
+pub count_other : (e u : Entity) (xs : List Entity) → is_entity e u ≡ false → count u (first_out (λ m. is_entity m e) xs) ≡ count u xs
 count_other e u [] h = refl
 count_other e u (x ∷ xs) h =
     elim (is_entity x e) as (λ v. is_entity x e ≡ v → count u (cond v xs (x ∷ first_out (λ m. is_entity m e) xs)) ≡ count u (x ∷ xs)) [
@@ -150,6 +151,7 @@ forest_gone t w m k = record {
     | true ↦ λ q. let z : on (place_of (Thread u) (without (Thread t) w.lists.rows)) ≡ 0 = subst (λ e. on (place_of e (without (Thread t) w.lists.rows)) ≡ 0) (is_same (Thread t) (Thread u) q) (place_without_same w.lists.rows (Thread t) m.apart) in omega (arith, z, inside_less (Thread t) (Thread u) w.bubbles, m.threads u)
     | false ↦ λ q. let p : on (place_of (Thread u) (without (Thread t) w.lists.rows)) ≡ on (place_of (Thread u) w.lists.rows) = ap on (place_without_other w.lists.rows (Thread t) (Thread u) q) in omega (arith, p, inside_less (Thread t) (Thread u) w.bubbles, m.threads u)
   ] refl;
+  names = named_out w.threads t m.names;
 }
 
 pub forest_leaves : (t : Tid) (w : ForestView) → IsForest w → IsLoose t w → IsForest (leaves t w)

@@ -1,3 +1,4 @@
+pub mod Lemmas
 pub mod Updates
 pub mod Weights
 pub mod Counts
@@ -8,5 +9,12 @@ pub mod Picks
 pub mod Whole
 pub mod Members
 pub mod Calls
+pub mod Known
 pub mod Leaving
 pub mod Gathering
+pub mod Seats
+pub mod Kept
+pub mod Cases
+pub mod Changes
+pub mod Covered
+pub mod Nesting

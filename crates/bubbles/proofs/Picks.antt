@@ -17,6 +17,25 @@ use Rattle.bubbles.proofs.Midst.{on_none, bubbles_differ}
 use Rattle.bubbles.proofs.Arrive.{by_number, row_of}
 use Rattle.bubbles.proofs.Ends.{Goes, requeue, queued_weight}
 
+-- wherever it goes
+pub forest_down : (c list : ℕ) (x : Place) (w : ForestView) → IsForest w → place_of (Bubble c) w.lists.rows ≡ Some x → IsForest (down c list w).after
+forest_down c list x w m f =
+    let rows = w.lists.rows in
+    let y : Row = row_of list (Bubble c) (off_list (Bubble c) w) in
+    let q : queued (bubble_of c w.bubbles) ≡ 1 = sym (m.queues c) ∙ ap on f in
+    let n : place_of (Bubble c) (without (Bubble c) rows) ≡ None = on_none (place_of (Bubble c) (without (Bubble c) rows)) (place_without_same rows (Bubble c) m.apart) in
+    let fn : place_of (Bubble c) (without (Bubble c) rows ++ y ∷ []) ≡ Some y.1 = place_added (without (Bubble c) rows) y n in
+    let forest : IsForest (record w { lists = (arrives list (Bubble c) (off_list (Bubble c) w)).lists }) = record {
+      apart = apart_added (without (Bubble c) rows) y (apart_without rows (Bubble c) m.apart) n;
+      queues = λ b. by_number (λ (b : ℕ). on (place_of (Bubble b) (without (Bubble c) rows ++ y ∷ [])) ≡ queued (bubble_of b w.bubbles)) c b (ap on fn ∙ sym q)
+          (λ k. ap on (place_added_other (without (Bubble c) rows) y (Bubble b) (bubbles_differ c b k) ∙ place_without_other rows (Bubble c) (Bubble b) (bubbles_differ c b k)) ∙ m.queues b);
+      holds = m.holds;
+      fills_up = m.fills_up;
+      threads = λ u. let e = place_added_other (without (Bubble c) rows) y (Thread u) refl ∙ place_without_other rows (Bubble c) (Thread u) refl in rw e (m.threads u);
+      names = m.names;
+    } in
+    subst (λ bs. IsForest (record w { lists = (arrives list (Bubble c) (off_list (Bubble c) w)).lists; bubbles = bs })) (sym (requeue w.bubbles c q)) forest
+
 pub down_goes : (v c : ℕ) (x : Place) (w : ForestView) → IsForest w → place_of (Bubble c) w.lists.rows ≡ Some x → v < processors w.lists.tree → covers w.lists.tree v x.list ≡ true → is_leaf w.lists.tree x.list ≡ false → Goes v w (down c (next_towards w.lists.tree x.list v) w).after
 down_goes v c x w m f inside covered l =
     let t : Tree = w.lists.tree in
@@ -33,17 +52,10 @@ down_goes v c x w m f inside covered l =
     let d = (next_goes t x.list v inside covered l).1 in
     let other : (b : ℕ) → (c ≡ b → ⊥) → place_of (Bubble b) (without (Bubble c) rows ++ y ∷ []) ≡ place_of (Bubble b) rows
     = λ b k. place_added_other (without (Bubble c) rows) y (Bubble b) (bubbles_differ c b k) ∙ place_without_other rows (Bubble c) (Bubble b) (bubbles_differ c b k) in
-    let forest : IsForest (record w { lists = (arrives next (Bubble c) (off_list (Bubble c) w)).lists }) = record {
-      apart = apart_added (without (Bubble c) rows) y (apart_without rows (Bubble c) m.apart) n;
-      queues = λ b. by_number (λ (b : ℕ). on (place_of (Bubble b) (without (Bubble c) rows ++ y ∷ [])) ≡ queued (bubble_of b w.bubbles)) c b (ap on fn ∙ sym q) (λ k. ap on (other b k) ∙ m.queues b);
-      holds = m.holds;
-      fills_up = m.fills_up;
-      threads = λ u. let e = place_added_other (without (Bubble c) rows) y (Thread u) refl ∙ place_without_other rows (Bubble c) (Thread u) refl in rw e (m.threads u);
-    } in
     let lighter : (b : ℕ) → weight (below t (place_of (Bubble b) (without (Bubble c) rows ++ y ∷ []))) (bubble_of b w.bubbles) ≤ weight_of w b
     = λ b. by_number (λ (b : ℕ). weight (below t (place_of (Bubble b) (without (Bubble c) rows ++ y ∷ []))) (bubble_of b w.bubbles) ≤ weight_of w b) c b (omega (arith, g, h, d)) (λ k. rw (other b k) (omega arith)) in
     record {
-      forest = subst (λ bs. IsForest (record w { lists = (arrives next (Bubble c) (off_list (Bubble c) w)).lists; bubbles = bs })) (sym r) forest;
+      forest = forest_down c next x w m f;
       lighter = λ b. rw r (lighter b);
       falls = (c, rw r (omega (arith, g, h, d, depth_most t next)));
       tree = refl;

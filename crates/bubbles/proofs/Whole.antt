@@ -18,6 +18,7 @@ use Rattle.bubbles.specs.Picking.{bursts_at, burst, down, takes, chosen, step, s
 use Rattle.bubbles.specs.Standing.{on, inside, IsForest}
 use Rattle.bubbles.proofs.Weights.{below, weight, weight_of, total}
 use Rattle.bubbles.proofs.Counts.{place_without_same, total_less}
+use Rattle.bubbles.proofs.Known.{named_last}
 use Rattle.bubbles.proofs.Ends.{Goes, burst_goes}
 use Rattle.bubbles.proofs.Picks.{down_goes}
 
@@ -33,6 +34,7 @@ forest_takes t list w m = record {
     | true ↦ λ q. let z : on (place_of (Thread u) (without (Thread t) w.lists.rows)) ≡ 0 = subst (λ e. on (place_of e (without (Thread t) w.lists.rows)) ≡ 0) (is_same (Thread t) (Thread u) q) (place_without_same w.lists.rows (Thread t) m.apart) in omega (arith, z, m.threads u)
     | false ↦ λ q. rw (place_without_other w.lists.rows (Thread t) (Thread u) q) (m.threads u)
   ] refl;
+  names = named_last w.threads t list m.names;
 }
 
 -- a bubble that goes down isn't on a leaf

@@ -1,5 +1,5 @@
 -- Bubbles by their numbers, and threads by their names.
-use Rattle.std.specs.Prelude.{ℕ, zero, suc, List, [], ◌∷◌, ◌++◌, Bool, true, false, Option, Some, None, slice_get, if◌then◌else◌}
+use Rattle.std.specs.Prelude.{◌≡◌, ⊤, ℕ, zero, suc, List, [], ◌∷◌, ◌++◌, Bool, true, false, Option, Some, None, slice_get, if◌then◌else◌}
 use Rattle.slot_space.specs.declared.names.Tid.{Tid}
 use Rattle.levels.specs.declared.entity.Entity.{Entity}
 use Rattle.levels.specs.declared.entity.Entity.TheVariants.{Thread}
@@ -63,6 +63,16 @@ thread_priority (Some x) = x.priority
 abbrev pub last_list : Option KnownThread → ℕ
 last_list None = 0
 last_list (Some x) = x.last
+
+-- no two have one name
+abbrev pub AreNamed : List KnownThread → Type 0
+AreNamed [] = ⊤
+AreNamed (x ∷ xs) = (thread_of x.tid xs ≡ None) × AreNamed xs
+
+-- a thread that was picked from this list, if it is known
+abbrev pub picked_from : ℕ → Option KnownThread → Option KnownThread
+picked_from list None = None
+picked_from list (Some x) = Some (record x { last = list })
 
 -- the thread was picked from this list
 abbrev pub with_last : Tid → ℕ → List KnownThread → List KnownThread

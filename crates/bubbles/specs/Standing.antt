@@ -1,5 +1,5 @@
 -- What is true of every forest.
-use Rattle.std.specs.Prelude.{◌≡◌, ℕ, suc, ◌+◌, ◌≤◌, ◌⊎◌, List, [], ◌∷◌, length, Option, Some, None, if◌then◌else◌}
+use Rattle.std.specs.Prelude.{◌≡◌, ℕ, suc, ◌+◌, ◌≤◌, ◌⊎◌, ⊤, List, [], ◌∷◌, length, Option, Some, None, if◌then◌else◌}
 use Rattle.slot_space.specs.declared.names.Tid.{Tid}
 use Rattle.levels.specs.declared.entity.Entity.{Entity}
 use Rattle.levels.specs.declared.entity.Entity.TheVariants.{Thread, Bubble}
@@ -8,7 +8,7 @@ use Rattle.levels.specs.Rows.{is_entity, place_of, AreApart}
 use Rattle.bubbles.specs.declared.bubble.BubbleState.{BubbleState}
 use Rattle.bubbles.specs.declared.bubble.BubbleState.TheVariants.{Filling, Held, Queued, Burst as IsBurst}
 use Rattle.bubbles.specs.declared.bubble.BubbleRow.{BubbleRow}
-use Rattle.bubbles.specs.Rows.{bubble_of, members_of}
+use Rattle.bubbles.specs.Rows.{bubble_of, members_of, AreNamed}
 use Rattle.bubbles.specs.Forests.{ForestView}
 
 -- ## Once or not
@@ -69,16 +69,21 @@ filled (Some x) = fills x.state x.members
 -- ## A forest
 
 -- a forest while these entities are on their way to a list: each entity stands at most once on a list or in a bubble that isn't burst; Queued
--- bubbles are on a list, Held ones are members, and both have members
+-- bubbles are on a list, Held ones are members, and both have members; no two threads have one name
 pub record IsMidst (coming : List Entity) (w : ForestView) : Type 0 where
   pub apart : AreApart w.lists.rows
   pub queues : (b : ℕ) → on (place_of (Bubble b) w.lists.rows) ≡ queued (bubble_of b w.bubbles)
   pub holds : (b : ℕ) → inside (Bubble b) w.bubbles + count (Bubble b) coming ≡ held (bubble_of b w.bubbles)
   pub fills_up : (b : ℕ) → 1 ≤ filled (bubble_of b w.bubbles)
   pub threads : (t : Tid) → on (place_of (Thread t) w.lists.rows) + (inside (Thread t) w.bubbles + count (Thread t) coming) ≤ 1
+  pub names : AreNamed w.threads
 
 abbrev pub IsForest : ForestView → Type 0
 IsForest w = IsMidst [] w
+
+-- how often the thread stands on a list or in a bubble that isn't burst
+abbrev pub seats : Tid → ForestView → ℕ
+seats t w = on (place_of (Thread t) w.lists.rows) + inside (Thread t) w.bubbles
 
 -- the thread is on no list, and in no bubble that isn't burst
 abbrev pub IsAway : Tid → ForestView → Type 0
@@ -87,3 +92,19 @@ IsAway t w = on (place_of (Thread t) w.lists.rows) + inside (Thread t) w.bubbles
 -- the thread is a member of no Held and of no Queued bubble
 abbrev pub IsLoose : Tid → ForestView → Type 0
 IsLoose t w = (b : ℕ) → (held (bubble_of b w.bubbles) + queued (bubble_of b w.bubbles) ≡ 0) ⊎ (count (Thread t) (members_of (bubble_of b w.bubbles)) ≡ 0)
+
+-- ## Held back
+
+-- a bubble of this state holds its members back, and is on no list
+abbrev pub HoldsBack : BubbleState → Type 0
+HoldsBack Filling = ⊤
+HoldsBack Held = ⊤
+HoldsBack _ = ⊥
+
+-- the thread is in a bubble that is filled yet, or is in another one
+pub record IsHeldBack (t : Tid) (f : ForestView) : Type 0 where
+  pub number : ℕ
+  pub bubble : BubbleRow
+  pub is : bubble_of number f.bubbles ≡ Some bubble
+  pub holds : HoldsBack bubble.state
+  pub member : 1 ≤ count (Thread t) bubble.members

@@ -16,7 +16,7 @@ use crate::bubble::{
     leave_bubbles, refill, set_state,
 };
 use basics::NoMemory;
-use levels::{Entity, Lists, Tree};
+use levels::{Entity, Lists, Place, Tree};
 use slot_space::Tid;
 use std::alloc::Global;
 use std::marker::Model;
@@ -260,6 +260,34 @@ impl Forest {
         }
     }
 
+    /// A thread of this home and number is on a list, whatever number the home is.
+    pub fn on_list_by(&self, home: u64, seq: u32) -> bool
+        ensures { result ≡ is_some (place_of (entities.Thread (record { home = home; seq = seq })) self.now.lists.rows) }
+    {
+        self.lists.has_thread(home, seq)
+    }
+
+    /// Where the thread stands. None exactly where it is on no list.
+    pub fn place_of(&self, t: Tid) -> Option<Place>
+        ensures { result ≡ place_of (entities.Thread t) self.now.lists.rows }
+    {
+        self.lists.place_of(Entity::Thread(t))
+    }
+
+    /// How many bubbles there are.
+    pub fn bubbles(&self) -> u32
+        ensures { result ≡ length self.now.bubbles }
+    {
+        self.bubbles.len() as u32
+    }
+
+    /// The tree of the lists.
+    pub fn tree(&self) -> Tree
+        ensures { result ≡ self.now.lists.tree }
+    {
+        self.lists.tree()
+    }
+
     /// How many entities are on lists.
     pub fn count(&self) -> u32
         ensures { result ≡ length self.now.lists.rows }
@@ -399,9 +427,10 @@ impl Forest {
         self.join(b, Entity::Bubble(c))
     }
 
-    // What a choice of the processor is, and does.
+    /// One choice of the processor, and what comes of it: nothing is there, a thread is taken off its list, or a bubble is moved. After want of
+    /// memory the forest is used no more.
     #[tactic(auto, unfolding(crate::specs::Picking::step))]
-    fn step(&mut self, vp: u8) -> Result<Step, NoMemory>
+    pub fn step(&mut self, vp: u8) -> Result<Step, NoMemory>
         requires processor { vp < processors self.old.lists.tree }
         ensures { IfOk result (λ what. (what ≡ (step vp self.old).what) × (self.new ≡ (step vp self.old).after)) }
     {

@@ -8,4 +8,4 @@ mod laws;
 
 pub use bubble::{BubbleRow, BubbleState, Did, KnownThread, Picked, Shift, Step};
 pub use forest::Forest;
-pub use laws::calls_keep_forests;
+pub use laws::{calls_keep_forests, no_bubble_is_inside_itself};

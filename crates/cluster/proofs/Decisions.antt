@@ -1,6 +1,6 @@
 -- What is decided on the nodes is so of the trace.
-use Rattle.std.proofs.Common.{◌≡◌, ◌≢◌, ℕ, zero, suc, ◌+◌, ◌<◌, ◌≤◌, inl, inr, List, [], ◌∷◌, ◌++◌, length, map, Some, None, Bool, true, false, cond, refl, sym, ap, ◌∙◌, subst, arith}
-use Rattle.std.specs.Prelude.{nat_lt, ◌||◌, filter, flat_map, slice_get}
+use Rattle.std.proofs.Common.{◌≡◌, ◌≢◌, ℕ, zero, suc, ◌+◌, ◌<◌, ◌≤◌, inl, inr, List, [], ◌∷◌, ◌++◌, length, map, Some, None, Bool, true, false, cond, is_some, refl, sym, ap, ◌∙◌, subst, arith}
+use Rattle.std.specs.Prelude.{nat_lt, ◌||◌, ◌&&◌, filter, flat_map, slice_get}
 use Rattle.std.specs.Map.{lookup}
 use Rattle.std.proofs.lemmas.Bool.{lt-ltb}
 use Rattle.std.proofs.lemmas.Option.{slice_get_within}
@@ -9,7 +9,6 @@ use Rattle.slot_space.specs.Sets.{run}
 use Rattle.run_trace.specs.declared.entry.Act.{Act}
 use Rattle.run_trace.specs.declared.entry.Act.TheVariants.{Run, Take}
 use Rattle.run_trace.specs.declared.entry.Entry.{Entry}
-use Rattle.run_trace.specs.declared.node.ReadyRow.{ReadyRow}
 use Rattle.run_trace.specs.declared.packet.Packet.{Packet}
 use Rattle.run_trace.specs.Cluster.{Net}
 use Rattle.run_trace.specs.Guests.{Thread}
@@ -17,10 +16,13 @@ use Rattle.run_trace.specs.Local.{Local, fresh}
 use Rattle.run_trace.specs.Names.{is_tid}
 use Rattle.run_trace.specs.Outcome.{AllLinksEmpty, Lives}
 use Rattle.run_trace.specs.Program.{Program, nodes_of, processors_of}
+use Rattle.levels.specs.Trees.{Tree}
+use Rattle.levels.specs.Rows.{Row}
+use Rattle.levels.specs.Choice.{has_ready}
 use Rattle.run_trace.specs.Rules.{spots_of}
 use Rattle.run_trace.specs.Spots.{Spots, at_first}
 use Rattle.run_trace.specs.Stands.{Stands}
-use Rattle.trace_laws.proofs.Lemmas.{Inside, run_inside, stuck, is_somewhere, lives_there, halts_are, stands_after}
+use Rattle.trace_laws.proofs.Lemmas.{Inside, run_inside, some_processor, tree_there, stuck, is_somewhere, lives_there, halts_are, stands_after}
 use Rattle.run_trace.proofs.Lemmas.{is-refl}
 use Rattle.basics.proofs.Lemmas.{by_eq, by_less, some_at}
 use Rattle.node_loop.specs.View.{NodeView}
@@ -110,7 +112,7 @@ filter_some f test first (suc count) j l m h = by (test first) refl (λ a b. fil
     by true e more k = absurd (cc k)
     by false e more k = more (by_eq j first (λ s. absurd (cc (s, e, h))) (λ ne. omega (arith, l, ne))) (omega (arith, m)) k
 
-no_rows_there : (rows : List ReadyRow) → nat_lt 0 (length rows) ≡ false → rows ≡ []
+no_rows_there : (rows : List Row) → nat_lt 0 (length rows) ≡ false → rows ≡ []
 no_rows_there [] e = refl
 no_rows_there (r ∷ rs) e = let some : nat_lt 0 (length (r ∷ rs)) ≡ true = lt-ltb 0 (length (r ∷ rs)) (omega arith) in absurd (cc (some, e))
 
@@ -150,8 +152,8 @@ module _ (c : ClusterView) (before kept : List Entry) (s : StandsFor c before ke
       (λ l. let v = some_at c.nodes n (omega (arith, l, s.agrees.count)) in subst (λ z. P z) (sym (s.agrees.node n v.0 v.1).state) (here v.0 v.1))
       (λ past. subst (λ z. P z) (sym (inside.nodes n past)) first)
 
-  no_rows : any_of has_row c.nodes ≡ false → (n : ℕ) → (net.nodes n).run_lists.rows ≡ []
-  no_rows e n = at_node (λ l. l.run_lists.rows ≡ []) n (λ v at. no_rows_there v.state.run_lists.rows (any_none has_row c.nodes e n v at)) refl
+  no_rows : any_of has_row c.nodes ≡ false → (n : ℕ) → (net.nodes n).forest.lists.rows ≡ []
+  no_rows e n = at_node (λ l. l.forest.lists.rows ≡ []) n (λ v at. no_rows_there v.state.forest.lists.rows (any_none has_row c.nodes e n v at)) refl
 
   not_halted : any_of has_halted c.nodes ≡ false → (n : ℕ) → (net.nodes n).halted ≡ false
   not_halted e n = at_node (λ l. l.halted ≡ false) n (λ v at. any_none has_halted c.nodes e n v at) refl
@@ -208,21 +210,22 @@ module _ (c : ClusterView) (before kept : List Entry) (s : StandsFor c before ke
             (front_some (takes_of p net j) (moves_of moves p net j) (filter_some (λ i. (j, Take i)) (λ i. holds (net.links i j)) 0 (nodes_of p) i (omega arith) (omega (arith, li)) held)));
       }
 
-  some_run : (n : ℕ) (b : Bool) → b ≡ true → cond b (map {B = ℕ × Act} (λ vp. (n, Run vp p.setup.quantum)) (run 0 (processors_of p))) [] ≢ []
-  unfolding run
-  some_run n true e k = absurd (cc k)
-  some_run n false e k = absurd (cc e)
-
   goes_by_row : ((n : ℕ) → (net.nodes n).halted ≡ false) → (t : Tid) × Lives (w.threads t).life → Some_of has_row c.nodes → GoesOn p trace
   goes_by_row h lives m =
       let n : ℕ = m.place in
       let ln : n < nodes_of p = below n m.node m.at in
-      let pick : has_pick net n ≡ true = ap (λ (z : Local). nat_lt 0 (length z.run_lists.rows)) (s.agrees.node n m.node m.at).state ∙ m.so in
+      let some : nat_lt 0 (length (net.nodes n).forest.lists.rows) ≡ true = ap (λ (z : Local). nat_lt 0 (length z.forest.lists.rows)) (s.agrees.node n m.node m.at).state ∙ m.so in
+      let full : (net.nodes n).forest.lists.rows ≡ [] → ⊥ = λ e. (let none : nat_lt 0 (length (net.nodes n).forest.lists.rows) ≡ false = ap (λ (rs : List Row). nat_lt 0 (length rs)) e in cc (some, none)) in
+      let found = some_processor p w net stands n full in
+      let vp : ℕ = found.0 in
+      let pick : has_pick p net n vp ≡ true =
+      ap (λ b. b && has_ready (net.nodes n).forest.lists.tree vp (net.nodes n).forest.lists.rows) (lt-ltb vp (processors_of p) found.1)
+      ∙ ap (λ (z : Tree). has_ready z vp (net.nodes n).forest.lists.rows) (tree_there p w net stands n) ∙ found.2 in
       record {
         not_done = not_done h (λ none. lives);
-        not_stuck = λ k. (let none : has_pick net n ≡ false = ap (λ (rs : List ReadyRow). nat_lt 0 (length rs)) (k.rows n) in cc (pick, none));
+        not_stuck = λ k. full (k.rows n);
         possible = λ moves. flat_some (acts_of moves p net) 0 (nodes_of p) n (omega arith) (omega (arith, ln))
-            (front_some (runs_of p net n) (takes_of p net n ++ moves_of moves p net n) (some_run n (has_pick net n) pick));
+            (front_some (runs_of p net n) (takes_of p net n ++ moves_of moves p net n) (filter_some (λ vp. (n, Run vp p.setup.quantum)) (λ vp. has_pick p net n vp) 0 (processors_of p) vp (omega arith) (omega (arith, found.1)) pick));
       }
 
   pub decided_right : IsAt p trace (decided (any_of has_halted c.nodes) (any_of knows_packet c.nodes) (any_of has_thread c.nodes) (any_of has_row c.nodes))

@@ -17,7 +17,6 @@ pub mod Listings
 pub mod Merging
 pub mod Booting
 mod Going
-pub mod ReadyNames
 pub mod Picks
 pub mod ByWord
 mod Gathered

@@ -1,6 +1,6 @@
 -- What is known of a link is what the trace leaves on it.
 use Rattle.std.proofs.Common.{◌≡◌, ℕ, ◌<◌, List, [], ◌∷◌, ◌++◌, length, Some, refl, sym, ap, ◌∙◌, arith, append-nil, is_some}
-use Rattle.std.specs.Prelude.{nat_lt, slice_get}
+use Rattle.std.specs.Prelude.{◌&&◌, nat_lt, slice_get}
 use Rattle.std.proofs.lemmas.Bool.{lt-ltb}
 use Rattle.run_trace.specs.declared.entry.Act.{Act}
 use Rattle.run_trace.specs.declared.entry.Act.TheVariants.{Boot, Run, Take, Move}
@@ -8,8 +8,9 @@ use Rattle.run_trace.specs.declared.entry.Entry.{Entry}
 use Rattle.run_trace.specs.declared.packet.Packet.{Packet}
 use Rattle.run_trace.specs.Cluster.{Net}
 use Rattle.run_trace.specs.Local.{Local}
-use Rattle.run_trace.specs.Program.{Program, nodes_of}
-use Rattle.run_trace.specs.RunLists.{is_listed}
+use Rattle.run_trace.specs.Program.{Program, nodes_of, processors_of}
+use Rattle.levels.specs.Choice.{has_ready}
+use Rattle.run_trace.specs.Bubbles.{is_listed}
 use Rattle.wires.specs.declared.ends.Ends.{Ends}
 use Rattle.wires.specs.declared.link.Link.{Link}
 use Rattle.wires.specs.Ends.{known_from, of_link}
@@ -75,8 +76,10 @@ module _ (c : ClusterView) (before kept : List Entry) (s : StandsFor c before ke
     known_first from k = ap first_of (sym (known_on-node (wires_of c) from n v.ends (wires-get c.nodes c.rest n v at))) ∙ link_known from n k l
 
     -- whether it can is told by the node itself
-    pub can_is : (act : Act) → IsActInRange p n act → can v act ≡ is_possible net n act
+    pub can_is : (act : Act) → IsActInRange p n act → can v act ≡ is_possible p net n act
     can_is Boot r = refl
-    can_is (Run vp quantum) r = ap (λ (z : Local). nat_lt 0 (length z.run_lists.rows)) (sym (s.agrees.node n v at).state)
+    can_is (Run vp quantum) r =
+        ap (λ (z : Local). has_ready z.forest.lists.tree vp z.forest.lists.rows) (sym (s.agrees.node n v at).state)
+        ∙ sym (ap (λ b. b && has_ready (net.nodes n).forest.lists.tree vp (net.nodes n).forest.lists.rows) (lt-ltb vp (processors_of p) r.0))
     can_is (Take from) r = held_is (known_from v.ends from) ∙ ap is_some (known_first from r)
-    can_is (Move t to) r = ap (λ (z : Local). is_listed t z.run_lists.rows) (sym (s.agrees.node n v at).state)
+    can_is (Move t to) r = ap (λ (z : Local). is_listed t z.forest) (sym (s.agrees.node n v at).state)

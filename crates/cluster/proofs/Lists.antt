@@ -7,13 +7,13 @@ use Rattle.std.proofs.lemmas.Option.{slice_get_within, same_Some}
 use Rattle.slot_space.specs.Sets.{run}
 use Rattle.slot_space.specs.declared.names.Tid.{Tid}
 use Rattle.run_trace.specs.declared.entry.Act.{Act}
-use Rattle.run_trace.specs.declared.entry.Act.TheVariants.{Take, Move}
+use Rattle.run_trace.specs.declared.entry.Act.TheVariants.{Take, Move, Run}
 use Rattle.run_trace.specs.declared.packet.Packet.{Packet}
 use Rattle.wires.specs.declared.ends.Ends.{Ends}
 use Rattle.basics.proofs.Lemmas.{by_eq, get_set_same, get_set_other, some_at}
 use Rattle.node_loop.specs.View.{NodeView, raised, with_ends}
 use Rattle.node_loop.specs.Turns.{can}
-use Rattle.cluster.specs.Between.{knows_of, takes_from, moves_among, wires_in, KeepNodes}
+use Rattle.cluster.specs.Between.{acts_from, knows_of, moves_among, wires_in, KeepNodes, run_on}
 use Rattle.cluster.specs.View.{ends_of}
 
 -- ## Runs of numbers
@@ -42,20 +42,32 @@ knows_none v i n all l k = sym (ap (knows_of v) (run_none i n l)) ∙ k
 
 -- ## Acts
 
-takes_step : (v : NodeView) (i n : ℕ) (b : Bool) → i < n → can v (Take i) ≡ b
-    → takes_from v (run i (n - i)) ≡ map (λ i. (v.me, Take i)) (cond b (i ∷ filter (λ i. can v (Take i)) (run (i + 1) (n - (i + 1)))) (filter (λ i. can v (Take i)) (run (i + 1) (n - (i + 1)))))
-takes_step v i n b l e = ap (takes_from v) (run_more i n l) ∙ ap (λ b. map (λ i. (v.me, Take i)) (cond b (i ∷ filter (λ i. can v (Take i)) (run (i + 1) (n - (i + 1)))) (filter (λ i. can v (Take i)) (run (i + 1) (n - (i + 1)))))) e
+acts_step : (v : NodeView) (act : ℕ → Act) (i n : ℕ) (b : Bool) → i < n → can v (act i) ≡ b
+    → acts_from v act (run i (n - i)) ≡ map (λ i. (v.me, act i)) (cond b (i ∷ filter (λ i. can v (act i)) (run (i + 1) (n - (i + 1)))) (filter (λ i. can v (act i)) (run (i + 1) (n - (i + 1)))))
+acts_step v act i n b l e = ap (acts_from v act) (run_more i n l) ∙ ap (λ b. map (λ i. (v.me, act i)) (cond b (i ∷ filter (λ i. can v (act i)) (run (i + 1) (n - (i + 1)))) (filter (λ i. can v (act i)) (run (i + 1) (n - (i + 1)))))) e
+
+-- one can be done, and the others are left
+pub act_first : (v : NodeView) (act : ℕ → Act) (i n : ℕ) → i < n → can v (act i) ≡ true → acts_from v act (run i (n - i)) ≡ (v.me, act i) ∷ acts_from v act (run (i + 1) (n - (i + 1)))
+act_first v act i n l e = acts_step v act i n true l e
+
+pub act_passed : (v : NodeView) (act : ℕ → Act) (i n : ℕ) → i < n → can v (act i) ≡ false → acts_from v act (run i (n - i)) ≡ acts_from v act (run (i + 1) (n - (i + 1)))
+act_passed v act i n l e = acts_step v act i n false l e
 
 -- one is added, and the others are left
-pub takes_more : (v : NodeView) (i n me : ℕ) (acts more all : List (ℕ × Act)) → i < n → more ≡ acts ++ (me, Take i) ∷ [] → me ≡ v.me → can v (Take i) ≡ true
-    → acts ++ takes_from v (run i (n - i)) ≡ all → more ++ takes_from v (run (i + 1) (n - (i + 1))) ≡ all
-takes_more v i n me acts more all l m h e k =
-    ap (λ xs. xs ++ takes_from v (run (i + 1) (n - (i + 1)))) (m ∙ ap (λ u. acts ++ (u, Take i) ∷ []) h)
-    ∙ append_assoc acts ((v.me, Take i) ∷ []) (takes_from v (run (i + 1) (n - (i + 1)))) ∙ ap (λ xs. acts ++ xs) (sym (takes_step v i n true l e)) ∙ k
+pub acts_more : (v : NodeView) (act : ℕ → Act) (i n me : ℕ) (acts more all : List (ℕ × Act)) → i < n → more ≡ acts ++ (me, act i) ∷ [] → me ≡ v.me → can v (act i) ≡ true
+    → acts ++ acts_from v act (run i (n - i)) ≡ all → more ++ acts_from v act (run (i + 1) (n - (i + 1))) ≡ all
+acts_more v act i n me acts more all l m h e k =
+    ap (λ xs. xs ++ acts_from v act (run (i + 1) (n - (i + 1)))) (m ∙ ap (λ u. acts ++ (u, act i) ∷ []) h)
+    ∙ append_assoc acts ((v.me, act i) ∷ []) (acts_from v act (run (i + 1) (n - (i + 1)))) ∙ ap (λ xs. acts ++ xs) (sym (act_first v act i n l e)) ∙ k
 
-pub takes_skip : (v : NodeView) (i n : ℕ) (acts all : List (ℕ × Act)) → i < n → can v (Take i) ≡ false
-    → acts ++ takes_from v (run i (n - i)) ≡ all → acts ++ takes_from v (run (i + 1) (n - (i + 1))) ≡ all
-takes_skip v i n acts all l e k = ap (λ xs. acts ++ xs) (sym (takes_step v i n false l e)) ∙ k
+-- the same of a run, with the quantum of the node's program
+pub runs_more : (v : NodeView) (i n me quantum : ℕ) (acts more all : List (ℕ × Act)) → i < n → more ≡ acts ++ (me, Run i quantum) ∷ [] → quantum ≡ v.program.setup.quantum → me ≡ v.me → can v (run_on v i) ≡ true
+    → acts ++ acts_from v (run_on v) (run i (n - i)) ≡ all → more ++ acts_from v (run_on v) (run (i + 1) (n - (i + 1))) ≡ all
+runs_more v i n me quantum acts more all l m q h e k = acts_more v (run_on v) i n me acts more all l (m ∙ ap (λ (z : ℕ). acts ++ (me, Run i z) ∷ []) q) h e k
+
+pub acts_skip : (v : NodeView) (act : ℕ → Act) (i n : ℕ) (acts all : List (ℕ × Act)) → i < n → can v (act i) ≡ false
+    → acts ++ acts_from v act (run i (n - i)) ≡ all → acts ++ acts_from v act (run (i + 1) (n - (i + 1))) ≡ all
+acts_skip v act i n acts all l e k = ap (λ xs. acts ++ xs) (sym (act_passed v act i n l e)) ∙ k
 
 moves_step : (m : ℕ) (t : Tid) (i n : ℕ) (b : Bool) → i < n → eqb i m ≡ b
     → moves_among m t (run i (n - i)) ≡ map (λ to. (m, Move t to)) (cond (not b) (i ∷ filter (λ to. not (to == m)) (run (i + 1) (n - (i + 1)))) (filter (λ to. not (to == m)) (run (i + 1) (n - (i + 1)))))

@@ -4,21 +4,19 @@ use Rattle.std.specs.Prelude.{filter, flat_map, slice_get, not, nat_lt, ◌==◌
 use Rattle.slot_space.specs.Sets.{run}
 use Rattle.slot_space.specs.declared.names.Tid.{Tid}
 use Rattle.run_trace.specs.declared.entry.Act.{Act}
-use Rattle.run_trace.specs.declared.entry.Act.TheVariants.{Take, Move}
+use Rattle.run_trace.specs.declared.entry.Act.TheVariants.{Move, Run}
 use Rattle.run_trace.specs.Program.{nodes_of}
 use Rattle.node_loop.specs.View.{NodeView}
-use Rattle.node_state.specs.Views.{AreInOrder}
 use Rattle.node_loop.specs.Turns.{can}
-use Rattle.cluster.specs.Between.{takes_from, moves_among}
-use Rattle.cluster.specs.Choosing.{IsCapped, acts_in, listed_moves, moves_in, other_at}
+use Rattle.cluster.specs.Between.{acts_by, acts_from, moves_among, moves_by, run_on}
+use Rattle.cluster.specs.Choosing.{IsCapped, listed_moves, other_at}
 use Rattle.std.proofs.Math.Nat.{add-div_right, div-eq_of_lt, mod-eq_of_lt, mod-eq-sub-mod, mod-lt, mul-zero, zero-mul, suc-mul}
 use Rattle.std.proofs.lemmas.Bool.{ne_eqb, eqb-true, eqb-false, ltb-true, ltb-false, lt-ltb}
 use Rattle.std.proofs.lemmas.List.{drop_all, length-map}
 use Rattle.std.proofs.lemmas.Option.{slice_get-map, slice_get_past}
 use Rattle.std.specs.Option.{option_map}
-use Rattle.run_list.specs.Names.{names_of}
-use Rattle.run_list.proofs.Lemmas.{names_length}
-use Rattle.cluster.proofs.Lists.{run_more, run_none}
+use Rattle.node_state.specs.Listed.{listed}
+use Rattle.cluster.proofs.Lists.{act_first, act_passed, run_more, run_none}
 
 -- ## One list after another
 
@@ -154,154 +152,134 @@ parts_length m g each (t ∷ ts) =
     let one = each t in
     length-append (g t) (flat_map g ts) ∙ (let z = suc-mul (length ts) m in omega (arith, more, one, z))
 
-moves_many : (v : NodeView) (count : ℕ) → v.me < count → nodes_of v.program ≡ count → length (moves_in v) ≡ length v.state.run_lists.rows * (count - 1)
+moves_many : (v : NodeView) (count : ℕ) → v.me < count → nodes_of v.program ≡ count → length (moves_by v) ≡ length (listed v.state) * (count - 1)
 moves_many v count l e =
-    ap (λ z. length (flat_map (λ t. moves_among v.me t (run 0 z)) (names_of v.state.run_lists.rows))) e
-    ∙ parts_length (count - 1) (λ t. moves_among v.me t (run 0 count)) (λ t. moves_length v.me count t l) (names_of v.state.run_lists.rows)
-    ∙ ap (λ z. z * (count - 1)) (names_length v.state.run_lists.rows)
+    ap (λ z. length (flat_map (λ t. moves_among v.me t (run 0 z)) (listed v.state))) e
+    ∙ parts_length (count - 1) (λ t. moves_among v.me t (run 0 count)) (λ t. moves_length v.me count t l) (listed v.state)
 
-no_moves : (v : NodeView) (count place : ℕ) → v.me < count → nodes_of v.program ≡ count → count - 1 ≡ 0 → slice_get (moves_in v) place ≡ None
+no_moves : (v : NodeView) (count place : ℕ) → v.me < count → nodes_of v.program ≡ count → count - 1 ≡ 0 → slice_get (moves_by v) place ≡ None
 no_moves v count place l e z =
-    slice_get_past (moves_in v) place (let n = moves_many v count l e ∙ ap (λ m. length v.state.run_lists.rows * m) z in let o : length v.state.run_lists.rows * 0 ≡ 0 = mul-zero (length v.state.run_lists.rows) in omega (arith, n, o))
+    slice_get_past (moves_by v) place (let n = moves_many v count l e ∙ ap (λ m. length (listed v.state) * m) z in let o : length (listed v.state) * 0 ≡ 0 = mul-zero (length (listed v.state)) in omega (arith, n, o))
 
-move_is : (v : NodeView) (count place : ℕ) (o : Option Tid) → v.me < count → nodes_of v.program ≡ count → 0 < count - 1 → o ≡ slice_get (names_of v.state.run_lists.rows) (place / (count - 1))
-    → slice_get (moves_in v) place ≡ item_in (λ t. moves_among v.me t (run 0 count)) o (place % (count - 1))
+move_is : (v : NodeView) (count place : ℕ) (o : Option Tid) → v.me < count → nodes_of v.program ≡ count → 0 < count - 1 → o ≡ slice_get (listed v.state) (place / (count - 1))
+    → slice_get (moves_by v) place ≡ item_in (λ t. moves_among v.me t (run 0 count)) o (place % (count - 1))
 move_is v count place o l e some is =
-    ap (λ z. slice_get (flat_map (λ t. moves_among v.me t (run 0 z)) (names_of v.state.run_lists.rows)) place) e
-    ∙ parts_get (count - 1) (λ t. moves_among v.me t (run 0 count)) some (λ t. moves_length v.me count t l) (names_of v.state.run_lists.rows) place
+    ap (λ z. slice_get (flat_map (λ t. moves_among v.me t (run 0 z)) (listed v.state)) place) e
+    ∙ parts_get (count - 1) (λ t. moves_among v.me t (run 0 count)) some (λ t. moves_length v.me count t l) (listed v.state) place
     ∙ ap (λ z. item_in (λ t. moves_among v.me t (run 0 count)) z (place % (count - 1))) (sym is)
 
-move_to : (v : NodeView) (count place : ℕ) (o : Option Tid) (t : Tid) → v.me < count → nodes_of v.program ≡ count → 0 < count - 1 → o ≡ slice_get (names_of v.state.run_lists.rows) (place / (count - 1)) → o ≡ Some t
-    → Some (v.me, Move t (other_at v.me (place % (count - 1)))) ≡ slice_get (moves_in v) place
+move_to : (v : NodeView) (count place : ℕ) (o : Option Tid) (t : Tid) → v.me < count → nodes_of v.program ≡ count → 0 < count - 1 → o ≡ slice_get (listed v.state) (place / (count - 1)) → o ≡ Some t
+    → Some (v.me, Move t (other_at v.me (place % (count - 1)))) ≡ slice_get (moves_by v) place
 move_to v count place o t l e some is h =
     sym (move_is v count place o l e some is ∙ ap (λ z. item_in (λ t. moves_among v.me t (run 0 count)) z (place % (count - 1))) h
     ∙ moves_get v.me count (place % (count - 1)) t l (mod-lt place some))
 
-move_none : (v : NodeView) (count place : ℕ) (o : Option Tid) → v.me < count → nodes_of v.program ≡ count → 0 < count - 1 → o ≡ slice_get (names_of v.state.run_lists.rows) (place / (count - 1)) → o ≡ None
-    → None ≡ slice_get (moves_in v) place
+move_none : (v : NodeView) (count place : ℕ) (o : Option Tid) → v.me < count → nodes_of v.program ≡ count → 0 < count - 1 → o ≡ slice_get (listed v.state) (place / (count - 1)) → o ≡ None
+    → None ≡ slice_get (moves_by v) place
 move_none v count place o l e some is h = sym (move_is v count place o l e some is ∙ ap (λ z. item_in (λ t. moves_among v.me t (run 0 count)) z (place % (count - 1))) h)
 
 abbrev at_listed : Bool → NodeView → ℕ → Option (ℕ × Act)
 at_listed moves v place = slice_get (listed_moves moves v) place
 
-pub moves_counted : (moves : Bool) (v : NodeView) (count ready others product : ℕ) → moves ≡ true → v.me < count → nodes_of v.program ≡ count → ready ≡ length v.state.run_lists.rows → others ≡ count - 1
+pub moves_counted : (moves : Bool) (v : NodeView) (count ready others product : ℕ) → moves ≡ true → v.me < count → nodes_of v.program ≡ count → ready ≡ length (listed v.state) → others ≡ count - 1
     → product ≡ min (ready * others) (2 ^ 64 - 1) → IsCapped product (length (listed_moves moves v))
 moves_counted moves v count ready others product m l e r h p =
-    p ∙ ap (λ z. min z (2 ^ 64 - 1)) (ap (λ z. z * others) r ∙ ap (λ z. length v.state.run_lists.rows * z) h ∙ sym (moves_many v count l e) ∙ ap (λ b. length (listed_moves b v)) (sym m))
+    p ∙ ap (λ z. min z (2 ^ 64 - 1)) (ap (λ z. z * others) r ∙ ap (λ z. length (listed v.state) * z) h ∙ sym (moves_many v count l e) ∙ ap (λ b. length (listed_moves b v)) (sym m))
 
 pub none_at : (moves : Bool) (v : NodeView) (count others place : ℕ) → moves ≡ true → v.me < count → nodes_of v.program ≡ count → others ≡ count - 1 → others ≡ 0 → None ≡ at_listed moves v place
 none_at moves v count others place m l e h z = sym (ap (λ b. at_listed b v place) m ∙ no_moves v count place l e (sym h ∙ z))
 
 pub past_names : (moves : Bool) (v : NodeView) (count others place : ℕ) (o : Option Tid) → moves ≡ true → v.me < count → nodes_of v.program ≡ count → others ≡ count - 1 → others ≢ 0
-    → o ≡ slice_get (names_of v.state.run_lists.rows) (place / others) → o ≡ None → None ≡ at_listed moves v place
+    → o ≡ slice_get (listed v.state) (place / others) → o ≡ None → None ≡ at_listed moves v place
 past_names moves v count others place o m l e h some is none =
-    move_none v count place o l e (omega (arith, h, some)) (is ∙ ap (λ z. slice_get (names_of v.state.run_lists.rows) (place / z)) h) none ∙ ap (λ b. at_listed b v place) (sym m)
+    move_none v count place o l e (omega (arith, h, some)) (is ∙ ap (λ z. slice_get (listed v.state) (place / z)) h) none ∙ ap (λ b. at_listed b v place) (sym m)
 
 pub moved_at : (moves : Bool) (v : NodeView) (count others place me to : ℕ) (o : Option Tid) (t : Tid) → moves ≡ true → v.me < count → nodes_of v.program ≡ count → others ≡ count - 1 → others ≢ 0
-    → o ≡ slice_get (names_of v.state.run_lists.rows) (place / others) → o ≡ Some t → me ≡ v.me → to ≡ other_at me (place % others) → Some (me, Move t to) ≡ at_listed moves v place
+    → o ≡ slice_get (listed v.state) (place / others) → o ≡ Some t → me ≡ v.me → to ≡ other_at me (place % others) → Some (me, Move t to) ≡ at_listed moves v place
 moved_at moves v count others place me to o t m l e h some is it own there =
     ap (λ z. Some (me, Move t z)) (there ∙ ap (λ z. other_at me (place % z)) h) ∙ ap (λ z. Some (z, Move t (other_at z (place % (count - 1))))) own
-    ∙ move_to v count place o t l e (omega (arith, h, some)) (is ∙ ap (λ z. slice_get (names_of v.state.run_lists.rows) (place / z)) h) it ∙ ap (λ b. at_listed b v place) (sym m)
+    ∙ move_to v count place o t l e (omega (arith, h, some)) (is ∙ ap (λ z. slice_get (listed v.state) (place / z)) h) it ∙ ap (λ b. at_listed b v place) (sym m)
 
--- ## Takes
+-- ## Acts that the node can do, of those with the numbers that are left
 
-abbrev takes_left : NodeView → ℕ → ℕ → List (ℕ × Act)
-takes_left v i n = takes_from v (run i (n - i))
+abbrev acts_left : NodeView → (ℕ → Act) → ℕ → ℕ → List (ℕ × Act)
+acts_left v act i n = acts_from v act (run i (n - i))
 
-takes_true : (v : NodeView) (i n : ℕ) → i < n → can v (Take i) ≡ true → takes_left v i n ≡ (v.me, Take i) ∷ takes_left v (i + 1) n
-takes_true v i n l e =
-    ap (takes_from v) (run_more i n l)
-    ∙ ap (λ b. map {B = ℕ × Act} (λ i. (v.me, Take i)) (cond b (i ∷ filter (λ i. can v (Take i)) (run (i + 1) (n - (i + 1)))) (filter (λ i. can v (Take i)) (run (i + 1) (n - (i + 1)))))) e
+none_after : (v : NodeView) (act : ℕ → Act) (i n : ℕ) → n ≤ i → acts_left v act i n ≡ []
+none_after v act i n l = ap (acts_from v act) (run_none i n l)
 
-takes_false : (v : NodeView) (i n : ℕ) → i < n → can v (Take i) ≡ false → takes_left v i n ≡ takes_left v (i + 1) n
-takes_false v i n l e =
-    ap (takes_from v) (run_more i n l)
-    ∙ ap (λ b. map {B = ℕ × Act} (λ i. (v.me, Take i)) (cond b (i ∷ filter (λ i. can v (Take i)) (run (i + 1) (n - (i + 1)))) (filter (λ i. can v (Take i)) (run (i + 1) (n - (i + 1)))))) e
+pub count_act : (v : NodeView) (act : ℕ → Act) (i n known all : ℕ) → i < n → can v (act i) ≡ true → known + length (acts_left v act i n) ≡ all → known + 1 + length (acts_left v act (i + 1) n) ≡ all
+count_act v act i n known all l e k = let h = ap (λ (xs : List (ℕ × Act)). length xs) (act_first v act i n l e) in omega (arith, h, k)
 
-takes_none : (v : NodeView) (i n : ℕ) → n ≤ i → takes_left v i n ≡ []
-takes_none v i n l = ap (takes_from v) (run_none i n l)
+pub count_no_act : (v : NodeView) (act : ℕ → Act) (i n known all : ℕ) → i < n → can v (act i) ≡ false → known + length (acts_left v act i n) ≡ all → known + length (acts_left v act (i + 1) n) ≡ all
+count_no_act v act i n known all l e k = ap (λ (xs : List (ℕ × Act)). known + length xs) (sym (act_passed v act i n l e)) ∙ k
 
-pub count_take : (v : NodeView) (i n known all : ℕ) → i < n → can v (Take i) ≡ true → known + length (takes_left v i n) ≡ all → known + 1 + length (takes_left v (i + 1) n) ≡ all
-count_take v i n known all l e k = let h = ap (λ (xs : List (ℕ × Act)). length xs) (takes_true v i n l e) in omega (arith, h, k)
+pub count_all_acts : (v : NodeView) (act : ℕ → Act) (i n known all : ℕ) → n ≤ i → known + length (acts_left v act i n) ≡ all → known ≡ all
+count_all_acts v act i n known all l k = let h = ap (λ (xs : List (ℕ × Act)). length xs) (none_after v act i n l) in omega (arith, h, k)
 
-pub count_no_take : (v : NodeView) (i n known all : ℕ) → i < n → can v (Take i) ≡ false → known + length (takes_left v i n) ≡ all → known + length (takes_left v (i + 1) n) ≡ all
-count_no_take v i n known all l e k = ap (λ (xs : List (ℕ × Act)). known + length xs) (sym (takes_false v i n l e)) ∙ k
+pub act_here : (v : NodeView) (act : ℕ → Act) (i n left me : ℕ) (more : List (ℕ × Act)) (it : Option (ℕ × Act)) → i < n → can v (act i) ≡ true → left ≡ 0 → me ≡ v.me
+    → slice_get (acts_left v act i n ++ more) left ≡ it → Some (me, act i) ≡ it
+act_here v act i n left me more it l e z m k =
+    ap (λ (u : ℕ). Some (u, act i)) m ∙ sym (ap (λ xs. slice_get (xs ++ more) left) (act_first v act i n l e) ∙ ap (slice_get ((v.me, act i) ∷ acts_left v act (i + 1) n ++ more)) z) ∙ k
 
-pub count_all_takes : (v : NodeView) (i n known all : ℕ) → n ≤ i → known + length (takes_left v i n) ≡ all → known ≡ all
-count_all_takes v i n known all l k = let h = ap (λ (xs : List (ℕ × Act)). length xs) (takes_none v i n l) in omega (arith, h, k)
+pub run_here : (v : NodeView) (i n left me quantum : ℕ) (more : List (ℕ × Act)) (it : Option (ℕ × Act)) → i < n → can v (run_on v i) ≡ true → left ≡ 0 → me ≡ v.me → quantum ≡ v.program.setup.quantum
+    → slice_get (acts_left v (run_on v) i n ++ more) left ≡ it → Some (me, Run i quantum) ≡ it
+run_here v i n left me quantum more it l e z m q k = ap (λ (x : ℕ). Some (me, Run i x)) q ∙ act_here v (run_on v) i n left me more it l e z m k
 
-pub take_here : (v : NodeView) (i n left me : ℕ) (more : List (ℕ × Act)) (it : Option (ℕ × Act)) → i < n → can v (Take i) ≡ true → left ≡ 0 → me ≡ v.me
-    → slice_get (takes_left v i n ++ more) left ≡ it → Some (me, Take i) ≡ it
-take_here v i n left me more it l e z m k =
-    ap (λ (u : ℕ). Some (u, Take i)) m ∙ sym (ap (λ xs. slice_get (xs ++ more) left) (takes_true v i n l e) ∙ ap (slice_get ((v.me, Take i) ∷ takes_left v (i + 1) n ++ more)) z) ∙ k
-
-pub take_later : (v : NodeView) (i n left : ℕ) (more : List (ℕ × Act)) (it : Option (ℕ × Act)) → i < n → can v (Take i) ≡ true → left ≢ 0
-    → slice_get (takes_left v i n ++ more) left ≡ it → slice_get (takes_left v (i + 1) n ++ more) (left - 1) ≡ it
-take_later v i n left more it l e z k =
+pub act_later : (v : NodeView) (act : ℕ → Act) (i n left : ℕ) (more : List (ℕ × Act)) (it : Option (ℕ × Act)) → i < n → can v (act i) ≡ true → left ≢ 0
+    → slice_get (acts_left v act i n ++ more) left ≡ it → slice_get (acts_left v act (i + 1) n ++ more) (left - 1) ≡ it
+act_later v act i n left more it l e z k =
     let s : left ≡ suc (left - 1) = omega (arith, z) in
-    sym (ap (λ xs. slice_get (xs ++ more) left) (takes_true v i n l e) ∙ ap (slice_get ((v.me, Take i) ∷ takes_left v (i + 1) n ++ more)) s) ∙ k
+    sym (ap (λ xs. slice_get (xs ++ more) left) (act_first v act i n l e) ∙ ap (slice_get ((v.me, act i) ∷ acts_left v act (i + 1) n ++ more)) s) ∙ k
 
-pub no_take : (v : NodeView) (i n left : ℕ) (more : List (ℕ × Act)) (it : Option (ℕ × Act)) → i < n → can v (Take i) ≡ false
-    → slice_get (takes_left v i n ++ more) left ≡ it → slice_get (takes_left v (i + 1) n ++ more) left ≡ it
-no_take v i n left more it l e k = ap (λ xs. slice_get (xs ++ more) left) (sym (takes_false v i n l e)) ∙ k
+pub no_act : (v : NodeView) (act : ℕ → Act) (i n left : ℕ) (more : List (ℕ × Act)) (it : Option (ℕ × Act)) → i < n → can v (act i) ≡ false
+    → slice_get (acts_left v act i n ++ more) left ≡ it → slice_get (acts_left v act (i + 1) n ++ more) left ≡ it
+no_act v act i n left more it l e k = ap (λ xs. slice_get (xs ++ more) left) (sym (act_passed v act i n l e)) ∙ k
 
-pub past_takes : (v : NodeView) (i n left : ℕ) (more : List (ℕ × Act)) (it found : Option (ℕ × Act)) → n ≤ i → found ≡ slice_get more left
-    → slice_get (takes_left v i n ++ more) left ≡ it → found ≡ it
-past_takes v i n left more it found l f k = f ∙ sym (ap (λ xs. slice_get (xs ++ more) left) (takes_none v i n l)) ∙ k
+pub past_acts : (v : NodeView) (act : ℕ → Act) (i n left : ℕ) (more : List (ℕ × Act)) (it found : Option (ℕ × Act)) → n ≤ i → found ≡ slice_get more left
+    → slice_get (acts_left v act i n ++ more) left ≡ it → found ≡ it
+past_acts v act i n left more it found l f k = f ∙ sym (ap (λ xs. slice_get (xs ++ more) left) (none_after v act i n l)) ∙ k
 
 -- ## Through all nodes
 
--- so many acts were counted, of the first nodes, and these stand in the order of their names
+-- so many acts were counted, of the first nodes
 pub record HasCounted (moves : Bool) (nodes : List NodeView) (i total : ℕ) : Type 0 where
   pub number : ℕ
   pub capped : IsCapped total number
-  pub all : number + length (flat_map (acts_in moves) (drop i nodes)) ≡ length (flat_map (acts_in moves) nodes)
-  pub ordered : (n : ℕ) (v : NodeView) → n < i → slice_get nodes n ≡ Some v → AreInOrder v.state.threads
+  pub all : number + length (flat_map (acts_by moves) (drop i nodes)) ≡ length (flat_map (acts_by moves) nodes)
 
-left_of : (moves : Bool) (nodes : List NodeView) (i : ℕ) (v : NodeView) → slice_get nodes i ≡ Some v → flat_map (acts_in moves) (drop i nodes) ≡ acts_in moves v ++ flat_map (acts_in moves) (drop (i + 1) nodes)
-left_of moves nodes i v at = let e : suc i ≡ i + 1 = omega arith in ap (flat_map (acts_in moves)) (drop_item nodes i v at) ∙ ap (λ k. acts_in moves v ++ flat_map (acts_in moves) (drop k nodes)) e
+left_of : (moves : Bool) (nodes : List NodeView) (i : ℕ) (v : NodeView) → slice_get nodes i ≡ Some v → flat_map (acts_by moves) (drop i nodes) ≡ acts_by moves v ++ flat_map (acts_by moves) (drop (i + 1) nodes)
+left_of moves nodes i v at = let e : suc i ≡ i + 1 = omega arith in ap (flat_map (acts_by moves)) (drop_item nodes i v at) ∙ ap (λ k. acts_by moves v ++ flat_map (acts_by moves) (drop k nodes)) e
 
-pub counted_more : (moves : Bool) (nodes : List NodeView) (i total count : ℕ) (v : NodeView) → HasCounted moves nodes i total → slice_get nodes i ≡ Some v → IsCapped count (length (acts_in moves v)) → AreInOrder v.state.threads
+pub counted_more : (moves : Bool) (nodes : List NodeView) (i total count : ℕ) (v : NodeView) → HasCounted moves nodes i total → slice_get nodes i ≡ Some v → IsCapped count (length (acts_by moves v))
     → HasCounted moves nodes (i + 1) (min (total + count) (2 ^ 64 - 1))
-counted_more moves nodes i total count v h at capped ordered = record {
-  number = h.number + length (acts_in moves v);
-  capped = capped_sum total count h.number (length (acts_in moves v)) h.capped capped;
-  all = (let e = ap (λ (xs : List (ℕ × Act)). length xs) (left_of moves nodes i v at) ∙ length-append (acts_in moves v) (flat_map (acts_in moves) (drop (i + 1) nodes)) in let a = h.all in omega (arith, e, a));
-  ordered = so;
+counted_more moves nodes i total count v h at capped = record {
+  number = h.number + length (acts_by moves v);
+  capped = capped_sum total count h.number (length (acts_by moves v)) h.capped capped;
+  all = (let e = ap (λ (xs : List (ℕ × Act)). length xs) (left_of moves nodes i v at) ∙ length-append (acts_by moves v) (flat_map (acts_by moves) (drop (i + 1) nodes)) in let a = h.all in omega (arith, e, a));
 }
-  where
-    so : (n : ℕ) (w : NodeView) → n < i + 1 → slice_get nodes n ≡ Some w → AreInOrder w.state.threads
-    so n w l g = by (nat_lt n i) refl
-      where
-        by : (b : Bool) → nat_lt n i ≡ b → AreInOrder w.state.threads
-        by true e = h.ordered n w (ltb-true n i e) g
-        by false e =
-            let same : n ≡ i = (let f = ltb-false n i e in omega (arith, l, f)) in
-            let one : Some v ≡ Some w = sym at ∙ ap (slice_get nodes) (sym same) ∙ g in
-            let it : v ≡ w = cc one in
-            subst (λ (z : NodeView). AreInOrder z.state.threads) it ordered
 
 pub none_counted : (moves : Bool) (nodes : List NodeView) → HasCounted moves nodes 0 0
-none_counted moves nodes = record { number = 0; capped = capped_small 0 (omega arith); all = omega arith; ordered = λ n v l g. absurd (omega (arith, l)) }
+none_counted moves nodes = record { number = 0; capped = capped_small 0 (omega arith); all = omega arith }
 
-pub counted_all : (moves : Bool) (nodes : List NodeView) (i total : ℕ) → HasCounted moves nodes i total → length nodes ≤ i → IsCapped total (length (flat_map (acts_in moves) nodes))
+pub counted_all : (moves : Bool) (nodes : List NodeView) (i total : ℕ) → HasCounted moves nodes i total → length nodes ≤ i → IsCapped total (length (flat_map (acts_by moves) nodes))
 counted_all moves nodes i total h l =
-    let e = ap (λ (vs : List NodeView). length (flat_map (acts_in moves) vs)) (drop_all i nodes l) in
+    let e = ap (λ (vs : List NodeView). length (flat_map (acts_by moves) vs)) (drop_all i nodes l) in
     let a = h.all in
     let c = h.capped in
     omega (arith, e, a, c)
 
-pub found_here : (moves : Bool) (nodes : List NodeView) (i left count : ℕ) (v : NodeView) (it found : Option (ℕ × Act)) → slice_get nodes i ≡ Some v → IsCapped count (length (acts_in moves v)) → left < count
-    → found ≡ slice_get (acts_in moves v) left → slice_get (flat_map (acts_in moves) (drop i nodes)) left ≡ it → found ≡ it
+pub found_here : (moves : Bool) (nodes : List NodeView) (i left count : ℕ) (v : NodeView) (it found : Option (ℕ × Act)) → slice_get nodes i ≡ Some v → IsCapped count (length (acts_by moves v)) → left < count
+    → found ≡ slice_get (acts_by moves v) left → slice_get (flat_map (acts_by moves) (drop i nodes)) left ≡ it → found ≡ it
 found_here moves nodes i left count v it found at capped l f k =
-    f ∙ sym (ap (λ xs. slice_get xs left) (left_of moves nodes i v at) ∙ in_first (acts_in moves v) _ left (below_cap count (length (acts_in moves v)) left capped l)) ∙ k
+    f ∙ sym (ap (λ xs. slice_get xs left) (left_of moves nodes i v at) ∙ in_first (acts_by moves v) _ left (below_cap count (length (acts_by moves v)) left capped l)) ∙ k
 
-pub found_later : (moves : Bool) (nodes : List NodeView) (i left count : ℕ) (v : NodeView) (it : Option (ℕ × Act)) → slice_get nodes i ≡ Some v → IsCapped count (length (acts_in moves v)) → count ≤ left → left < 2 ^ 32
-    → slice_get (flat_map (acts_in moves) (drop i nodes)) left ≡ it → slice_get (flat_map (acts_in moves) (drop (i + 1) nodes)) (left - count) ≡ it
+pub found_later : (moves : Bool) (nodes : List NodeView) (i left count : ℕ) (v : NodeView) (it : Option (ℕ × Act)) → slice_get nodes i ≡ Some v → IsCapped count (length (acts_by moves v)) → count ≤ left → left < 2 ^ 32
+    → slice_get (flat_map (acts_by moves) (drop i nodes)) left ≡ it → slice_get (flat_map (acts_by moves) (drop (i + 1) nodes)) (left - count) ≡ it
 found_later moves nodes i left count v it at capped l s k =
-    let e = past_cap count (length (acts_in moves v)) left capped l s in
-    ap (λ z. slice_get (flat_map (acts_in moves) (drop (i + 1) nodes)) (left - z)) e
-    ∙ sym (ap (λ xs. slice_get xs left) (left_of moves nodes i v at) ∙ in_second (acts_in moves v) _ left (omega (arith, e, l))) ∙ k
+    let e = past_cap count (length (acts_by moves v)) left capped l s in
+    ap (λ z. slice_get (flat_map (acts_by moves) (drop (i + 1) nodes)) (left - z)) e
+    ∙ sym (ap (λ xs. slice_get xs left) (left_of moves nodes i v at) ∙ in_second (acts_by moves v) _ left (omega (arith, e, l))) ∙ k
 
 -- a word is chosen by the capped number as by the number itself
 pub word_same : (total number word : ℕ) → IsCapped total number → word < 2 ^ 32 → word % total ≡ word % number

@@ -1,5 +1,5 @@
 -- An act that a node can do is done.
-use Rattle.std.proofs.Common.{◌≡◌, ℕ, ◌<◌, List, [], ◌++◌, length, Some, None, true, false, cond, eqb, refl, sym, ap, ◌∙◌, subst}
+use Rattle.std.proofs.Common.{◌≡◌, ℕ, ◌<◌, List, [], ◌++◌, length, Option, Some, None, is_some, true, false, cond, eqb, refl, sym, ap, ◌∙◌, subst}
 use Rattle.std.specs.Prelude.{nat_lt, nat_le, ◌&&◌, not, slice_get}
 use Rattle.std.specs.Map.{lookup}
 use Rattle.std.proofs.lemmas.Bool.{lt-ltb, le-leb, ne_eqb}
@@ -7,27 +7,25 @@ use Rattle.slot_space.specs.declared.names.Tid.{Tid}
 use Rattle.run_trace.specs.declared.entry.Act.{Act}
 use Rattle.run_trace.specs.declared.entry.Act.TheVariants.{Boot, Run, Take, Move}
 use Rattle.run_trace.specs.declared.entry.Entry.{Entry}
-use Rattle.run_trace.specs.declared.node.ReadyRow.{ReadyRow}
 use Rattle.run_trace.specs.declared.packet.Packet.{Packet}
 use Rattle.run_trace.specs.Names.{is_tid}
-use Rattle.run_trace.specs.Program.{Program, nodes_of, processors_of, quantum_limit}
-use Rattle.run_trace.specs.RunLists.{is_listed}
+use Rattle.run_trace.specs.Program.{Program, nodes_of, processors_of, quantum_limit, tree_of}
+use Rattle.levels.specs.Trees.{Tree}
+use Rattle.levels.specs.Choice.{has_ready}
+use Rattle.run_trace.specs.Bubbles.{is_listed}
 use Rattle.run_trace.specs.Local.{Local}
-use Rattle.run_trace.specs.Machine.{local_event, turn_event, is_range, acts, run_picked, run_found, moves_found}
+use Rattle.run_trace.specs.Machine.{local_event, turn_event, is_range, acts, moves_found}
 use Rattle.run_trace.specs.Cluster.{Net}
 use Rattle.run_trace.specs.Rules.{spots_of}
 use Rattle.run_trace.specs.Spots.{Spots, at_first}
 use Rattle.run_trace.specs.Stands.{Stands}
-use Rattle.trace_laws.proofs.Lemmas.{picked_there, some_pick, listed_there, stands_after}
+use Rattle.trace_laws.proofs.Lemmas.{listed_there, run_there, stands_after, tree_there}
 use Rattle.wires.specs.Ends.{known_from}
 use Rattle.node_loop.specs.View.{NodeView, raised}
 use Rattle.node_loop.specs.Turns.{IsActInRange, IsImpossible, Turns, can}
 use Rattle.node_loop.specs.declared.node.Turned.TheVariants.{Idle}
 use Rattle.cluster.specs.Standing.{StandsFor, IsNodeOf, net_after}
 use Rattle.cluster.specs.View.{ClusterView}
-
-some_rows : (rows : List ReadyRow) → nat_lt 0 (length rows) ≡ true → rows ≡ [] → ⊥
-some_rows rows l e = let none : nat_lt 0 (length rows) ≡ false = ap (λ (xs : List ReadyRow). nat_lt 0 (length xs)) e in cc (l, none)
 
 none_known : (ps : List Packet) → nat_lt 0 (length ps) ≡ true → ps ≡ [] → ⊥
 none_known ps l e = let none : nat_lt 0 (length ps) ≡ false = ap (λ (qs : List Packet). nat_lt 0 (length qs)) e in cc (l, none)
@@ -60,19 +58,17 @@ module _ (c : ClusterView) (before kept : List Entry) (s : StandsFor c before ke
   booted : (net.nodes n).booted ≡ true
   booted = ap (λ (z : Local). z.booted) is_node.state ∙ is_node.booted
 
-  runs_some : (vp quantum : ℕ) → IsActInRange p n (Run vp quantum) → nat_lt 0 (length (net.nodes n).run_lists.rows) ≡ true → local_event p n (net.nodes n) (Run vp quantum) None ≡ None → ⊥
+  runs_some : (vp quantum : ℕ) → IsActInRange p n (Run vp quantum) → has_ready (net.nodes n).forest.lists.tree vp (net.nodes n).forest.lists.rows ≡ true
+      → local_event p n (net.nodes n) (Run vp quantum) None ≡ None → ⊥
   unfolding local_event is_range
   runs_some vp quantum r l e =
-      let b = some_pick p w net stands n vp (some_rows (net.nodes n).run_lists.rows l) in
-      let t = picked_there p w net stands n vp b.0 b.1 in
+      let ready : has_ready (tree_of p) vp (net.nodes n).forest.lists.rows ≡ true = ap (λ (z : Tree). has_ready z vp (net.nodes n).forest.lists.rows) (sym (tree_there p w net stands n)) ∙ l in
+      let d = run_there p w net stands n vp quantum r.0 ready in
       let range : (nat_lt n (nodes_of p) && ((net.nodes n).booted && (nat_lt vp (processors_of p) && (nat_lt 0 quantum && nat_le quantum quantum_limit)))) ≡ true =
       rw (lt-ltb n (nodes_of p) inside, booted, lt-ltb vp (processors_of p) r.0, lt-ltb 0 quantum r.1, le-leb quantum quantum_limit r.2) refl in
-      let picked : local_event p n (net.nodes n) (Run vp quantum) None ≡ run_found p n vp quantum b.0.tid (lookup (is_tid b.0.tid) (net.nodes n).threads) (net.nodes n) =
-      ap (λ z. cond z (acts p n (net.nodes n) (Run vp quantum) None) None) range ∙ ap (λ o. run_picked p n vp quantum o (net.nodes n)) b.1 in
-      let found = ap (λ o. run_found p n vp quantum b.0.tid o (net.nodes n)) t.1 in
-      cc (sym e ∙ picked ∙ found)
+      cc (sym e ∙ ap (λ z. cond z (acts p n (net.nodes n) (Run vp quantum) None) None) range ∙ d.1)
 
-  moves_some : (t : Tid) (to : ℕ) → IsActInRange p n (Move t to) → is_listed t (net.nodes n).run_lists.rows ≡ true → local_event p n (net.nodes n) (Move t to) None ≡ None → ⊥
+  moves_some : (t : Tid) (to : ℕ) → IsActInRange p n (Move t to) → is_listed t (net.nodes n).forest ≡ true → local_event p n (net.nodes n) (Move t to) None ≡ None → ⊥
   unfolding local_event is_range
   moves_some t to r l e =
       let x = listed_there p w net stands n t l in
@@ -85,9 +81,11 @@ module _ (c : ClusterView) (before kept : List Entry) (s : StandsFor c before ke
 
   possible : (act : Act) → IsActInRange p n act → can v act ≡ true → IsImpossible v act → ⊥
   possible Boot r b i = cc b
-  possible (Run vp quantum) r b i = runs_some vp quantum r (ap (λ (z : Local). nat_lt 0 (length z.run_lists.rows)) is_node.state ∙ b) (as_told (Run vp quantum) i)
+  possible (Run vp quantum) r b i = runs_some vp quantum r
+      (ap (λ (z : Local). has_ready z.forest.lists.tree vp z.forest.lists.rows) is_node.state ∙ b)
+      (as_told (Run vp quantum) i)
   possible (Take from) r b i = none_known (known_from v.ends from) b i
-  possible (Move t to) r b i = moves_some t to r (ap (λ (z : Local). is_listed t z.run_lists.rows) is_node.state ∙ b) (as_told (Move t to) i)
+  possible (Move t to) r b i = moves_some t to r (ap (λ (z : Local). is_listed t z.forest) is_node.state ∙ b) (as_told (Move t to) i)
 
   -- it is the same after the clock was raised
   raised_too : (clock : ℕ) (act : Act) → IsImpossible (raised clock v) act → IsImpossible v act

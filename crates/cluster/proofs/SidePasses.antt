@@ -1,19 +1,20 @@
 -- What each node did in its round, and its stamps, in the words of the trace.
-use Rattle.std.proofs.Common.{◌≡◌, ℕ, suc, ◌+◌, ◌<◌, ◌≤◌, inl, inr, max, List, [], ◌∷◌, ◌++◌, length, map, filter, None, Bool, true, false, cond, eqb, is_some, refl, sym, ap, ◌∙◌, subst, arith, append_assoc}
+use Rattle.std.proofs.Common.{◌≡◌, ℕ, suc, ◌+◌, ◌<◌, ◌≤◌, inl, inr, max, List, [], ◌∷◌, ◌++◌, length, map, filter, Option, Some, None, Bool, true, false, cond, eqb, is_some, refl, sym, ap, ◌∙◌, subst, arith, append_assoc}
 use Rattle.std.specs.Prelude.{◌&&◌, nat_lt, nat_le, flat_map}
-use Rattle.std.proofs.lemmas.Bool.{eq-eqb, lt-ltb, le-leb}
+use Rattle.std.proofs.lemmas.Bool.{eq-eqb, lt-ltb, le-leb, le-ltb}
+use Rattle.std.proofs.Math.Path.{fun_ext}
 use Rattle.std.proofs.Math.Nat.{le-max_left, max-eq_right}
 use Rattle.slot_space.specs.Sets.{run}
 use Rattle.run_trace.specs.declared.entry.Act.{Act}
 use Rattle.run_trace.specs.declared.entry.Act.TheVariants.{Boot, Run, Take, Move}
 use Rattle.run_trace.specs.declared.entry.Entry.{Entry}
-use Rattle.run_trace.specs.declared.node.ReadyRow.{ReadyRow}
 use Rattle.run_trace.specs.Cluster as net_specs
 use Rattle.run_trace.specs.Cluster.{Net, Runs, fresh_net, next_packet, state}
 use Rattle.run_trace.specs.Histories.{IsHistory, IsStamped, Turn, clock, seen, turn_state}
-use Rattle.run_trace.specs.Local.{Local}
-use Rattle.run_trace.specs.Machine.{local_event, is_range, acts, run_picked, run_found}
-use Rattle.run_trace.specs.RunLists.{best_on}
+use Rattle.run_trace.specs.Local.{Local, EventSoFar, nothing, fresh}
+use Rattle.run_trace.specs.Machine.{local_event, is_range, acts, chooses, choice_limit}
+use Rattle.levels.specs.Trees.{Tree}
+use Rattle.levels.specs.Choice.{has_ready}
 use Rattle.run_trace.specs.Program.{Program, nodes_of, processors_of, quantum_limit, tree_of}
 use Rattle.run_trace.specs.Rules.{spots_of}
 use Rattle.run_trace.specs.Spots.{Spots, at_first}
@@ -23,7 +24,7 @@ use Rattle.run_trace.specs.Trace.{IsRun}
 use Rattle.run_trace.specs.World.{World}
 use Rattle.trace_laws.specs.Obeys.{world_at}
 use Rattle.trace_laws.specs.Gathers.{Gathers, events_in, own_turns}
-use Rattle.trace_laws.proofs.Lemmas.{gathered, gathers_state, own_events, determined, node_is, run_inside, some_pick, picked_there, starts, told_after, stands_after}
+use Rattle.trace_laws.proofs.Lemmas.{gathered, gathers_state, own_events, determined, node_is, run_inside, choice_ready, run_there, tree_there, starts, told_after, stands_after}
 use Rattle.basics.proofs.Lemmas.{by_less}
 use Rattle.node_loop.specs.Passes.{HasTake, IsRound, Moment, acts_in, first_pass, ready_after}
 use Rattle.node_loop.specs.Rounds.{AreInRound, can_run, moments_in}
@@ -42,42 +43,52 @@ use Rattle.cluster.proofs.NodeTurns.{AreInRange, ranges, stamped_above}
 use Rattle.cluster.proofs.Runs.{net_joined}
 use Rattle.cluster.proofs.SideRuns as side
 
--- ## A thread can run where one is on the run list
+-- ## A processor can run a thread where it has a pick
 
-picks : (p : Program) (n : ℕ) (s : Local) → n < nodes_of p → s.booted ≡ true → 0 < p.setup.quantum → p.setup.quantum ≤ quantum_limit
-    → local_event p n s (Run 0 p.setup.quantum) None ≡ run_picked p n 0 p.setup.quantum (best_on (tree_of p) 0 s.run_lists.rows) s
+picks : (p : Program) (n vp : ℕ) (s : Local) → n < nodes_of p → s.booted ≡ true → vp < processors_of p → 0 < p.setup.quantum → p.setup.quantum ≤ quantum_limit
+    → local_event p n s (Run vp p.setup.quantum) None ≡ chooses p n vp p.setup.quantum (choice_limit s.forest) (nothing s)
 unfolding local_event is_range
-picks p n s l b q m =
-    let range : (nat_lt n (nodes_of p) && (s.booted && (nat_lt 0 (processors_of p) && (nat_lt 0 p.setup.quantum && nat_le p.setup.quantum quantum_limit)))) ≡ true =
-    rw (lt-ltb n (nodes_of p) l, b, lt-ltb 0 (processors_of p) (omega arith), lt-ltb 0 p.setup.quantum q, le-leb p.setup.quantum quantum_limit m) refl in
-    ap (λ z. cond z (acts p n s (Run 0 p.setup.quantum) None) None) range
+picks p n vp s l b v q m =
+    let range : (nat_lt n (nodes_of p) && (s.booted && (nat_lt vp (processors_of p) && (nat_lt 0 p.setup.quantum && nat_le p.setup.quantum quantum_limit)))) ≡ true =
+    rw (lt-ltb n (nodes_of p) l, b, lt-ltb vp (processors_of p) v, lt-ltb 0 p.setup.quantum q, le-leb p.setup.quantum quantum_limit m) refl in
+    ap (λ z. cond z (acts p n s (Run vp p.setup.quantum) None) None) range
+
+-- no other number is a processor
+no_processor : (p : Program) (n vp : ℕ) (s : Local) → n < nodes_of p → s.booted ≡ true → processors_of p ≤ vp → local_event p n s (Run vp p.setup.quantum) None ≡ None
+unfolding local_event is_range
+no_processor p n vp s l b past =
+    let range : (nat_lt n (nodes_of p) && (s.booted && (nat_lt vp (processors_of p) && (nat_lt 0 p.setup.quantum && nat_le p.setup.quantum quantum_limit)))) ≡ false =
+    rw (lt-ltb n (nodes_of p) l, b, le-ltb vp (processors_of p) past) refl in
+    ap (λ z. cond z (acts p n s (Run vp p.setup.quantum) None) None) range
 
 pub runs_listed : (p : Program) (xs : List Entry) → IsRun p (fresh_net p) xs → (n : ℕ) → n < nodes_of p → ((net_after p xs).nodes n).booted ≡ true → 0 < p.setup.quantum → p.setup.quantum ≤ quantum_limit
-    → can_run p n ((net_after p xs).nodes n) ≡ has_pick (net_after p xs) n
-runs_listed p xs r n l b q m = by s.run_lists.rows refl
+    → can_run p n ((net_after p xs).nodes n) ≡ (λ vp. has_pick p (net_after p xs) n vp)
+runs_listed p xs r n l b q m = fun_ext (λ vp. by_less vp (processors_of p) (one vp) (none vp))
   where
-    net : Net
-    net = net_after p xs
-
     s : Local
     s = (net_after p xs).nodes n
-
-    w : Spots
-    w = spots_of p (at_first p) xs
 
     stands : Stands p (spots_of p (at_first p) xs) (net_after p xs)
     stands = stands_after p xs r
 
-    picked : local_event p n s (Run 0 p.setup.quantum) None ≡ run_picked p n 0 p.setup.quantum (best_on (tree_of p) 0 s.run_lists.rows) s
-    picked = picks p n s l b q m
+    none : (vp : ℕ) → processors_of p ≤ vp → can_run p n s vp ≡ has_pick p (net_after p xs) n vp
+    none vp past = ap is_some (no_processor p n vp s l b past) ∙ sym (ap (λ z. z && has_ready s.forest.lists.tree vp s.forest.lists.rows) (le-ltb vp (processors_of p) past))
 
-    by : (rows : List ReadyRow) → s.run_lists.rows ≡ rows → can_run p n s ≡ nat_lt 0 (length s.run_lists.rows)
-    by [] e = ap is_some (picked ∙ ap (λ rs. run_picked p n 0 p.setup.quantum (best_on (tree_of p) 0 rs) s) e) ∙ ap (λ (rs : List ReadyRow). nat_lt 0 (length rs)) (sym e)
-    by (row ∷ rows) e =
-        let pick = some_pick p (spots_of p (at_first p) xs) (net_after p xs) stands n 0 (λ none. (let bad : row ∷ rows ≡ [] = sym e ∙ none in cc bad)) in
-        let there = picked_there p (spots_of p (at_first p) xs) (net_after p xs) stands n 0 pick.0 pick.1 in
-        ap is_some (picked ∙ ap (λ o. run_picked p n 0 p.setup.quantum o s) pick.1 ∙ ap (λ o. run_found p n 0 p.setup.quantum pick.0.tid o s) there.1)
-        ∙ sym (lt-ltb 0 (length (row ∷ rows)) (omega arith)) ∙ ap (λ (rs : List ReadyRow). nat_lt 0 (length rs)) (sym e)
+    one : (vp : ℕ) → vp < processors_of p → can_run p n s vp ≡ has_pick p (net_after p xs) n vp
+    one vp v = by (has_ready s.forest.lists.tree vp s.forest.lists.rows) refl ∙ sym (ap (λ z. z && has_ready s.forest.lists.tree vp s.forest.lists.rows) (lt-ltb vp (processors_of p) v))
+      where
+        event : local_event p n s (Run vp p.setup.quantum) None ≡ chooses p n vp p.setup.quantum (choice_limit s.forest) (nothing s)
+        event = picks p n vp s l b v q m
+
+        none_runs : (o : Option EventSoFar) → chooses p n vp p.setup.quantum (choice_limit s.forest) (nothing s) ≡ o → has_ready s.forest.lists.tree vp s.forest.lists.rows ≡ false → is_some o ≡ false
+        none_runs None h e = refl
+        none_runs (Some d) h e = absurd (cc (choice_ready p n vp p.setup.quantum (choice_limit s.forest) (nothing s) d h, e))
+
+        by : (o : Bool) → has_ready s.forest.lists.tree vp s.forest.lists.rows ≡ o → can_run p n s vp ≡ has_ready s.forest.lists.tree vp s.forest.lists.rows
+        by false e = ap is_some event ∙ none_runs (chooses p n vp p.setup.quantum (choice_limit s.forest) (nothing s)) refl e ∙ sym e
+        by true e =
+            let ready : has_ready (tree_of p) vp s.forest.lists.rows ≡ true = ap (λ (z : Tree). has_ready z vp s.forest.lists.rows) (sym (tree_there p (spots_of p (at_first p) xs) (net_after p xs) stands n)) ∙ e in
+            ap is_some (event ∙ (run_there p (spots_of p (at_first p) xs) (net_after p xs) stands n vp p.setup.quantum v ready).1) ∙ sym e
 
 -- a node that has begun stays so
 begun_more : (p : Program) (w : World) (old new : List Entry) (n : ℕ) → (world_of p w old).begun n ≡ true → (world_of p w (new ++ old)).begun n ≡ true
@@ -167,7 +178,7 @@ module _ (c : ClusterView) (before kept : List Entry) (s : StandsFor c before ke
         ap (λ (z : Net). z.nodes n) net_here ∙ node_is p net (events_in ts) n ∙ ap (state p n (net.nodes n)) (own_events n ts)
         ∙ sym (gathers_state p net top (λ k. top) turns g later ts part n)
 
-    ready_here : (n : ℕ) → n < nodes_of p → has_pick (net_after p (entries_in ts ++ trace)) n ≡ can_run p n (turn_state p n (net.nodes n) (own_turns n ts))
+    ready_here : (n : ℕ) → n < nodes_of p → (λ vp. has_pick p (net_after p (entries_in ts ++ trace)) n vp) ≡ can_run p n (turn_state p n (net.nodes n) (own_turns n ts))
     ready_here n l =
         let o = (side.at_node c before kept s nodes h n).here l in
         let i : IsNodeOf c trace n o.v = s.agrees.node n o.v o.was in
@@ -182,11 +193,11 @@ module _ (c : ClusterView) (before kept : List Entry) (s : StandsFor c before ke
   moments_are n l later [] part = refl
   moments_are n l later (t ∷ ts) part = by (eqb t.event.node n) refl (moments_are n l (later ++ t ∷ []) ts (more later t ts part))
     where
-      ready : has_pick (net_after p (entries_in (t ∷ ts) ++ trace)) n ≡ can_run p n (turn_state p n (net.nodes n) (own_turns n (t ∷ ts)))
+      ready : (λ vp. has_pick p (net_after p (entries_in (t ∷ ts) ++ trace)) n vp) ≡ can_run p n (turn_state p n (net.nodes n) (own_turns n (t ∷ ts)))
       ready = ready_here later (t ∷ ts) part n l
 
       by : (b : Bool) → eqb t.event.node n ≡ b → moments_of p n trace (entries_in ts) ≡ moments_in p n (net.nodes n) (own_turns n ts)
-          → cond b ((record { act = t.event.act; ready = has_pick (net_after p (entries_in (t ∷ ts) ++ trace)) n }) ∷ moments_of p n trace (entries_in ts)) (moments_of p n trace (entries_in ts))
+          → cond b ((record { act = t.event.act; ready = λ vp. has_pick p (net_after p (entries_in (t ∷ ts) ++ trace)) n vp }) ∷ moments_of p n trace (entries_in ts)) (moments_of p n trace (entries_in ts))
           ≡ moments_in p n (net.nodes n) (cond b (t ∷ own_turns n ts) (own_turns n ts))
       by true e rest =
           ap (λ z. (record { act = t.event.act; ready = z }) ∷ moments_of p n trace (entries_in ts)) (ready ∙ ap (λ z. can_run p n (turn_state p n (net.nodes n) (cond z (t ∷ own_turns n ts) (own_turns n ts)))) e)
@@ -201,18 +212,20 @@ module _ (c : ClusterView) (before kept : List Entry) (s : StandsFor c before ke
       let acts_are : moments_in o.v.program o.v.me o.v.state (each n) ≡ moments_of p n trace (entries_in turns) =
       ap (λ (q : Program). moments_in q o.v.me o.v.state (each n)) i.program ∙ ap (λ m. moments_in p m o.v.state (each n)) i.me ∙ ap (λ (z : Local). moments_in p n z (each n)) (sym i.state) ∙ sym own in
       let begun : (net.nodes n).booted ≡ true = ap (λ (z : Local). z.booted) i.state ∙ i.booted in
-      let ready : can_run o.v.program o.v.me o.v.state ≡ has_pick net n =
+      let ready : can_run o.v.program o.v.me o.v.state ≡ (λ vp. has_pick p net n vp) =
       ap (λ (q : Program). can_run q o.v.me o.v.state) i.program ∙ ap (λ m. can_run p m o.v.state) i.me ∙ ap (λ (z : Local). can_run p n z) (sym i.state)
       ∙ runs_listed p trace s.agrees.legal.runs n l begun s.agrees.some_quantum s.agrees.bounded_quantum in
-      let r : IsRound (nodes_of p) p.setup.quantum acts_in_round (has_pick net n) (λ k. can o.v (Take k)) (moments_of p n trace (entries_in turns)) =
-      subst (λ ms. IsRound (nodes_of p) p.setup.quantum acts_in_round (has_pick net n) (λ k. can o.v (Take k)) ms) acts_are
-      (subst (λ b. IsRound (nodes_of p) p.setup.quantum acts_in_round b (λ k. can o.v (Take k)) (moments_in o.v.program o.v.me o.v.state (each n))) ready
-      (subst (λ (q : Program). IsRound (nodes_of q) q.setup.quantum acts_in_round (can_run o.v.program o.v.me o.v.state) (λ k. can o.v (Take k)) (moments_in o.v.program o.v.me o.v.state (each n))) i.program o.passes)) in
+      let r : IsRound (nodes_of p) (processors_of p) p.setup.quantum acts_in_round (λ vp. has_pick p net n vp) (λ k. can o.v (Take k)) (moments_of p n trace (entries_in turns)) =
+      subst (λ ms. IsRound (nodes_of p) (processors_of p) p.setup.quantum acts_in_round (λ vp. has_pick p net n vp) (λ k. can o.v (Take k)) ms) acts_are
+      (subst (λ b. IsRound (nodes_of p) (processors_of p) p.setup.quantum acts_in_round b (λ k. can o.v (Take k)) (moments_in o.v.program o.v.me o.v.state (each n))) ready
+      (subst (λ (q : Program). IsRound (nodes_of q) (processors_of q) q.setup.quantum acts_in_round (can_run o.v.program o.v.me o.v.state) (λ k. can o.v (Take k)) (moments_in o.v.program o.v.me o.v.state (each n))) i.program o.passes)) in
       record {
         passes = r.passes;
         last = r.last;
+        reach = r.reach;
         whole = r.whole;
         each = r.each;
+        within = r.within;
         cut = r.cut;
         few = r.few;
         ends = r.ends;
@@ -258,12 +271,17 @@ module _ (c : ClusterView) (before kept : List Entry) (s : StandsFor c before ke
   none_taken k [] e t = t
   none_taken k (x ∷ xs) e t = absurd (cc e)
 
-  nothing_here : entries_in turns ≡ [] → (n : ℕ) → n < nodes_of p → (has_pick net n ≡ false) × ((i : ℕ) → i < nodes_of p → holds (net.links i n) ≡ false)
+  nothing_here : entries_in turns ≡ [] → (n : ℕ) → n < nodes_of p → ((vp : ℕ) → has_pick p net n vp ≡ false) × ((i : ℕ) → i < nodes_of p → holds (net.links i n) ≡ false)
   nothing_here none n l =
       let r : GoesInPasses p n trace (entries_in turns) = goes_in_passes n l in
       let empty : moments_of p n trace (entries_in turns) ≡ [] = ap (moments_of p n trace) none in
       let long : length (moments_of p n trace (entries_in turns)) ≡ 0 = ap length empty in (
-        elim r.ends as (λ z. has_pick net n ≡ false) [ inl e ↦ absurd (omega (arith, e, long)) | inr e ↦ ap (ready_after (has_pick net n)) (sym empty) ∙ e.1 ],
+        λ vp. by_less vp (processors_of p)
+            (λ below. elim r.ends as (λ z. has_pick p net n vp ≡ false) [
+              | inl e ↦ absurd (omega (arith, e, long))
+              | inr e ↦ ap (λ ms. ready_after (λ vp. has_pick p net n vp) ms vp) (sym empty) ∙ e.1 vp below
+            ])
+            (λ past. ap (λ z. z && has_ready (net.nodes n).forest.lists.tree vp (net.nodes n).forest.lists.rows) (le-ltb vp (processors_of p) past)),
         λ i m. by_test (holds (net.links i n)) (λ held. elim (r.first i m held) as (λ z. ⊥) [
           | inl t ↦ none_taken i (first_pass r.last r.passes) (first_none r.last r.passes (sym r.whole ∙ empty)) t
           | inr e ↦ (let f : length (first_pass r.last r.passes) ≡ 0 = ap length (first_none r.last r.passes (sym r.whole ∙ empty)) in omega (arith, e, f))
@@ -286,14 +304,21 @@ module _ (c : ClusterView) (before kept : List Entry) (s : StandsFor c before ke
   no_acts : entries_in turns ≡ [] → (n : ℕ) → acts_of false p net n ≡ []
   no_acts none n = by_less n (nodes_of p)
       (λ l. (let k = nothing_here none n l in idle n k.0 (λ i. by_less i (nodes_of p) (λ m. k.1 i m) (λ past. ap holds ((run_inside p trace s.agrees.legal.runs).links i n (inl past))))))
-      (λ past. idle n (ap (λ (z : Local). nat_lt 0 (length z.run_lists.rows)) ((run_inside p trace s.agrees.legal.runs).nodes n past)) (λ i. ap holds ((run_inside p trace s.agrees.legal.runs).links i n (inr past))))
+      (λ past. idle n (λ vp. no_pick vp (nat_lt vp (processors_of p)) ((run_inside p trace s.agrees.legal.runs).nodes n past)) (λ i. ap holds ((run_inside p trace s.agrees.legal.runs).links i n (inr past))))
     where
-      no_take : (n : ℕ) (xs : List ℕ) → ((i : ℕ) → holds (net.links i n) ≡ false) → map {B = ℕ × Act} (λ i. (n, Take i)) (filter (λ i. holds (net.links i n)) xs) ≡ []
-      no_take n [] k = refl
-      no_take n (x ∷ xs) k = ap (λ b. map {B = ℕ × Act} (λ i. (n, Take i)) (cond b (x ∷ filter (λ i. holds (net.links i n)) xs) (filter (λ i. holds (net.links i n)) xs))) (k x) ∙ no_take n xs k
+      -- a node that is none of these has nobody on its run lists
+      no_pick : (vp : ℕ) (b : Bool) → net.nodes n ≡ fresh p n → (b && has_ready (net.nodes n).forest.lists.tree vp (net.nodes n).forest.lists.rows) ≡ false
+      no_pick vp true e = ap (λ (z : Local). has_ready z.forest.lists.tree vp z.forest.lists.rows) e
+      no_pick vp false e = refl
 
-      idle : (n : ℕ) → has_pick net n ≡ false → ((i : ℕ) → holds (net.links i n) ≡ false) → acts_of false p net n ≡ []
-      idle n r k = ap (λ b. cond b (map {B = ℕ × Act} (λ vp. (n, Run vp p.setup.quantum)) (run 0 (processors_of p))) [] ++ (takes_of p net n ++ [])) r ∙ ap (λ xs. xs ++ []) (no_take n (run 0 (nodes_of p)) k)
+      none_of : (act : ℕ → ℕ × Act) (test : ℕ → Bool) (xs : List ℕ) → ((k : ℕ) → test k ≡ false) → map act (filter test xs) ≡ []
+      none_of act test [] k = refl
+      none_of act test (x ∷ xs) k = ap (λ b. map act (cond b (x ∷ filter test xs) (filter test xs))) (k x) ∙ none_of act test xs k
+
+      idle : (n : ℕ) → ((vp : ℕ) → has_pick p net n vp ≡ false) → ((i : ℕ) → holds (net.links i n) ≡ false) → acts_of false p net n ≡ []
+      idle n r k =
+          ap (λ xs. xs ++ (takes_of p net n ++ [])) (none_of (λ vp. (n, Run vp p.setup.quantum)) (λ vp. has_pick p net n vp) (run 0 (processors_of p)) r)
+          ∙ ap (λ xs. xs ++ []) (none_of (λ i. (n, Take i)) (λ i. holds (net.links i n)) (run 0 (nodes_of p)) k)
 
   pub goes_on : GoesOn p trace → 0 < length (entries_in turns)
   goes_on go = by (entries_in turns) refl

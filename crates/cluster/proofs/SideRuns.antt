@@ -11,7 +11,7 @@ use Rattle.run_trace.specs.Cluster.{Net}
 use Rattle.run_trace.specs.Histories.{IsHistory, Turn, clock, sent_to, taken_from}
 use Rattle.run_trace.specs.Legality.{NoneAbove}
 use Rattle.run_trace.specs.Local.{Local}
-use Rattle.run_trace.specs.Program.{Program, nodes_of}
+use Rattle.run_trace.specs.Program.{Program, nodes_of, processors_of}
 use Rattle.trace_laws.specs.Gathers.{events_in, own_turns}
 use Rattle.wires.specs.declared.ends.Ends.{Ends}
 use Rattle.wires.proofs.Lemmas.{received_on-node, sent_on-node}
@@ -117,7 +117,7 @@ module _ (c : ClusterView) (before kept : List Entry) (s : StandsFor c before ke
     pub now : slice_get nodes n ≡ Some u
     pub is : u ≡ with_ends u.ends w
     pub done : HasDone (raised top v) turns w
-    pub passes : IsRound (nodes_of v.program) v.program.setup.quantum acts_in_round (can_run v.program v.me v.state) (λ i. can v (Take i)) (moments_in v.program v.me v.state turns)
+    pub passes : IsRound (nodes_of v.program) (processors_of v.program) v.program.setup.quantum acts_in_round (can_run v.program v.me v.state) (λ i. can v (Take i)) (moments_in v.program v.me v.state turns)
 
   pub record AtNode (n : ℕ) : Type 0 where
     pub turns : List Turn

@@ -46,9 +46,9 @@ module _ (c : ClusterView) (before kept : List Entry) (s : StandsFor c before ke
   stepped Idle h = absurd (never_idle c before kept s n inside h.node h.was (greatest_clock c.nodes) act h.new range (able h.node h.was) h.turns)
 
   -- what is done was possible
-  pub did_exact : (t : Turned) → HasActed (greatest_clock c.nodes) n act c.rest c.nodes nodes t → (t ≡ Idle) ↔ (is_possible (net_after c.program (kept ++ before)) n act ≡ false)
+  pub did_exact : (t : Turned) → HasActed (greatest_clock c.nodes) n act c.rest c.nodes nodes t → (t ≡ Idle) ↔ (is_possible c.program (net_after c.program (kept ++ before)) n act ≡ false)
   did_exact Did h =
-      let could : can h.node act ≡ is_possible (net_after c.program (kept ++ before)) n act = can_is c before kept s n h.node h.was inside act range in
+      let could : can h.node act ≡ is_possible c.program (net_after c.program (kept ++ before)) n act = can_is c before kept s n h.node h.was inside act range in
       (λ e. absurd (cc e), λ e. absurd (cc (e, could, able h.node h.was)))
   did_exact Idle h = absurd (never_idle c before kept s n inside h.node h.was (greatest_clock c.nodes) act h.new range (able h.node h.was) h.turns)
 
@@ -60,7 +60,7 @@ raised_to c before kept st us clock e k =
 
 -- what isn't done isn't possible
 pub idle_exact : (c : ClusterView) (before kept : List Entry) → StandsFor c before kept → (n : ℕ) → n < nodes_of c.program → (v : NodeView) → slice_get c.nodes n ≡ Some v
-    → (act : Act) → IsActInRange c.program n act → can v act ≡ false → (Idle ≡ Idle) ↔ (is_possible (net_after c.program (kept ++ before)) n act ≡ false)
+    → (act : Act) → IsActInRange c.program n act → can v act ≡ false → (Idle ≡ Idle) ↔ (is_possible c.program (net_after c.program (kept ++ before)) n act ≡ false)
 idle_exact c before kept s n inside v at act range not =
     (λ e. sym (can_is c before kept s n v at inside act range) ∙ not, λ e. refl)
 
@@ -141,8 +141,8 @@ module _ (p : Program) (turns : ℕ) (vs : List NodeView) (rest : List (Ends Pac
       subst (λ z. IsInRange z act) (sym (read_is v.0 v.1)) (ready_for parts st.0 st.1 st.2 n v.0 v.1 (few v.0 v.1) act r).range) s
 
   pub right_idle : (b : Bool) → b ≡ can read act → b ≡ false → (before kept : List Entry) → StandsFor now before kept
-      → (Idle ≡ Idle) ↔ (is_possible (net_after now.program (kept ++ before)) n act ≡ false)
-  right_idle b e not before kept s = by_parts (λ o. StandsFor o before kept → (Idle ≡ Idle) ↔ (is_possible (net_after o.program (kept ++ before)) n act ≡ false))
+      → (Idle ≡ Idle) ↔ (is_possible now.program (net_after now.program (kept ++ before)) n act ≡ false)
+  right_idle b e not before kept s = by_parts (λ o. StandsFor o before kept → (Idle ≡ Idle) ↔ (is_possible o.program (net_after o.program (kept ++ before)) n act ≡ false))
       (λ i r few st.
       let v = some_at vs n (omega (arith, i, st.agrees.count)) in
       idle_exact parts before kept st n i v.0 v.1 act r (ap (λ z. can z act) (sym (read_is v.0 v.1)) ∙ sym e ∙ not)) s
@@ -171,8 +171,8 @@ module _ (p : Program) (turns : ℕ) (vs : List NodeView) (rest : List (Ends Pac
 
   pub right_exact : (b : Bool) → b ≡ can read act → b ≡ true → (us : List NodeView) (rs : List (Ends Packet)) (ws : List NodeView) (t : Turned) (ys : List NodeView) (clock : ℕ)
       → us ≡ vs → rs ≡ rest → ys ≡ vs → clock ≡ min (greatest_clock ys) last_clock → HasActed clock at act rs us ws t
-      → (before kept : List Entry) → StandsFor now before kept → (t ≡ Idle) ↔ (is_possible (net_after now.program (kept ++ before)) n act ≡ false)
-  right_exact b e could us rs ws t ys clock ue re ye k h before kept s = by_parts (λ o. StandsFor o before kept → (t ≡ Idle) ↔ (is_possible (net_after o.program (kept ++ before)) n act ≡ false))
+      → (before kept : List Entry) → StandsFor now before kept → (t ≡ Idle) ↔ (is_possible now.program (net_after now.program (kept ++ before)) n act ≡ false)
+  right_exact b e could us rs ws t ys clock ue re ye k h before kept s = by_parts (λ o. StandsFor o before kept → (t ≡ Idle) ↔ (is_possible o.program (net_after o.program (kept ++ before)) n act ≡ false))
       (λ i r few st. did_exact parts before kept st n i few act r (able b e could) ws t (as_acted us rs ws t clock ue re (raises before kept st ys clock ye k) h)) s
 
   pub right_err : (us ws items : List NodeView) (clock : ℕ) → us ≡ vs → HasFailed clock at us ws → items ≡ ws → (before kept : List Entry) → StandsFor now before kept

@@ -6,9 +6,9 @@ use Rattle.run_trace.specs.declared.entry.Act.{Act}
 use Rattle.run_trace.specs.declared.entry.Act.TheVariants.{Boot, Run, Take, Move}
 use Rattle.run_trace.specs.declared.entry.Entry.{Entry}
 use Rattle.run_trace.specs.declared.packet.Packet.{Packet}
-use Rattle.run_trace.specs.Guests.{unwaiting}
+use Rattle.node_state.specs.Listed.{listed}
 use Rattle.run_trace.specs.Legality.{boot_entries}
-use Rattle.run_trace.specs.Program.{Program, nodes_of}
+use Rattle.run_trace.specs.Program.{Program, nodes_of, processors_of}
 use Rattle.wires.specs.declared.ends.Ends.{Ends}
 use Rattle.wires.specs.declared.link.Link.{Link}
 use Rattle.wires.specs.Link.{IsSettled}
@@ -46,7 +46,7 @@ abbrev pub has_thread : NodeView → Bool
 has_thread v = nat_lt 0 (length v.state.threads)
 
 abbrev pub has_row : NodeView → Bool
-has_row v = nat_lt 0 (length v.state.run_lists.rows)
+has_row v = nat_lt 0 (length v.state.forest.lists.rows)
 
 -- a packet is known of one of these senders
 abbrev pub knows_of : NodeView → List ℕ → Bool
@@ -63,21 +63,28 @@ decided halted packet thread ready =
 
 -- ## The acts of a node
 
-abbrev pub run_by : NodeView → List (ℕ × Act)
-run_by v = if has_row v then (v.me, Run 0 v.program.setup.quantum) ∷ [] else []
+-- those that the node can do, of the acts with these numbers
+abbrev pub acts_from : NodeView → (ℕ → Act) → List ℕ → List (ℕ × Act)
+acts_from v act numbers = map (λ k. (v.me, act k)) (filter (λ k. can v (act k)) numbers)
+
+abbrev pub run_on : NodeView → ℕ → Act
+run_on v vp = Run vp v.program.setup.quantum
+
+abbrev pub runs_by : NodeView → List (ℕ × Act)
+runs_by v = acts_from v (run_on v) (run 0 (processors_of v.program))
 
 abbrev pub takes_from : NodeView → List ℕ → List (ℕ × Act)
-takes_from v senders = map (λ i. (v.me, Take i)) (filter (λ i. can v (Take i)) senders)
+takes_from v senders = acts_from v Take senders
 
 -- moves of a thread of node n to each other one of these nodes
 abbrev pub moves_among : ℕ → Tid → List ℕ → List (ℕ × Act)
 moves_among n t tos = map (λ to. (n, Move t to)) (filter (λ to. not (to == n)) tos)
 
 abbrev pub moves_by : NodeView → List (ℕ × Act)
-moves_by v = flat_map (λ t. moves_among v.me t (run 0 (nodes_of v.program))) (unwaiting v.state.threads)
+moves_by v = flat_map (λ t. moves_among v.me t (run 0 (nodes_of v.program))) (listed v.state)
 
 abbrev pub acts_by : Bool → NodeView → List (ℕ × Act)
-acts_by moves v = run_by v ++ (takes_from v (run 0 (nodes_of v.program)) ++ (if moves then moves_by v else []))
+acts_by moves v = runs_by v ++ (takes_from v (run 0 (nodes_of v.program)) ++ (if moves then moves_by v else []))
 
 -- ## Links
 

@@ -3,7 +3,7 @@ use Rattle.std.specs.Prelude.{◌≡◌, ◌<◌, ◌≤◌, ◌+◌, ⊤, ℕ, 
 use Rattle.run_trace.specs.declared.entry.Entry.{Entry}
 use Rattle.run_trace.specs.Cluster.{next_packet}
 use Rattle.run_trace.specs.Histories.{seen}
-use Rattle.run_trace.specs.Program.{Program, nodes_of}
+use Rattle.run_trace.specs.Program.{Program, nodes_of, processors_of}
 use Rattle.node_loop.specs.Passes.{Moment, IsRound}
 use Rattle.node_loop.specs.View.{NodeView, next_round}
 use Rattle.cluster.specs.Acts.{has_pick, holds}
@@ -21,16 +21,17 @@ round_limit = 1999900
 
 -- ## What each node did
 
--- what node n did in these entries, which come after the old trace, each with whether a thread is on its run list after it
+-- what node n did in these entries, which come after the old trace, each with which of its processors have a pick after it
 abbrev pub moments_of : Program → ℕ → (old new : List Entry) → List Moment
 moments_of p n old [] = []
 moments_of p n old (x ∷ xs) = if x.node == n
-    then (record { act = x.act; ready = has_pick (net_after p (x ∷ (xs ++ old))) n }) ∷ moments_of p n old xs
+    then (record { act = x.act; ready = λ vp. has_pick p (net_after p (x ∷ (xs ++ old))) n vp }) ∷ moments_of p n old xs
     else moments_of p n old xs
 
 -- what the node did falls into passes: each link that held a packet at the round's start has a take in the first
 abbrev pub GoesInPasses : Program → ℕ → (old new : List Entry) → Type 0
-GoesInPasses p n old new = IsRound (nodes_of p) p.setup.quantum acts_in_round (has_pick (net_after p old) n) (λ i. holds ((net_after p old).links i n)) (moments_of p n old new)
+GoesInPasses p n old new =
+    IsRound (nodes_of p) (processors_of p) p.setup.quantum acts_in_round (λ vp. has_pick p (net_after p old) n vp) (λ i. holds ((net_after p old).links i n)) (moments_of p n old new)
 
 -- ## Stamps
 

@@ -4,35 +4,32 @@ ghost use Rattle.std.specs.Prelude.{◌≡◌, ℕ, ◌<◌, ◌^◌, Some, leng
 ghost use Rattle.slot_space.specs.Sets.{run};
 ghost use Rattle.run_trace.specs.Program.{nodes_of};
 ghost use Rattle.node_loop.specs.View.{NodeView};
-ghost use Rattle.node_state.specs.Views.{AreInOrder};
-ghost use Rattle.cluster.specs.Between.{takes_from};
-ghost use Rattle.cluster.specs.Choosing.{IsCapped, acts_in, listed_moves, later_acts, other_at};
+ghost use Rattle.cluster.specs.Between.{acts_by, runs_by, takes_from};
+ghost use Rattle.cluster.specs.Choosing.{IsCapped, listed_moves, later_acts, other_at};
 
 use node_loop::Node;
 use run_trace::{Act, Program};
 use slot_space::NodeNo;
 
 // How many acts the nodes have together.
-pub(crate) fn count_all(nodes: &[Node], count: u8, moves: bool) -> usize
-    requires { (n : ℕ) (v : NodeView) → slice_get nodes.now n ≡ Some v → nodes_of v.program ≡ count }
-    ensures count { IsCapped result (length (flat_map (acts_in moves) nodes.now)) }
-    ensures ordered { (n : ℕ) (v : NodeView) → slice_get nodes.now n ≡ Some v → AreInOrder v.state.threads }
+pub(crate) fn count_all(nodes: &[Node], program: &Program, moves: bool) -> usize
+    requires { (n : ℕ) (v : NodeView) → slice_get nodes.now n ≡ Some v → v.program ≡ program.now }
+    ensures { IsCapped result (length (flat_map (acts_by moves) nodes.now)) }
 {
     let mut total: usize = 0;
     for node in nodes {
-        total = total.saturating_add(count_of(node, count, moves));
+        total = total.saturating_add(count_of(node, program, moves));
     }
     total
 }
 
 // How many acts a node has.
-fn count_of(node: &Node, count: u8, moves: bool) -> usize
-    requires { nodes_of node.now.program ≡ count }
-    ensures count { IsCapped result (length (acts_in moves node.now)) }
-    ensures ordered { AreInOrder node.now.state.threads }
+fn count_of(node: &Node, program: &Program, moves: bool) -> usize
+    requires { node.now.program ≡ program.now }
+    ensures { IsCapped result (length (acts_by moves node.now)) }
 {
-    let _threads = node.threads();
-    let runs = usize::from(node.ready() > 0);
+    let count = program.nodes();
+    let runs = ready_processors(node, program);
     let takes = known_senders(node, count);
     (runs + takes).saturating_add(count_moves(node, count, moves))
 }
@@ -46,7 +43,23 @@ fn count_moves(node: &Node, count: u8, moves: bool) -> usize
         return 0;
     }
     let _own = node.me();
-    node.ready().saturating_mul(usize::from(count - 1))
+    node.listed().saturating_mul(usize::from(count - 1))
+}
+
+// How many processors of a node have a pick.
+fn ready_processors(node: &Node, program: &Program) -> usize
+    requires { node.now.program ≡ program.now }
+    ensures ready { result ≡ length (runs_by node.now) }
+    ensures small { result < 256 }
+{
+    let mut ready = 0;
+    for vp in 0..program.processors() {
+        if !node.has_pick(vp) {
+            continue;
+        }
+        ready += 1;
+    }
+    ready
 }
 
 // Of how many nodes a packet is known.
@@ -74,11 +87,11 @@ pub(crate) fn act_at(
 ) -> Option<(NodeNo, Act)>
     requires programs { (n : ℕ) (v : NodeView) → slice_get nodes.now n ≡ Some v → v.program ≡ program.now }
     requires place { place < 2 ^ 32 }
-    ensures { result ≡ slice_get (flat_map (acts_in moves) nodes.now) place }
+    ensures { result ≡ slice_get (flat_map (acts_by moves) nodes.now) place }
 {
     let mut left = place;
     for node in nodes {
-        let count = count_of(node, program.nodes(), moves);
+        let count = count_of(node, program, moves);
         if left < count {
             return act_of(node, program, moves, left);
         }
@@ -90,16 +103,20 @@ pub(crate) fn act_at(
 // The act of a node at this place.
 fn act_of(node: &Node, program: &Program, moves: bool, place: usize) -> Option<(NodeNo, Act)>
     requires { node.now.program ≡ program.now }
-    ensures { result ≡ slice_get (acts_in moves node.now) place }
+    ensures { result ≡ slice_get (acts_by moves node.now) place }
 {
-    let count = program.nodes();
-    if node.ready() == 0 {
-        return later_act(node, count, moves, place);
+    let quantum = program.setup().quantum;
+    let mut left = place;
+    for vp in 0..program.processors() {
+        if !node.has_pick(vp) {
+            continue;
+        }
+        if left == 0 {
+            return Some((node.me(), Act::Run(vp, quantum)));
+        }
+        left -= 1;
     }
-    if place == 0 {
-        return Some((node.me(), Act::Run(0, program.setup().quantum)));
-    }
-    later_act(node, count, moves, place - 1)
+    later_act(node, program.nodes(), moves, left)
 }
 
 // The act at this place among a node's takes and its moves.

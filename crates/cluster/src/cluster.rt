@@ -98,7 +98,7 @@ impl Cluster {
         requires range { IsActInRange self.old.program node act }
         requires room { HasRoom self.old node }
         ensures steps { (before kept : List Entry) → StandsFor self.old before kept → IfOk result (λ turned. Steps self.old before kept node act self.new turned) }
-        ensures idle { (before kept : List Entry) → StandsFor self.old before kept → IfOk result (λ turned. (turned ≡ Turned.Idle) ↔ (is_possible (net_after self.old.program (kept ++ before)) node act ≡ false)) }
+        ensures idle { (before kept : List Entry) → StandsFor self.old before kept → IfOk result (λ turned. (turned ≡ Turned.Idle) ↔ (is_possible self.old.program (net_after self.old.program (kept ++ before)) node act ≡ false)) }
         ensures err { (before kept : List Entry) → StandsFor self.old before kept → OnErr result (Loses self.old self.new kept) }
     {
         let at = usize::from(node.0);
@@ -157,8 +157,7 @@ impl Cluster {
     pub fn choose(&self, moves: bool, word: u32) -> Option<(NodeNo, Act)>
         ensures { (before kept : List Entry) → StandsFor self.now before kept → (let acts = possible_acts moves self.now.program (net_after self.now.program (kept ++ before)) in result ≡ slice_get acts (word % length acts)) }
     {
-        let count = self.program.nodes();
-        let total = count_all(&self.nodes, count, moves);
+        let total = count_all(&self.nodes, &self.program, moves);
         if total == 0 {
             return None;
         }

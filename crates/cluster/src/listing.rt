@@ -3,7 +3,7 @@
 ghost use Rattle.std.specs.Prelude.{◌≡◌, ◌++◌, OnOk};
 ghost use Rattle.slot_space.specs.Sets.{run};
 ghost use Rattle.run_trace.specs.Program.{nodes_of};
-ghost use Rattle.cluster.specs.Between.{acts_by, moves_by, moves_among, run_by, takes_from};
+ghost use Rattle.cluster.specs.Between.{acts_by, moves_by, moves_among, runs_by, takes_from};
 
 use basics::NoMemory;
 use node_loop::Node;
@@ -20,7 +20,7 @@ pub(crate) fn push_acts(
     requires { node.now.program ≡ program.now }
     ensures { OnOk result (acts.new.items ≡ acts.old.items ++ acts_by moves node.now) }
 {
-    push_run(acts, program, node)?;
+    push_runs(acts, program, node)?;
     let count = program.nodes();
     push_takes(acts, count, node)?;
     if moves {
@@ -29,13 +29,17 @@ pub(crate) fn push_acts(
     Ok(())
 }
 
-// A run, if a thread can be picked.
-fn push_run(acts: &mut Vec<(NodeNo, Act)>, program: &Program, node: &Node) -> Result<(), NoMemory>
+// A run of each processor that has a pick.
+fn push_runs(acts: &mut Vec<(NodeNo, Act)>, program: &Program, node: &Node) -> Result<(), NoMemory>
     requires { node.now.program ≡ program.now }
-    ensures { OnOk result (acts.new.items ≡ acts.old.items ++ run_by node.now) }
+    ensures { OnOk result (acts.new.items ≡ acts.old.items ++ runs_by node.now) }
 {
-    if node.ready() > 0 {
-        acts.push((node.me(), Act::Run(0, program.setup().quantum)))?;
+    let quantum = program.setup().quantum;
+    for vp in 0..program.processors() {
+        if !node.has_pick(vp) {
+            continue;
+        }
+        acts.push((node.me(), Act::Run(vp, quantum)))?;
     }
     Ok(())
 }

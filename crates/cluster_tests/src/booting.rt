@@ -7,6 +7,7 @@ ghost use Rattle.cluster_tests.specs.Walks.{IsWalked};
 
 use basics::{Items, NoMemory};
 use cluster::Cluster;
+use levels::Tree;
 use run_trace::Setup;
 use rv_inst::Image;
 use slot_space::Geometry;
@@ -21,6 +22,7 @@ pub(crate) fn setup(nodes: u8, slots: u16) -> Result<Setup, Fail>
     let geometry = Geometry::new(nodes, slots).ok_or("within the limits")?;
     Ok(Setup {
         geometry,
+        tree: Tree::new(1, None).ok_or("a tree")?,
         quantum: 1000,
     })
 }

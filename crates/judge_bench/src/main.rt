@@ -3,6 +3,7 @@
 #![tactic(auto)]
 
 use anyhow::{Context, Result, bail};
+use levels::Tree;
 use outside::{RealShelf, Shelf};
 use run_judge::judge;
 use run_trace::Setup;
@@ -41,6 +42,7 @@ fn main(rt: HostRuntime) -> Result<()> {
     let slots = slots.as_str().parse::<u16>().context("SLOTS")?;
     let setup = Setup {
         geometry: Geometry::new(nodes, slots).context("NODES and SLOTS")?,
+        tree: Tree::new(1, None).context("a tree")?,
         quantum: quantum.as_str().parse::<u32>().context("QUANTUM")?,
     };
     let source = shelf

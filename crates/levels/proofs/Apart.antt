@@ -22,7 +22,7 @@ is_itself (Bubble b) = eq-eqb b b refl
 is_back : (a b : Entity) → is_entity a b ≡ true → is_entity b a ≡ true
 is_back a b h = ap (λ e. is_entity b e) (is_same a b h) ∙ is_itself b
 
-not_back : (a b : Entity) → is_entity a b ≡ false → is_entity b a ≡ false
+pub not_back : (a b : Entity) → is_entity a b ≡ false → is_entity b a ≡ false
 not_back a b h = elim (is_entity b a) as (λ v. is_entity b a ≡ v → v ≡ false) [ true ↦ λ q. absurd (cc (is_back b a q, h)) | false ↦ λ q. refl ] refl
 
 pub place_added_other : (rows : List Row) (last : Row) (e : Entity) → is_entity last.0 e ≡ false → place_of e (rows ++ last ∷ []) ≡ place_of e rows

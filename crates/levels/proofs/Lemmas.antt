@@ -2,12 +2,14 @@
 use Rattle.std.proofs.Common.{◌≡◌, ◌<◌, ◌≤◌, ℕ, List, [], ◌∷◌, ◌++◌, Some, None, true, false}
 use Rattle.levels.specs.declared.entity.Entity.{Entity}
 use Rattle.levels.specs.declared.entity.Place.{Place}
-use Rattle.levels.specs.Rows.{Row, AreApart, is_entity, place_of, without}
+use Rattle.levels.specs.Rows.{Row, RunLists, AreApart, AreAscending, arrived, is_entity, place_of, taken_off, without}
 use Rattle.levels.specs.Trees.{Tree, processors, depth_of, covers, is_leaf, next_towards}
-use Rattle.levels.specs.Choice.{choice, has_ready}
+use Rattle.levels.specs.Choice.{choice, has_ready, IsChosen}
 use Rattle.levels.proofs.Apart
 use Rattle.levels.proofs.Choosing
+use Rattle.levels.proofs.Order
 use Rattle.levels.proofs.Paths
+pub use Rattle.levels.proofs.Order.{AreRising}
 
 -- ## Entities
 
@@ -18,6 +20,10 @@ is_same = Apart.is_same
 -- an entity is itself
 pub is_itself : (e : Entity) → is_entity e e ≡ true
 is_itself = Apart.is_itself
+
+-- and not another, whichever is asked for the other
+pub not_back : (a b : Entity) → is_entity a b ≡ false → is_entity b a ≡ false
+not_back = Apart.not_back
 
 -- ## Rows that come and go
 
@@ -45,7 +51,21 @@ apart_without = Apart.apart_without
 pub apart_added : (rows : List Row) (last : Row) → AreApart rows → place_of last.0 rows ≡ None → AreApart (rows ++ last ∷ [])
 apart_added = Apart.apart_added
 
+-- ## The order of arrival
+
+-- rows in the order of their arrival stay so where one arrives
+pub rising_arrived : (e : Entity) (list priority : ℕ) (s : RunLists) → AreRising s → AreRising (arrived e list priority s)
+rising_arrived = Order.rising_arrived
+
+-- and where one is taken off
+pub rising_without : (e : Entity) (s : RunLists) → AreRising s → AreRising (taken_off e s)
+rising_without = Order.rising_without
+
 -- ## The choice
+
+-- of rows in the order of their arrival the chosen one is before all others on lists that cover the processor
+pub chosen_is : (tree : Tree) (vp : ℕ) (rows : List Row) (r : Place × Entity) → AreAscending rows → choice tree vp rows ≡ Some r → IsChosen tree vp r rows
+chosen_is = Choosing.chosen_is
 
 -- the chosen entity is found at the chosen place, which is on a list that covers the processor
 pub chosen_place : (tree : Tree) (vp : ℕ) (rows : List Row) (r : Place × Entity) → AreApart rows → choice tree vp rows ≡ Some r → (place_of r.1 rows ≡ Some r.0) × (covers tree vp r.0.list ≡ true)

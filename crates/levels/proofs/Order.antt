@@ -38,18 +38,25 @@ length_without e [] = omega arith
 length_without e (row ∷ rows) =
     elim (is_entity row.0 e) as (λ v. length (cond v rows (row ∷ without e rows)) ≤ length (row ∷ rows)) [ true ↦ omega arith | false ↦ omega (arith, length_without e rows) ]
 
+-- in the order of their arrival, all before the next
+pub record AreRising (s : RunLists) : Type 0 where
+  pub ascending : AreAscending s.rows
+  pub arrived : AreBefore s.next s.rows
+
+pub rising_arrived : (e : Entity) (list priority : ℕ) (s : RunLists) → AreRising s → AreRising (arrived e list priority s)
+rising_arrived e list priority s o =
+    let last : Row = (e, place_at list priority s.next) in
+    record { ascending = ascending_pushed s.rows last o.ascending o.arrived; arrived = before_pushed s.next s.rows last o.arrived refl }
+
+pub rising_without : (e : Entity) (s : RunLists) → AreRising s → AreRising (taken_off e s)
+rising_without e s o = record { ascending = ascending_without e s.rows o.ascending; arrived = before_without s.next e s.rows o.arrived }
+
 pub in_order_arrived : (e : Entity) (list priority : ℕ) (s : RunLists) → AreInOrder s → length s.rows < 2 ^ 32 - 1 → AreInOrder (arrived e list priority s)
 in_order_arrived e list priority s o few =
-    let last : Row = (e, place_at list priority s.next) in
-    record {
-      short = omega (arith, few, length-append s.rows (last ∷ []));
-      ascending = ascending_pushed s.rows last o.ascending o.arrived;
-      arrived = before_pushed s.next s.rows last o.arrived refl;
-    }
+    let k : AreRising (arrived e list priority s) = rising_arrived e list priority s (record { ascending = o.ascending; arrived = o.arrived }) in
+    record { short = omega (arith, few, length-append s.rows ((e, place_at list priority s.next) ∷ [])); ascending = k.ascending; arrived = k.arrived }
 
 pub in_order_without : (e : Entity) (s : RunLists) → AreInOrder s → AreInOrder (taken_off e s)
-in_order_without e s o = record {
-  short = omega (arith, o.short, length_without e s.rows);
-  ascending = ascending_without e s.rows o.ascending;
-  arrived = before_without s.next e s.rows o.arrived;
-}
+in_order_without e s o =
+    let k : AreRising (taken_off e s) = rising_without e s (record { ascending = o.ascending; arrived = o.arrived }) in
+    record { short = omega (arith, o.short, length_without e s.rows); ascending = k.ascending; arrived = k.arrived }

@@ -3,6 +3,7 @@
 ghost use Rattle.std.specs.Prelude.{◌≡◌, IfOk, OnErr, Some, None, is_some, length, MatchOption, false};
 ghost use Rattle.std.specs.List.{position};
 ghost use Rattle.levels.specs.Rows.{lists_of, empty_lists, is_entity, place_of, place_at, arrived, taken_off, AreInOrder};
+ghost use Rattle.levels.specs.declared.entity.Entity.TheVariants as entities;
 ghost use Rattle.levels.specs.Choice.{chosen_of, choice, has_ready, IsChosen};
 
 use crate::entity::{Entity, Place};
@@ -37,6 +38,16 @@ fn row_of(rows: &[(Entity, Place)], e: &Entity) -> Option<usize>
     ensures { result ≡ position (λ row. is_entity row.0 e.now) rows.now }
 {
     rows.iter().position(|row| row.0.is(e))
+}
+
+// It is the thread of this home and number.
+fn is_named(e: &Entity, home: u64, seq: u32) -> bool
+    ensures { result ≡ is_entity e.now (entities.Thread (record { home = home; seq = seq })) }
+{
+    match e {
+        Entity::Thread(t) => t.home.0 as u64 == home && t.seq == seq,
+        Entity::Bubble(_) => false,
+    }
 }
 
 // Of two the one that came first, but where the later one outranks it.
@@ -149,6 +160,18 @@ impl Lists {
             }
         }
         None
+    }
+
+    /// A thread of this home and number is on a list, whatever number the home is.
+    pub fn has_thread(&self, home: u64, seq: u32) -> bool
+        ensures { result ≡ is_some (place_of (entities.Thread (record { home = home; seq = seq })) self.now.rows) }
+    {
+        for row in &self.rows {
+            if is_named(&row.0, home, seq) {
+                return true;
+            }
+        }
+        false
     }
 
     /// How many entities are on lists.

@@ -1,5 +1,5 @@
 -- A node that has begun stays so.
-use Rattle.std.proofs.Common.{◌≡◌, ℕ, List, [], ◌∷◌, Option, Some, None, Bool, true, false, cond, eqb, refl, ◌∙◌, subst}
+use Rattle.std.proofs.Common.{◌≡◌, ℕ, zero, suc, List, [], ◌∷◌, Option, Some, None, Bool, true, false, cond, eqb, refl, ◌∙◌, subst}
 use Rattle.std.specs.Prelude.{length, slice_get, nat_lt, ⊤}
 use Rattle.std.specs.Map.{lookup}
 use Rattle.slot_space.specs.declared.names.Tid.{Tid}
@@ -21,7 +21,7 @@ use Rattle.marcel_sync.specs.declared.sem.Vgot.{Vgot}
 use Rattle.marcel_sync.specs.declared.sem.Vgot.TheVariants as raising
 use Rattle.marcel_sync.specs.Semaphores.{node_in, number_in, name_on, lowered_answer, lowered, raised_answer, raised, with_one_more}
 use Rattle.run_trace.specs.declared.call.Call.{Call}
-use Rattle.run_trace.specs.declared.call.Call.TheVariants.{Exit, Name, Node, Nodes, Yield, Create, Join, Detach, SemNew, SemP, SemV, Isomalloc, Isofree, MigrateSelf, Migrate, Print, Halt, Unknown}
+use Rattle.run_trace.specs.declared.call.Call.TheVariants.{Exit, Name, Node, Nodes, Yield, Create, Join, Detach, SemNew, SemP, SemV, Isomalloc, Isofree, MigrateSelf, Migrate, Print, BubbleNew, BubbleInsert, BubbleWake, BubbleGather, CreateIn, Halt, Unknown}
 use Rattle.run_trace.specs.declared.entry.Act.{Act}
 use Rattle.run_trace.specs.declared.entry.Act.TheVariants.{Boot, Run as RunThread, Take, Move}
 use Rattle.run_trace.specs.declared.label.Why.{Why}
@@ -30,17 +30,21 @@ use Rattle.run_trace.specs.declared.packet.Body.{Body}
 use Rattle.run_trace.specs.declared.packet.Body.TheVariants.{Mover, Show, ShowDone, JoinAsk, DetachAsk, SemAsk, Answer, EndNote, Want, Turn, Over}
 use Rattle.run_trace.specs.declared.packet.Packet.{Packet}
 use Rattle.run_trace.specs.declared.packet.Send.{Send}
-use Rattle.run_trace.specs.declared.node.ReadyRow.{ReadyRow}
 use Rattle.run_trace.specs.Names.{is_tid, tid_of}
-use Rattle.run_trace.specs.Program.{Program, nodes_of, code_of, main_priority, tree_of}
+use Rattle.run_trace.specs.Program.{Program, nodes_of, code_of, main_priority}
 use Rattle.run_trace.specs.Guests.{Guest, Thread, Run, run_of, heap_of, with_placed, without_block, slots_for}
 use Rattle.run_trace.specs.Calls.{call_of, refusal, bytes_of, place_code, slots_wanted}
 use Rattle.run_trace.specs.Talks.{Talk, one_send, want_sends, claiming, with_claims, after_turn, again_sends, again, turn_to, listing_sends, listing, next_turn, without_first}
-use Rattle.run_trace.specs.RunLists.{best_on, is_listed}
+use Rattle.bubbles.specs.declared.bubble.Shift.{Shift}
+use Rattle.bubbles.specs.declared.bubble.Step.{Step}
+use Rattle.bubbles.specs.declared.bubble.Step.TheVariants.{Empty, Takes, Shifts}
+use Rattle.bubbles.specs.Forests.{ForestView}
+use Rattle.bubbles.specs.Picking.{step}
+use Rattle.run_trace.specs.Bubbles.{is_listed, not_filling, Outcome, bubble_outcome, Gathering, gathering}
 use Rattle.pack_thread.specs.Threads.{PackedThread as Packed}
 use Rattle.run_trace.specs.Local.{Local, EventSoFar, nothing, with_booted}
-use Rattle.run_trace.specs.Steps.{say, put, print, arrive, take_off, thread_at, at_thread, at_found, keep, thread_in, thread_out, slots_out, slots_in, birth_in, change_birth, halt, next_name, birth, ran, asks, asks_show, asks_join, asks_detach, asks_signal, asks_here, asks_waiting, asks_slots, speaks, decides, halts, judge, tell_found, tell, judge_as, reply_by_link, takes_run, returns, gives, ends, leaves, comes, shows, acknowledges, hears, hears_detach, hears_signal, knows}
-use Rattle.run_trace.specs.Machine.{answer, end_thread, free_slot, claims, creates_in, creates, judge_and_tell, places, run_for, allocates_in, allocates, serves_call, serves_thread, serves, allocates_at, has_run_for, refuses, ends_turn, wants_again, leaves_claims, grants, returns_any, frees_block, frees, goes, migrates, sends_away, sends, replies_to, answers_p, answers_v, lowers, raises, signals, hears_call, moves_found, does, calls, boots_in, boots, stopped, run_thread, run_found, run_picked, judges_join, tells_joiner, accepts, is_stray, takes, is_range, acts, local_event, turn_event, is_beyond}
+use Rattle.run_trace.specs.Steps.{say, put, print, enter, arrive, depart, choose, thread_at, at_thread, at_found, keep, thread_in, thread_out, slots_out, slots_in, birth_in, change_birth, halt, next_name, birth, shifted, ran, asks, asks_bubbles, gathered, asks_show, asks_join, asks_detach, asks_signal, asks_here, asks_waiting, asks_slots, speaks, decides, halts, judge, tell_found, tell, judge_as, reply_by_link, takes_run, returns, gives, ends, leaves, comes, shows, acknowledges, hears, hears_detach, hears_signal, knows}
+use Rattle.run_trace.specs.Machine.{answer, end_thread, free_slot, claims, creates_in, creates, judge_and_tell, places, run_for, allocates_in, allocates, serves_call, serves_thread, serves, allocates_at, has_run_for, refuses, ends_turn, wants_again, leaves_claims, grants, returns_any, frees_block, frees, goes, migrates, sends_away, sends, replies_to, answers_p, answers_v, lowers, raises, signals, hears_call, moves_found, does, calls, boots_in, boots, stopped, run_thread, run_found, chosen_by, chooses, choice_limit, gathers_found, does_bubbles, creates_inside, judges_join, tells_joiner, accepts, is_stray, takes, is_range, acts, local_event, turn_event, is_beyond}
 
 -- ## Steps
 
@@ -62,16 +66,20 @@ at_keeps t step d h = by (thread_at t d)
     by (Some x) = h x
 
 birth_keeps : (me : ℕ) (w : Why) (entry a0 priority slot : ℕ) (d : EventSoFar) → Kept d (birth me w entry a0 priority slot d)
-unfolding birth arrive thread_in birth_in slots_out say
+unfolding birth enter thread_in birth_in slots_out say
 birth_keeps me w entry a0 priority slot d = kept refl
 
 ran_keeps : (t : Tid) (vp : ℕ) (r : Run) (x : Thread) (d : EventSoFar) → Kept d (ran t vp r x d)
-unfolding ran take_off keep say
+unfolding ran choose keep say
 ran_keeps t vp r x d = kept refl
 
-arrive_keeps : (t : Tid) (priority : ℕ) (d : EventSoFar) → Kept d (arrive t priority d)
+shifted_keeps : (vp : ℕ) (shift : Shift) (d : EventSoFar) → Kept d (shifted vp shift d)
+unfolding shifted choose say
+shifted_keeps vp shift d = kept refl
+
+arrive_keeps : (t : Tid) (d : EventSoFar) → Kept d (arrive t d)
 unfolding arrive
-arrive_keeps t priority d = kept refl
+arrive_keeps t d = kept refl
 
 asks_keeps : (t : Tid) (c : Call) (d : EventSoFar) → Kept d (asks t c d)
 unfolding asks say
@@ -100,6 +108,15 @@ asks_here_keeps t c sems d = kept refl
 asks_waiting_keeps : (t : Tid) (c : Call) (sems : List SemRow) (x : Thread) (d : EventSoFar) → Kept d (asks_waiting t c sems x d)
 unfolding asks_waiting asks keep say
 asks_waiting_keeps t c sems x d = kept refl
+
+asks_bubbles_keeps : (t : Tid) (c : Call) (forest : ForestView) (d : EventSoFar) → Kept d (asks_bubbles t c forest d)
+unfolding asks_bubbles asks say
+asks_bubbles_keeps t c forest d = kept refl
+
+gathers_keeps : (o : Option Gathering) (d : EventSoFar) → Kept d (gathers_found o d)
+unfolding gathered say
+gathers_keeps None d = kept refl
+gathers_keeps (Some g) d = kept refl
 
 asks_slots_keeps : (t : Tid) (c : Call) (x : Thread) (d : EventSoFar) → Kept d (asks_slots t c x d)
 unfolding asks_slots asks keep say
@@ -146,15 +163,15 @@ unfolding returns slots_in keep say
 returns_keep t slots g d = kept refl
 
 end_keeps : (t : Tid) (x : Thread) (end : End) (d : EventSoFar) → Kept d (end_thread t x end d)
-unfolding ends gives put thread_out slots_in say
+unfolding ends gives put depart thread_out slots_in say
 end_keeps t x end d = kept refl
 
 leaves_keeps : (t : Tid) (to : ℕ) (x : Thread) (d : EventSoFar) → Kept d (leaves t to x d)
-unfolding leaves put thread_out take_off say
+unfolding leaves put thread_out depart say
 leaves_keeps t to x d = kept refl
 
 comes_keeps : (x : Packed) (d : EventSoFar) → Kept d (comes x d)
-unfolding comes arrive thread_in say
+unfolding comes enter thread_in say
 comes_keeps x d = kept refl
 
 shows_keeps : (t : Tid) (from : ℕ) (bytes : List ℕ) (d : EventSoFar) → Kept d (acknowledges t from (shows t bytes d))
@@ -182,12 +199,12 @@ knows_keeps me seq end d = kept refl
 claims_keep : (t : Tid) (d : EventSoFar) → Kept d (claims t d)
 claims_keep t d = speaks_keeps (want_sends d.node.talk) (claiming t d.node.talk) d
 
-creates_keeps : (me : ℕ) (t : Tid) (entry argument priority : ℕ) (d : EventSoFar) → Kept d (creates me t entry argument priority d)
-creates_keeps me t entry argument priority d = by (free_slot d.node.slots.free)
+creates_keeps : (me : ℕ) (t : Tid) (reason : Why) (entry argument priority : ℕ) (d : EventSoFar) → Kept d (creates me t reason entry argument priority d)
+creates_keeps me t reason entry argument priority d = by (free_slot d.node.slots.free)
   where
-    by : (o : Option ℕ) → Kept d (creates_in me t entry argument priority o d)
+    by : (o : Option ℕ) → Kept d (creates_in me t reason entry argument priority o d)
     by None = claims_keep t d
-    by (Some slot) = then (birth_keeps me (why.Create t) entry argument priority slot d) (answer_keeps t (tid_value (next_name me d)) _)
+    by (Some slot) = then (birth_keeps me reason entry argument priority slot d) (answer_keeps t (tid_value (next_name me d)) _)
 
 places_keep : (t : Tid) (size : ℕ) (x : Thread) (d : EventSoFar) → Kept d (places t size x d)
 places_keep t size x d =
@@ -203,7 +220,8 @@ allocates_keeps t size x d = by (run_for size x.guest d.node.slots.free)
         then (takes_keep t first (slots_for size) x.guest d) (at_keeps t (places t size) e (λ y. places_keep t size y e))
 
 serves_call_keeps : (me : ℕ) (t : Tid) (c : Call) (x : Thread) (d : EventSoFar) → Kept d (serves_call me t c x d)
-serves_call_keeps me t (Create entry argument priority) x d = creates_keeps me t entry argument priority d
+serves_call_keeps me t (Create entry argument priority) x d = creates_keeps me t (why.Create t) entry argument priority d
+serves_call_keeps me t (CreateIn bubble entry argument priority) x d = creates_keeps me t (why.Inside t (number_in bubble)) entry argument priority d
 serves_call_keeps me t (Isomalloc len) x d = allocates_keeps t (rounded len) x d
 serves_call_keeps me t _ x d = kept refl
 
@@ -265,7 +283,7 @@ migrates_keeps p me to t d = by (eqb to me)
 
 sends_keeps : (p : Program) (me : ℕ) (u : Tid) (to : ℕ) (t : Tid) (itself : Bool) (d : EventSoFar) → Kept d (sends p me u to t itself d)
 sends_keeps p me u to t true d = then (answer_keeps t 0 d) (migrates_keeps p me to t _)
-sends_keeps p me u to t false d = by (is_listed u d.node.run_lists.rows)
+sends_keeps p me u to t false d = by (is_listed u d.node.forest)
   where
     by : (listed : Bool) → Kept d (sends_away p me u to t listed d)
     by true = then (migrates_keeps p me to u d) (answer_keeps t 0 _)
@@ -315,6 +333,17 @@ hears_call_keeps me from t id true d =
 hears_call_keeps me from t id false d =
     then (hears_signal_keeps t (lowered (number_in id) (t, from) d.node.sems) d) (answers_p_keep me from t (lowered_answer (number_in id) d.node.sems) _)
 
+-- ## Run lists and bubbles
+
+does_bubbles_keeps : (p : Program) (me : ℕ) (t : Tid) (c : Call) (d : EventSoFar) → Kept d (does_bubbles p me t c d)
+does_bubbles_keeps p me t c d =
+    let done : Outcome = bubble_outcome p me c d.node.forest in
+    then (then (asks_bubbles_keeps t c done.after d) (gathers_keeps (gathering p me c d.node.forest) _)) (answer_keeps t done.code _)
+
+creates_inside_keeps : (me : ℕ) (t : Tid) (c : Call) (o : Option Reply) (d : EventSoFar) → Kept d (creates_inside me t c o d)
+creates_inside_keeps me t c (Some reply) d = then (asks_keeps t c d) (answer_keeps t (reply_code reply) _)
+creates_inside_keeps me t c None d = then (at_keeps t (asks_slots t c) d (λ x. asks_slots_keeps t c x d)) (serves_keep me t _)
+
 -- one case a call
 does_keeps : (p : Program) (me : ℕ) (t : Tid) (c : Call) (bytes : List ℕ) (d : EventSoFar) → Kept d (does p me t c bytes d)
 does_keeps p me t (Exit value) bytes d = then (asks_keeps t (Exit value) d) (at_keeps t (λ x. end_thread t x (end_of.Exit value)) _ (λ x. end_keeps t x (end_of.Exit value) _))
@@ -337,6 +366,12 @@ does_keeps p me t (Isofree address) bytes d = then (asks_keeps t (Isofree addres
 does_keeps p me t (MigrateSelf to) bytes d = then (then (asks_keeps t (MigrateSelf to) d) (answer_keeps t 0 _)) (migrates_keeps p me to t _)
 does_keeps p me t (Migrate name to) bytes d = then (asks_keeps t (Migrate name to) d) (sends_keeps p me (tid_of name) to t (eqb name (tid_value t)) _)
 does_keeps p me t (Print address len) bytes d = at_keeps t (asks_show t (Print address len) bytes) d (λ x. asks_show_keeps t (Print address len) bytes x d)
+does_keeps p me t (BubbleNew priority depth) bytes d = does_bubbles_keeps p me t (BubbleNew priority depth) d
+does_keeps p me t (BubbleInsert bubble member) bytes d = does_bubbles_keeps p me t (BubbleInsert bubble member) d
+does_keeps p me t (BubbleWake bubble) bytes d = does_bubbles_keeps p me t (BubbleWake bubble) d
+does_keeps p me t (BubbleGather bubble) bytes d = does_bubbles_keeps p me t (BubbleGather bubble) d
+does_keeps p me t (CreateIn bubble entry argument priority) bytes d =
+    creates_inside_keeps me t (CreateIn bubble entry argument priority) (not_filling p me bubble d.node.forest) d
 does_keeps p me t Halt bytes d = then (asks_keeps t Halt d) (at_keeps t (halts t) _ (λ x. halts_keeps t x _))
 does_keeps p me t (Unknown number) bytes d = then (asks_keeps t (Unknown number) d) (answer_keeps t (reply_code replies.BadArgument) _)
 
@@ -345,7 +380,7 @@ calls_keeps p me t c None bytes d = does_keeps p me t c bytes d
 calls_keeps p me t c (Some reply) bytes d = then (asks_keeps t c d) (answer_keeps t (reply_code reply) _)
 
 stops_keeps : (p : Program) (me : ℕ) (t : Tid) (stop : Stop) (x : Thread) (d : EventSoFar) → Kept d (stopped p me t stop x d)
-stops_keeps p me t stops.Quantum x d = arrive_keeps t x.guest.priority d
+stops_keeps p me t stops.Quantum x d = arrive_keeps t d
 stops_keeps p me t stops.Call x d = calls_keeps p me t (call_of x.guest.solo.state) (refusal p t x.guest.solo (call_of x.guest.solo.state)) (bytes_of p x.guest.solo.state (call_of x.guest.solo.state)) d
 stops_keeps p me t (stops.Fault kind) x d = end_keeps t x (end_of.Fault kind x.guest.solo.state.pc) d
 
@@ -361,13 +396,19 @@ abbrev pub StaysBooted : Bool → Option EventSoFar → Type 0
 StaysBooted b None = ⊤
 StaysBooted b (Some d) = d.node.booted ≡ b
 
-picked_keeps : (p : Program) (me vp quantum : ℕ) (o : Option ReadyRow) (s : Local) → StaysBooted s.booted (run_picked p me vp quantum o s)
-picked_keeps p me vp quantum None s = tt
-picked_keeps p me vp quantum (Some r) s = by (lookup (is_tid r.tid) s.threads)
+found_keeps : (p : Program) (me vp quantum : ℕ) (t : Tid) (o : Option Thread) (d : EventSoFar) → StaysBooted d.node.booted (run_found p me vp quantum t o d)
+found_keeps p me vp quantum t None d = tt
+found_keeps p me vp quantum t (Some x) d = (run_keeps p me vp quantum t x d).is
+
+chooses_keeps : (p : Program) (me vp quantum k : ℕ) (d : EventSoFar) → StaysBooted d.node.booted (chooses p me vp quantum k d)
+chooses_keeps p me vp quantum zero d = tt
+chooses_keeps p me vp quantum (suc k) d = by (λ shift. chooses_keeps p me vp quantum k (shifted vp shift d)) (step vp d.node.forest).what
   where
-    by : (o : Option Thread) → StaysBooted s.booted (run_found p me vp quantum r.tid o s)
-    by None = tt
-    by (Some x) = (run_keeps p me vp quantum r.tid x (nothing s)).is
+    by : ((shift : Shift) → StaysBooted (shifted vp shift d).node.booted (chooses p me vp quantum k (shifted vp shift d))) → (what : Step)
+        → StaysBooted d.node.booted (chosen_by p me vp quantum (chooses p me vp quantum k) what d)
+    by again Empty = tt
+    by again (Takes t) = found_keeps p me vp quantum t (thread_at t d) d
+    by again (Shifts shift) = subst (λ b. StaysBooted b (chooses p me vp quantum k (shifted vp shift d))) (shifted_keeps vp shift d).is (again shift)
 
 accepts_keeps : (p : Program) (me from : ℕ) (body : Body) (s : Local) → Kept (nothing s) (accepts me from body s)
 accepts_keeps p me from (Mover x) s = comes_keeps x (nothing s)
@@ -416,9 +457,10 @@ IsBootedAfter o = StaysBooted true o
 
 acts_booted : (p : Program) (me : ℕ) (s : Local) (act : Act) (took : Option Packet) → s.booted ≡ true → IsBootedAfter (acts p me s act took)
 acts_booted p me s Boot None b = boots_true p me s
-acts_booted p me s (RunThread vp quantum) None b = subst (λ z. StaysBooted z (run_picked p me vp quantum (best_on (tree_of p) vp s.run_lists.rows) s)) b (picked_keeps p me vp quantum (best_on (tree_of p) vp s.run_lists.rows) s)
+acts_booted p me s (RunThread vp quantum) None b =
+    subst (λ z. StaysBooted z (chooses p me vp quantum (choice_limit s.forest) (nothing s))) b (chooses_keeps p me vp quantum (choice_limit s.forest) (nothing s))
 acts_booted p me s (Take from) (Some packet) b = (takes_keeps p me from packet.body s).is ∙ b
-acts_booted p me s (Move t to) None b = listed (is_listed t s.run_lists.rows)
+acts_booted p me s (Move t to) None b = listed (is_listed t s.forest)
   where
     found : (o : Option Thread) → IsBootedAfter (moves_found p t to o s)
     found None = tt

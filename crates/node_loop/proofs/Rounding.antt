@@ -1,5 +1,5 @@
 -- What one event after another comes to in a round.
-use Rattle.std.proofs.Common.{◌≡◌, ℕ, suc, ◌+◌, ◌-◌, ◌<◌, ◌≤◌, ◌⊎◌, inl, inr, List, [], ◌∷◌, ◌++◌, length, max, Option, Some, None, Bool, true, false, is_some, refl, sym, ap, ◌∙◌, subst, arith, append_assoc, append-nil}
+use Rattle.std.proofs.Common.{◌≡◌, ℕ, zero, suc, ◌+◌, ◌-◌, ◌<◌, ◌≤◌, ◌⊎◌, inl, inr, List, [], ◌∷◌, ◌++◌, length, max, Option, Some, None, Bool, true, false, is_some, refl, sym, ap, ◌∙◌, subst, arith, append_assoc, append-nil}
 use Rattle.std.specs.Prelude.{nat_lt}
 use Rattle.std.proofs.lemmas.List.{length-append}
 use Rattle.std.proofs.Math.Nat.{max-eq_right, le-max_left}
@@ -10,13 +10,13 @@ use Rattle.run_trace.specs.Console.{printed}
 use Rattle.run_trace.specs.Histories.{Turn, IsTurn, IsStamped, clock, seen, turn_state}
 use Rattle.run_trace.specs.Local.{Local}
 use Rattle.run_trace.specs.Machine.{turn_event}
-use Rattle.run_trace.specs.Program.{Program, nodes_of}
+use Rattle.run_trace.specs.Program.{Program, nodes_of, processors_of}
 use Rattle.wires.specs.Ends.{known_from}
 use Rattle.basics.proofs.Lemmas.{by_eq}
 use Rattle.wires.proofs.Lemmas.{stays_refl, stays_trans}
 use Rattle.node_loop.specs.Histories.{HasHistory, Waits, events_of_turns}
-use Rattle.node_loop.specs.Passes.{Moment, AreRuns, AreTakes, ArePasses, HasTake, IsPass, IsRound, acts_in, first_pass, ready_after}
-use Rattle.node_loop.specs.Rounds.{DoesMore, DoesPass, DoesPasses, DoesTakes, FailsLater, HasDone, HasRounded, HasStopped, can_run, moments_of_node}
+use Rattle.node_loop.specs.Passes.{Moment, AreRuns, AreTakes, ArePasses, HasTake, IsPass, IsRound, NoneReady, RunsNext, acts_in, first_pass, ready_after}
+use Rattle.node_loop.specs.Rounds.{DoesMore, DoesPass, DoesPasses, DoesRuns, DoesTakes, FailsLater, HasDone, HasRounded, HasStopped, can_run, moments_of_node}
 use Rattle.node_loop.specs.Turns.{Does, Idles, IsActInRange, IsInRange, IsLost, StaysKnown, Turns, can, turn_of}
 use Rattle.node_loop.specs.View.{NodeView}
 use Rattle.node_loop.specs.declared.node.Turned.TheVariants.{Did, Idle}
@@ -176,7 +176,7 @@ does_none old act new d b = record {
 pub does_nothing : (v : NodeView) → v.state.booted ≡ true → DoesMore [] v v
 does_nothing v b = record { further = λ start turns i. ([], i, refl); entries = omega arith; program = refl; me = refl; booted = b; ready = refl }
 
-ready_later : (r : Bool) (xs ys : List Moment) → ready_after r (ys ++ xs) ≡ ready_after (ready_after r xs) ys
+ready_later : (r : ℕ → Bool) (xs ys : List Moment) → ready_after r (ys ++ xs) ≡ ready_after (ready_after r xs) ys
 ready_later r xs [] = refl
 ready_later r xs (y ∷ ys) = refl
 
@@ -287,47 +287,100 @@ takes_full room sender count old now most full h = record {
   known = λ s l k. inr full;
 }
 
--- ## A pass
+-- ## Runs
 
-pub pass_cut : (room count : ℕ) (old now : NodeView) → DoesTakes room count old now → count ≡ room → DoesPass room count old now
-pass_cut room count old now h full = record { acts = h.acts; does = h.does; many = h.many; few = h.few; cut = inr (h.takes, full); known = h.known }
+-- the processors below this number have been asked
+pub record RunsSoFar (room vp count : ℕ) (old now : NodeView) : Type 0 where
+  pub acts : List Moment
+  pub does : DoesMore acts old now
+  pub many : length acts ≡ count
+  pub few : count ≤ room
+  pub runs : AreRuns old.program.setup.quantum vp (can_run old.program old.me old.state) acts
+
+pub no_runs : (room : ℕ) (v : NodeView) → v.state.booted ≡ true → RunsSoFar room 0 0 v v
+no_runs room v b = record { acts = []; does = does_nothing v b; many = refl; few = omega arith; runs = refl }
 
 some_is : {A : Type 0} (o : Option A) (a : A) → o ≡ Some a → is_some o ≡ true
 some_is o a e = ap is_some e
 
-pub pass_ran : (room count quantum : ℕ) (old mid new : NodeView) → DoesTakes room count old mid → count < room → quantum ≡ mid.program.setup.quantum → IsInRange mid (Run 0 quantum)
-    → Turns mid (Run 0 quantum) new Did → new.state.booted ≡ true → DoesPass room (count + 1) old new
-pass_ran room count quantum old mid new h l q range d b = record {
-  acts = run ∷ h.acts;
-  does = does_both h.acts (run ∷ []) old mid new h.does (does_one mid (Run 0 quantum) range new d b);
-  many = omega (arith, h.many);
-  few = omega (arith, l);
-  cut = inl (record { takes = h.acts; runs = run ∷ []; whole = refl; ascending = h.takes; run = ran });
-  known = λ s m k. elim (h.known s m k) as (λ z. (HasTake s (run ∷ h.acts)) ⊎ (count + 1 ≡ room)) [ inl t ↦ inl (inr t) | inr full ↦ absurd (omega (arith, full, l)) ];
+module _ (room vp count quantum : ℕ) (old now new : NodeView) (h : RunsSoFar room vp count old now) (q : quantum ≡ old.program.setup.quantum) (b : new.state.booted ≡ true) where
+  abbrev could : ℕ → Bool
+  could = can_run old.program old.me old.state
+
+  next : suc vp ≡ vp + 1
+  next = omega arith
+
+  -- whether it has a pick is whether the node can run it
+  asked : ready_after could h.acts vp ≡ is_some (turn_event now.program now.me now.state (Run vp quantum) None)
+  asked =
+      ap (λ (f : ℕ → Bool). f vp) h.does.ready
+      ∙ ap (λ k. is_some (turn_event now.program now.me now.state (Run vp k) None)) (sym (q ∙ sym (ap (λ (z : Program). z.setup.quantum) h.does.program)))
+
+  pub run_did : count < room → IsInRange now (Run vp quantum) → Turns now (Run vp quantum) new Did → RunsSoFar room (vp + 1) (count + 1) old new
+  run_did l range d = record {
+    acts = run ∷ h.acts;
+    does = does_both h.acts (run ∷ []) old now new h.does (does_one now (Run vp quantum) range new d b);
+    many = omega (arith, h.many);
+    few = omega (arith, l);
+    runs = subst (λ n. AreRuns old.program.setup.quantum n could (run ∷ h.acts)) next (h.acts, h.runs, ran);
+  }
+    where
+      run : Moment
+      run = record { act = Run vp quantum; ready = can_run new.program new.me new.state }
+
+      ready : ready_after could h.acts vp ≡ true
+      ready = asked ∙ some_is _ d.done (ap (λ o. turn_event now.program now.me now.state (Run vp quantum) o) (sym d.shape) ∙ d.is)
+
+      ran : RunsNext old.program.setup.quantum vp (ready_after could h.acts vp) h.acts (run ∷ h.acts)
+      ran = subst (λ r. RunsNext old.program.setup.quantum vp r h.acts (run ∷ h.acts)) (sym ready) (run, refl, ap (λ k. Run vp k) q)
+
+  pub run_idle : Turns now (Run vp quantum) new Idle → RunsSoFar room (vp + 1) count old new
+  run_idle d = record {
+    acts = h.acts;
+    does = does_both h.acts [] old now new h.does (does_none now (Run vp quantum) new d b);
+    many = h.many;
+    few = h.few;
+    runs = subst (λ n. AreRuns old.program.setup.quantum n could h.acts) next (h.acts, h.runs, subst (λ r. RunsNext old.program.setup.quantum vp r h.acts h.acts) (sym (asked ∙ ap is_some d.impossible)) refl);
+  }
+
+-- all processors have been asked
+pub runs_done : (room vp count : ℕ) (old now : NodeView) → processors_of old.program ≤ vp → vp ≤ processors_of old.program → RunsSoFar room vp count old now → DoesRuns room count old now
+runs_done room vp count old now all most h =
+    record { acts = h.acts; does = h.does; many = h.many; few = h.few; reach = vp; within = most; runs = h.runs; cut = inl (omega (arith, all, most)) }
+
+-- or as many have run as there is room for
+pub runs_full : (room vp count : ℕ) (old now : NodeView) → vp ≤ processors_of old.program → count ≡ room → RunsSoFar room vp count old now → DoesRuns room count old now
+runs_full room vp count old now most full h = record { acts = h.acts; does = h.does; many = h.many; few = h.few; reach = vp; within = most; runs = h.runs; cut = inr full }
+
+-- ## A pass
+
+taken_before : (s : ℕ) (xs ys : List Moment) → HasTake s ys → HasTake s (xs ++ ys)
+taken_before s [] ys h = h
+taken_before s (x ∷ xs) ys h = inr (taken_before s xs ys h)
+
+pub pass_done : (room taken ran : ℕ) (old mid new : NodeView) → DoesTakes room taken old mid → DoesRuns (room - taken) ran mid new → DoesPass room (taken + ran) old new
+pass_done room taken ran old mid new t r = record {
+  acts = r.acts ++ t.acts;
+  does = does_both t.acts r.acts old mid new t.does r.does;
+  many = omega (arith, length-append r.acts t.acts, t.many, r.many);
+  few = omega (arith, t.few, r.few);
+  reach = r.reach;
+  within = subst (λ (z : Program). r.reach ≤ processors_of z) t.does.program r.within;
+  pass = record { takes = t.acts; runs = r.acts; whole = refl; ascending = t.takes; run = runs };
+  cut = elim r.cut as (λ z. (r.reach ≡ processors_of old.program) ⊎ (taken + ran ≡ room)) [
+    | inl e ↦ inl (e ∙ ap (λ (z : Program). processors_of z) t.does.program)
+    | inr full ↦ inr (omega (arith, full, t.few))
+  ];
+  known = λ s m k. elim (t.known s m k) as (λ z. HasTake s (r.acts ++ t.acts) ⊎ (taken + ran ≡ room)) [
+    | inl h ↦ inl (taken_before s r.acts t.acts h)
+    | inr full ↦ inr (omega (arith, full, r.few))
+  ];
 }
   where
-    run : Moment
-    run = record { act = Run 0 quantum; ready = can_run new.program new.me new.state }
-
-    ready : ready_after (can_run old.program old.me old.state) h.acts ≡ true
-    ready = h.does.ready ∙ some_is _ d.done (ap (λ k. turn_event mid.program mid.me mid.state (Run 0 k) None) (sym q) ∙ ap (λ o. turn_event mid.program mid.me mid.state (Run 0 quantum) o) (sym d.shape) ∙ d.is)
-
-    ran : AreRuns old.program.setup.quantum (ready_after (can_run old.program old.me old.state) h.acts) (run ∷ [])
-    ran = subst (λ r. AreRuns old.program.setup.quantum r (run ∷ [])) (sym ready) (run, refl, ap (λ k. Run 0 k) (q ∙ ap (λ (z : Program). z.setup.quantum) h.does.program))
-
-pub pass_idle : (room count quantum : ℕ) (old mid new : NodeView) → DoesTakes room count old mid → count < room → quantum ≡ mid.program.setup.quantum
-    → Turns mid (Run 0 quantum) new Idle → new.state.booted ≡ true → DoesPass room count old new
-pass_idle room count quantum old mid new h l q d b = record {
-  acts = h.acts;
-  does = does_both h.acts [] old mid new h.does (does_none mid (Run 0 quantum) new d b);
-  many = h.many;
-  few = h.few;
-  cut = inl (record { takes = h.acts; runs = []; whole = refl; ascending = h.takes; run = subst (λ r. AreRuns old.program.setup.quantum r []) (sym ready) refl });
-  known = h.known;
-}
-  where
-    ready : ready_after (can_run old.program old.me old.state) h.acts ≡ false
-    ready = h.does.ready ∙ ap is_some (ap (λ k. turn_event mid.program mid.me mid.state (Run 0 k) None) (sym q) ∙ d.impossible)
+    runs : AreRuns old.program.setup.quantum r.reach (ready_after (can_run old.program old.me old.state) t.acts) r.acts
+    runs =
+        subst (λ f. AreRuns old.program.setup.quantum r.reach f r.acts) (sym t.does.ready)
+        (subst (λ (z : Program). AreRuns z.setup.quantum r.reach (can_run mid.program mid.me mid.state) r.acts) t.does.program r.runs)
 
 -- ## Passes
 
@@ -340,7 +393,7 @@ Firsts events old (p ∷ ps) now = (s : ℕ) → s < nodes_of old.program → ca
 pub record PassesSoFar (events passed left : ℕ) (old now : NodeView) : Type 0 where
   pub passes : List (List Moment)
   pub does : DoesMore (acts_in passes) old now
-  pub each : ArePasses (nodes_of old.program) old.program.setup.quantum (can_run old.program old.me old.state) passes
+  pub each : ArePasses (nodes_of old.program) (processors_of old.program) old.program.setup.quantum (can_run old.program old.me old.state) passes
   pub many : length (acts_in passes) + left ≡ events
   pub turns : passed + left ≤ events
   pub firsts : Firsts events old passes now
@@ -352,23 +405,45 @@ no_takes_none : (s : ℕ) (xs : List Moment) → length xs ≡ 0 → HasTake s x
 no_takes_none s [] e h = h
 no_takes_none s (x ∷ xs) e h = absurd (omega (arith, e))
 
+-- where no processor was run, none of those that were asked has a pick
+none_run : (quantum below : ℕ) (could : ℕ → Bool) (runs : List Moment) → AreRuns quantum below could runs → runs ≡ [] → (vp : ℕ) → vp < below → could vp ≡ false
+none_run quantum zero could runs h e vp l = absurd (omega (arith, l))
+none_run quantum (suc below) could runs h e vp l = by (ready_after could h.0 below) refl h.2 (λ none under. none_run quantum below could h.0 h.1 none vp under)
+  where
+    by : (b : Bool) → ready_after could h.0 below ≡ b → RunsNext quantum below b h.0 runs → (h.0 ≡ [] → vp < below → could vp ≡ false) → could vp ≡ false
+    by true k r more = absurd (cc (r.1, e))
+    by false k r more =
+        let none : h.0 ≡ [] = sym r ∙ e in
+        by_eq vp below (λ s. ap could s ∙ sym (ap (λ xs. ready_after could xs below) none) ∙ k) (λ ne. more none (omega (arith, l, ne)))
+
 -- a round whose last pass isn't cut off
 only_whole : (events : ℕ) (old new : NodeView) (passes : List (List Moment)) → DoesMore (acts_in passes) old new
-    → ArePasses (nodes_of old.program) old.program.setup.quantum (can_run old.program old.me old.state) passes → length (acts_in passes) ≤ events
-    → (length (acts_in passes) ≡ events) ⊎ ((no_acts ≡ no_acts) × (ready_after (can_run old.program old.me old.state) (acts_in passes) ≡ false))
+    → ArePasses (nodes_of old.program) (processors_of old.program) old.program.setup.quantum (can_run old.program old.me old.state) passes → length (acts_in passes) ≤ events
+    → (length (acts_in passes) ≡ events) ⊎ ((no_acts ≡ no_acts) × NoneReady (processors_of old.program) (ready_after (can_run old.program old.me old.state) (acts_in passes)))
     → ((s : ℕ) → s < nodes_of old.program → can old (Take s) ≡ true → HasTake s (first_pass [] passes) ⊎ (length (first_pass [] passes) ≡ events))
     → DoesPasses events old new
 only_whole events old new passes does each few ends first = record {
   acts = acts_in passes;
   does = does;
-  passes = record { passes = passes; last = []; whole = refl; each = each; cut = tt; few = few; ends = ends; first = first };
+  passes = record {
+    passes = passes;
+    last = [];
+    reach = 0;
+    whole = refl;
+    each = each;
+    within = omega arith;
+    cut = record { takes = []; runs = []; whole = refl; ascending = tt; run = refl };
+    few = few;
+    ends = ends;
+    first = first;
+  };
 }
 
 module _ (events passed left count : ℕ) (old now new : NodeView) (h : PassesSoFar events passed left old now) (p : DoesPass left count now new) where
   abbrev q : Program
   q = old.program
 
-  abbrev ready : Bool
+  abbrev ready : ℕ → Bool
   ready = can_run old.program old.me old.state
 
   program : now.program ≡ old.program
@@ -377,9 +452,14 @@ module _ (events passed left count : ℕ) (old now new : NodeView) (h : PassesSo
   acts_are : DoesMore (p.acts ++ acts_in h.passes) old new
   acts_are = does_both (acts_in h.passes) p.acts old now new h.does p.does
 
-  -- the pass, where it is whole, in the words of the beginning
-  whole_pass : IsPass (nodes_of now.program) now.program.setup.quantum (can_run now.program now.me now.state) p.acts → IsPass (nodes_of q) q.setup.quantum (ready_after ready (acts_in h.passes)) p.acts
-  whole_pass w = subst (λ r. IsPass (nodes_of q) q.setup.quantum r p.acts) (sym h.does.ready) (subst (λ (z : Program). IsPass (nodes_of z) z.setup.quantum (can_run now.program now.me now.state) p.acts) program w)
+  -- the pass, in the words of the beginning
+  pass_here : IsPass (nodes_of q) p.reach q.setup.quantum (ready_after ready (acts_in h.passes)) p.acts
+  pass_here =
+      subst (λ r. IsPass (nodes_of q) p.reach q.setup.quantum r p.acts) (sym h.does.ready)
+      (subst (λ (z : Program). IsPass (nodes_of z) p.reach z.setup.quantum (can_run now.program now.me now.state) p.acts) program p.pass)
+
+  whole_pass : p.reach ≡ processors_of now.program → IsPass (nodes_of q) (processors_of q) q.setup.quantum (ready_after ready (acts_in h.passes)) p.acts
+  whole_pass e = subst (λ k. IsPass (nodes_of q) k q.setup.quantum (ready_after ready (acts_in h.passes)) p.acts) (e ∙ ap (λ (z : Program). processors_of z) program) pass_here
 
   first_here : h.passes ≡ [] → (s : ℕ) → s < nodes_of q → can old (Take s) ≡ true → HasTake s p.acts ⊎ (length p.acts ≡ events)
   first_here none s l k =
@@ -405,23 +485,23 @@ module _ (events passed left count : ℕ) (old now new : NodeView) (h : PassesSo
       empty [] e = refl
       empty (x ∷ xs) e = absurd (omega (arith, e))
 
-      no_run : (r : Bool) → AreRuns now.program.setup.quantum r [] → r ≡ false
-      no_run true k = absurd (cc k.1)
-      no_run false k = refl
-
       split : (xs ys : List Moment) → [] ≡ xs ++ ys → (xs ≡ []) × (ys ≡ [])
       split [] ys e = (refl, sym e)
       split (x ∷ xs) ys e = absurd (cc e)
 
-      ends : (length (acts_in h.passes) ≡ events) ⊎ ((no_acts ≡ no_acts) × (ready_after ready (acts_in h.passes) ≡ false))
-      ends = elim p.cut as (λ z. (length (acts_in h.passes) ≡ events) ⊎ ((no_acts ≡ no_acts) × (ready_after ready (acts_in h.passes) ≡ false))) [
-        | inl w ↦ inr (
-          refl,
-          (
-              let parts = split w.runs w.takes (sym (empty p.acts (p.many ∙ none)) ∙ w.whole) in
-              h.does.ready ∙ no_run (can_run now.program now.me now.state) (subst (λ xs. AreRuns now.program.setup.quantum (ready_after (can_run now.program now.me now.state) xs) []) parts.1 (subst (λ xs. AreRuns now.program.setup.quantum (ready_after (can_run now.program now.me now.state) w.takes) xs) parts.0 w.run))),
-        )
-        | inr c ↦ inl (omega (arith, c.1, none, h.many))
+      -- no processor has a pick where none was run
+      none_ready : p.reach ≡ processors_of now.program → NoneReady (processors_of q) (ready_after ready (acts_in h.passes))
+      none_ready e vp l =
+          let parts = split p.pass.runs p.pass.takes (sym (empty p.acts (p.many ∙ none)) ∙ p.pass.whole) in
+          let below : vp < p.reach = omega (arith, l, e, ap (λ (z : Program). processors_of z) program) in
+          let could : ℕ → Bool = can_run now.program now.me now.state in
+          let runs : AreRuns now.program.setup.quantum p.reach could p.pass.runs = subst (λ xs. AreRuns now.program.setup.quantum p.reach (ready_after could xs) p.pass.runs) parts.1 p.pass.run in
+          ap (λ (f : ℕ → Bool). f vp) h.does.ready ∙ none_run now.program.setup.quantum p.reach could p.pass.runs runs parts.0 vp below
+
+      ends : (length (acts_in h.passes) ≡ events) ⊎ ((no_acts ≡ no_acts) × NoneReady (processors_of q) (ready_after ready (acts_in h.passes)))
+      ends = elim p.cut as (λ z. (length (acts_in h.passes) ≡ events) ⊎ ((no_acts ≡ no_acts) × NoneReady (processors_of q) (ready_after ready (acts_in h.passes)))) [
+        | inl e ↦ inr (refl, none_ready e)
+        | inr full ↦ inl (omega (arith, full, none, h.many))
       ]
 
       first : (ps : List (List Moment)) → ps ≡ h.passes → (s : ℕ) → s < nodes_of q → can old (Take s) ≡ true → HasTake s (first_pass [] ps) ⊎ (length (first_pass [] ps) ≡ events)
@@ -433,24 +513,22 @@ module _ (events passed left count : ℕ) (old now new : NodeView) (h : PassesSo
 
   -- as many are done as may be
   pub passes_full : count ≡ left → DoesPasses events old new
-  passes_full full = elim p.cut as (λ z. DoesPasses events old new) [
-    | inl w ↦ only_whole events old new (p.acts ∷ h.passes) acts_are (whole_pass w, h.each) (omega (arith, all_many, full)) (inl (omega (arith, all_many, full)))
-        (firsts_later h.passes refl)
-    | inr c ↦ record {
-      acts = p.acts ++ acts_in h.passes;
-      does = acts_are;
-      passes = record {
-        passes = h.passes;
-        last = p.acts;
-        whole = refl;
-        each = h.each;
-        cut = subst (λ (z : Program). AreTakes (nodes_of z) p.acts) program c.0;
-        few = omega (arith, all_many, full);
-        ends = inl (omega (arith, all_many, full));
-        first = firsts_later h.passes refl;
-      };
-    }
-  ]
+  passes_full full = record {
+    acts = p.acts ++ acts_in h.passes;
+    does = acts_are;
+    passes = record {
+      passes = h.passes;
+      last = p.acts;
+      reach = p.reach;
+      whole = refl;
+      each = h.each;
+      within = subst (λ (z : Program). p.reach ≤ processors_of z) program p.within;
+      cut = pass_here;
+      few = omega (arith, all_many, full);
+      ends = inl (omega (arith, all_many, full));
+      first = firsts_later h.passes refl;
+    };
+  }
 
   -- there is more to do, and room for it
   pub passes_more : 0 < count → count < left → PassesSoFar events (passed + 1) (left - count) old new
@@ -463,7 +541,7 @@ module _ (events passed left count : ℕ) (old now new : NodeView) (h : PassesSo
       turns = omega (arith, h.turns, some, l);
       firsts = firsts_later h.passes refl;
     }
-    | inr c ↦ absurd (omega (arith, c.1, l))
+    | inr full ↦ absurd (omega (arith, full, l))
   ]
 
 pub passes_over : (events passed left : ℕ) (old now : NodeView) → events ≤ passed → PassesSoFar events passed left old now → DoesPasses events old now
@@ -482,7 +560,7 @@ rounded events old new b h =
     record {
       turns = f.0 ++ [];
       done = f.1;
-      passes = subst (λ ms. IsRound (nodes_of old.program) old.program.setup.quantum events (can_run old.program old.me old.state) (λ i. can old (Take i)) ms) (sym (f.2 ∙ append-nil h.acts)) h.passes;
+      passes = subst (λ ms. IsRound (nodes_of old.program) (processors_of old.program) old.program.setup.quantum events (can_run old.program old.me old.state) (λ i. can old (Take i)) ms) (sym (f.2 ∙ append-nil h.acts)) h.passes;
     }
 
 -- it is lost, whatever becomes of its state then

@@ -5,12 +5,12 @@ use Rattle.run_trace.specs.Console.{printed}
 use Rattle.run_trace.specs.Histories.{Turn, clock, turn_state}
 use Rattle.run_trace.specs.Local.{Local}
 use Rattle.run_trace.specs.Machine.{turn_event}
-use Rattle.run_trace.specs.Program.{Program, nodes_of}
+use Rattle.run_trace.specs.Program.{Program, nodes_of, processors_of}
 use Rattle.wires.specs.Wires.{StaysWired}
 use Rattle.node_loop.specs.declared.node.RoundEnd.{RoundEnd}
 use Rattle.node_loop.specs.declared.node.RoundEnd.TheVariants.{Through, Lost}
 use Rattle.node_loop.specs.Histories.{HasHistory, events_of_turns}
-use Rattle.node_loop.specs.Passes.{Moment, AreTakes, HasTake, IsPass, IsRound, ready_after}
+use Rattle.node_loop.specs.Passes.{Moment, AreRuns, AreTakes, HasTake, IsPass, IsRound, ready_after}
 use Rattle.node_loop.specs.Turns.{IsActInRange, IsLost, can}
 use Rattle.node_loop.specs.View.{NodeView}
 
@@ -31,11 +31,11 @@ pub record HasDone (old : NodeView) (turns : List Turn) (new : NodeView) : Type 
   pub booted : new.state.booted ≡ true
   pub wired : StaysWired old.ends new.ends
 
--- the processor can run a thread
-abbrev pub can_run : Program → (me : ℕ) → Local → Bool
-can_run p me s = is_some (turn_event p me s (Run 0 p.setup.quantum) None)
+-- which processors can run a thread
+abbrev pub can_run : Program → (me : ℕ) → Local → ℕ → Bool
+can_run p me s = λ vp. is_some (turn_event p me s (Run vp p.setup.quantum) None)
 
--- the acts of these turns, each with whether a thread can run after it
+-- the acts of these turns, each with which processors can run a thread after it
 abbrev pub moments_in : Program → (me : ℕ) → Local → List Turn → List Moment
 moments_in p me base [] = []
 moments_in p me base (t ∷ before) = record { act = t.event.act; ready = can_run p me (turn_state p me base (t ∷ before)) } ∷ moments_in p me base before
@@ -71,19 +71,33 @@ pub record DoesTakes (room count : ℕ) (old new : NodeView) : Type 0 where
   pub takes : AreTakes (nodes_of old.program) acts
   pub known : (sender : ℕ) → sender < nodes_of old.program → can old (Take sender) ≡ true → HasTake sender acts ⊎ (count ≡ room)
 
--- a pass: it is whole, or cut off after so many takes as there is room for
+-- a run of each processor that has a pick, or of so many as there is room for
+pub record DoesRuns (room count : ℕ) (old new : NodeView) : Type 0 where
+  pub acts : List Moment
+  pub does : DoesMore acts old new
+  pub many : length acts ≡ count
+  pub few : count ≤ room
+  pub reach : ℕ  -- the processors below this number were asked
+  pub within : reach ≤ processors_of old.program
+  pub runs : AreRuns old.program.setup.quantum reach (can_run old.program old.me old.state) acts
+  pub cut : (reach ≡ processors_of old.program) ⊎ (count ≡ room)
+
+-- a pass: it is whole, or cut off after so many acts as there is room for
 pub record DoesPass (room count : ℕ) (old new : NodeView) : Type 0 where
   pub acts : List Moment
   pub does : DoesMore acts old new
   pub many : length acts ≡ count
   pub few : count ≤ room
-  pub cut : IsPass (nodes_of old.program) old.program.setup.quantum (can_run old.program old.me old.state) acts ⊎ (AreTakes (nodes_of old.program) acts × (count ≡ room))
+  pub reach : ℕ  -- the processors below this number were asked
+  pub within : reach ≤ processors_of old.program
+  pub pass : IsPass (nodes_of old.program) reach old.program.setup.quantum (can_run old.program old.me old.state) acts
+  pub cut : (reach ≡ processors_of old.program) ⊎ (count ≡ room)
   pub known : (sender : ℕ) → sender < nodes_of old.program → can old (Take sender) ≡ true → HasTake sender acts ⊎ (count ≡ room)
 
 pub record DoesPasses (events : ℕ) (old new : NodeView) : Type 0 where
   pub acts : List Moment
   pub does : DoesMore acts old new
-  pub passes : IsRound (nodes_of old.program) old.program.setup.quantum events (can_run old.program old.me old.state) (λ i. can old (Take i)) acts
+  pub passes : IsRound (nodes_of old.program) (processors_of old.program) old.program.setup.quantum events (can_run old.program old.me old.state) (λ i. can old (Take i)) acts
 
 -- ## A round
 
@@ -91,7 +105,7 @@ pub record DoesPasses (events : ℕ) (old new : NodeView) : Type 0 where
 pub record HasRounded (old : NodeView) (events : ℕ) (new : NodeView) : Type 0 where
   pub turns : List Turn
   pub done : HasDone old turns new
-  pub passes : IsRound (nodes_of old.program) old.program.setup.quantum events (can_run old.program old.me old.state) (λ i. can old (Take i)) (moments_of_node old turns)
+  pub passes : IsRound (nodes_of old.program) (processors_of old.program) old.program.setup.quantum events (can_run old.program old.me old.state) (λ i. can old (Take i)) (moments_of_node old turns)
 
 -- it has done some turns, and then one found no memory: it is as if it hadn't begun
 pub record HasStopped (old : NodeView) (events : ℕ) (new : NodeView) : Type 0 where

@@ -9,7 +9,8 @@ use Rattle.run_trace.specs.Local.{EventSoFar}
 use Rattle.run_trace.specs.Machine.{turn_event}
 use Rattle.run_trace.specs.Cluster.{taken_of}
 use Rattle.run_trace.specs.Histories.{IsShape, Turn, seen}
-use Rattle.run_trace.specs.RunLists.{is_listed}
+use Rattle.levels.specs.Choice.{has_ready}
+use Rattle.run_trace.specs.Bubbles.{is_listed}
 use Rattle.wires.specs.declared.ends.Ends.{Ends}
 use Rattle.wires.specs.Ends.{node_of, width, sent_to, received_from, known_from}
 use Rattle.wires.specs.Wires.{StaysWired}
@@ -112,12 +113,12 @@ IsActInRange p n (Move t to) = (to < nodes_of p) × (to ≢ n)
 abbrev pub IsInRange : NodeView → Act → Type 0
 IsInRange v act = IsActInRange v.program v.me act
 
--- a thread can be picked, a packet of the sender is known, or the thread is on the run list
+-- the processor has a pick, a packet of the sender is known, or the thread is on the run list
 abbrev pub can : NodeView → Act → Bool
 can v Boot = false
-can v (Run vp quantum) = nat_lt 0 (length v.state.run_lists.rows)
+can v (Run vp quantum) = has_ready v.state.forest.lists.tree vp v.state.forest.lists.rows
 can v (Take from) = nat_lt 0 (length (known_from v.ends from))
-can v (Move t to) = is_listed t v.state.run_lists.rows
+can v (Move t to) = is_listed t v.state.forest
 
 -- how many entries a node may keep
 abbrev pub entry_limit : ℕ

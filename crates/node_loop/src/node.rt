@@ -1,20 +1,19 @@
 //! The node.
 
-ghost use Rattle.std.specs.Prelude.{◌≡◌, ◌+◌, ◌^◌, ◌<◌, ◌≤◌, length, max, suc, true, IfOk, OnOk, OnErr, IsOk, slice_get};
-ghost use Rattle.run_trace.specs.Guests.{unwaiting};
+ghost use Rattle.std.specs.Prelude.{◌≡◌, ℕ, ◌+◌, ◌^◌, ◌<◌, ◌≤◌, length, max, suc, true, IfOk, OnOk, OnErr, IsOk, slice_get};
 ghost use Rattle.run_trace.specs.Histories.{seen};
 ghost use Rattle.run_trace.specs.Machine.{turn_event, is_beyond};
 ghost use Rattle.run_trace.specs.Program.{quantum_limit};
 ghost use Rattle.wires.specs.Ends.{node_of, width, ArePaired, BothChanged, LinkChanged};
 ghost use Rattle.wires.specs.Link.{IsInOrder, IsSettled, BothBecome, OwnBecomes};
 ghost use Rattle.wires.specs.Wires.{StaysWired};
-ghost use Rattle.run_list.specs.Names.{names_of};
+ghost use Rattle.node_state.specs.Listed.{listed};
 ghost use Rattle.node_state.specs.Spare.{spare_kept};
 ghost use Rattle.node_state.specs.Views.{AreInOrder};
 ghost use Rattle.node_state.specs.Events.{program, Answers, StartsAligned};
 ghost use Rattle.node_loop.specs.View.{clock_limit, unbooted, raised, with_ends};
 ghost use Rattle.node_loop.specs.Links.{Records, Rests};
-ghost use Rattle.node_loop.specs.Rounds.{DoesPass, DoesPasses, DoesTakes, FailsLater, Rounds};
+ghost use Rattle.node_loop.specs.Rounds.{DoesPass, DoesPasses, DoesRuns, DoesTakes, FailsLater, Rounds};
 ghost use Rattle.node_loop.specs.Turns.{Turns, IsInRange, IsLost, can, entry_limit};
 
 use crate::gate::Gate;
@@ -212,8 +211,8 @@ impl Node {
     }
 
     /// A round: passes over all links and the run list, until `events` events are done or a pass finds nothing to do. Each pass
-    /// takes one packet from each link that shows one, in the order of senders, and then runs the processor if it has a pick. The
-    /// gate is passed at the start and between events.
+    /// takes one packet from each link that shows one, in the order of senders, and then runs each processor that has a pick when
+    /// its turn comes. The gate is passed at the start and between events.
     pub fn round<G: Gate>(&mut self, gate: &G, events: u32) -> RoundEnd
         requires entries { length self.old.entries + events ≤ entry_limit }
         requires quantum { (0 < self.old.program.setup.quantum) × (self.old.program.setup.quantum ≤ quantum_limit) }
@@ -261,14 +260,8 @@ impl Node {
         ensures err { OnErr result (FailsLater self.old self.new) }
     {
         let takes = self.take_each(gate, room)?;
-        if takes == room {
-            return Ok(takes);
-        }
-        let limit = self.quantum();
-        match self.event(gate, Act::Run(0, limit))? {
-            Turned::Did => Ok(takes + 1),
-            Turned::Idle => Ok(takes),
-        }
+        let runs = self.run_each(gate, room - takes)?;
+        Ok(takes + runs)
     }
 
     // The most instructions of a run.
@@ -296,6 +289,28 @@ impl Node {
             }
         }
         Ok(taken)
+    }
+
+    // Runs each processor that has a pick when its turn comes, at most so many.
+    fn run_each<G: Gate>(&mut self, gate: &G, room: u32) -> Result<u32, NoMemory>
+        requires entries { length self.old.entries + room ≤ entry_limit }
+        requires quantum { (0 < self.old.program.setup.quantum) × (self.old.program.setup.quantum ≤ quantum_limit) }
+        requires booted { self.old.state.booted ≡ true }
+        ensures ok { IfOk result (λ count. DoesRuns room count self.old self.new) }
+        ensures err { OnErr result (FailsLater self.old self.new) }
+    {
+        let limit = self.quantum();
+        let mut ran = 0;
+        for vp in 0..self.program.processors() {
+            if ran == room {
+                return Ok(ran);
+            }
+            match self.event(gate, Act::Run(vp, limit))? {
+                Turned::Did => ran += 1,
+                Turned::Idle => continue,
+            }
+        }
+        Ok(ran)
     }
 
     // An event, after which the gate is passed.
@@ -332,7 +347,7 @@ impl Node {
         }
     }
 
-    /// Whether a thread can be picked, the packet of the link is known, or the thread is on the run list.
+    /// Whether the processor has a pick, the packet of the link is known, or the thread is on a run list.
     pub fn possible(&self, act: &Act) -> bool
         requires { IsInRange self.now act.now }
         ensures { result ≡ can self.now act.now }
@@ -343,6 +358,13 @@ impl Node {
             Act::Run(_, _) => self.state.can(act),
             Act::Move(_, _) => self.state.can(act),
         }
+    }
+
+    /// Whether the processor has a pick.
+    pub fn has_pick(&self, vp: u8) -> bool
+        ensures { (quantum : ℕ) → result ≡ can self.now (Act.Run vp quantum) }
+    {
+        self.state.can(&Act::Run(vp, 1))
     }
 
     /// Whether a packet of this sender is known.
@@ -382,23 +404,30 @@ impl Node {
         self.state.halted()
     }
 
-    /// How many threads are on the run list.
-    pub fn ready(&self) -> usize
-        ensures { result ≡ length self.now.state.run_lists.rows }
+    /// How many threads and bubbles are on run lists.
+    pub fn ready(&self) -> u32
+        ensures { result ≡ length self.now.state.forest.lists.rows }
+    {
+        self.state.entities()
+    }
+
+    /// How many threads are on run lists.
+    pub fn listed(&self) -> usize
+        ensures { result ≡ length (listed self.now.state) }
     {
         self.state.ready()
     }
 
-    /// The name at this place among those of the threads on the run list, in the order of names.
+    /// The name at this place among those of the threads on run lists, in the order of names.
     pub fn ready_at(&self, place: usize) -> Option<Tid>
-        ensures { result ≡ slice_get (names_of self.now.state.run_lists.rows) place }
+        ensures { result ≡ slice_get (listed self.now.state) place }
     {
         self.state.ready_at(place)
     }
 
-    /// The names of the threads that are here and wait for nothing, ascending.
+    /// The names of the threads that are here and on run lists, ascending.
     pub fn ready_threads(&self) -> Result<Vec<Tid>, NoMemory>
-        ensures { IfOk result (λ names. names.items ≡ unwaiting self.now.state.threads) }
+        ensures { IfOk result (λ names. names.items ≡ listed self.now.state) }
     {
         self.state.ready_names(self.alloc)
     }

@@ -1,21 +1,23 @@
 -- The claims of a turn, served one after another, come to what the machine grants.
-use Rattle.std.proofs.Common.{◌≡◌, ℕ, suc, ◌<◌, ◌≤◌, ◌-◌, ◌++◌, List, [], ◌∷◌, Bool, true, Option, Some, None, cond, length, take, drop, refl, sym, ap, subst, ◌∙◌, arith, append-nil}
+use Rattle.std.proofs.Common.{◌≡◌, ℕ, suc, ◌<◌, ◌≤◌, ◌-◌, ◌++◌, List, [], ◌∷◌, Bool, true, false, Option, Some, None, cond, length, take, drop, refl, sym, ap, subst, ◌∙◌, arith, append-nil}
 use Rattle.std.specs.Prelude.{slice_get, is_some}
 use Rattle.std.proofs.lemmas.List.{take_at, length-take-le, length-append}
 use Rattle.slot_space.specs.Replies.{reply_code, tid_value}
 use Rattle.slot_space.specs.declared.names.Reply.TheVariants as replies
 use Rattle.slot_space.specs.declared.names.Tid.{Tid}
 use Rattle.iso_blocks.specs.Heap.{rounded, place}
+use Rattle.marcel_sync.specs.Semaphores.{number_in}
+use Rattle.run_trace.specs.declared.label.Why.{Why}
 use Rattle.run_trace.specs.declared.label.Why.TheVariants as why
 use Rattle.run_trace.specs.declared.call.Call.{Call}
-use Rattle.run_trace.specs.declared.call.Call.TheVariants.{Create, Isomalloc}
+use Rattle.run_trace.specs.declared.call.Call.TheVariants.{Create, Isomalloc, CreateIn}
 use Rattle.run_trace.specs.Calls.{call_of, place_code, slots_wanted}
 use Rattle.run_trace.specs.Guests.{Thread, heap_of, with_placed, slots_for}
 use Rattle.run_trace.specs.Talks.{Talk}
 use Rattle.run_trace.specs.Local.{EventSoFar}
-use Rattle.run_trace.specs.Steps.{next_name, thread_at, at_found, at_thread, say, keep, arrive, thread_in, birth_in, slots_out, birth, judge, judge_as, tell, tell_found, takes_run, speaks, decides}
+use Rattle.run_trace.specs.Steps.{next_name, thread_at, at_found, at_thread, say, keep, arrive, enter, thread_in, birth_in, slots_out, birth, judge, judge_as, tell, tell_found, takes_run, speaks, decides}
 use Rattle.run_trace.specs.Machine.{answer, free_run, free_slot, run_for, creates_in, places, allocates_in, serves_call, serves, has_run_for, refuses, ends_turn, wants_again, leaves_claims, grants}
-use Rattle.node_state.specs.Turns.{Grants}
+use Rattle.node_state.specs.Turns.{Grants, grants_to}
 
 -- ## A thread that is served may claim slots, and changes no other claim
 
@@ -33,12 +35,12 @@ told t code d = by (thread_at t d)
     by None = refl
     by (Some x) = refl
 
-created : (me : ℕ) (t : Tid) (entry argument priority : ℕ) (o : Option ℕ) (d : EventSoFar) → Adds d (creates_in me t entry argument priority o d)
-unfolding speaks birth judge arrive thread_in birth_in slots_out say
-created me t entry argument priority None d = (t ∷ [], refl)
-created me t entry argument priority (Some slot) d =
-    keeps d (creates_in me t entry argument priority (Some slot) d)
-    (told t (tid_value (next_name me d)) (judge t (tid_value (next_name me d)) None (birth me (why.Create t) entry argument priority slot d)))
+created : (me : ℕ) (t : Tid) (reason : Why) (entry argument priority : ℕ) (o : Option ℕ) (d : EventSoFar) → Adds d (creates_in me t reason entry argument priority o d)
+unfolding speaks birth judge enter thread_in birth_in slots_out say
+created me t reason entry argument priority None d = (t ∷ [], refl)
+created me t reason entry argument priority (Some slot) d =
+    keeps d (creates_in me t reason entry argument priority (Some slot) d)
+    (told t (tid_value (next_name me d)) (judge t (tid_value (next_name me d)) None (birth me reason entry argument priority slot d)))
 
 placed : (t : Tid) (size : ℕ) (o : Option Thread) (d : EventSoFar) → (at_found o (places t size) d).node.talk ≡ d.node.talk
 unfolding judge_as say keep
@@ -55,7 +57,8 @@ allocated t size (Some first) x d =
     keeps d (at_thread t (places t size) taken) (placed t size (thread_at t taken) taken)
 
 call_adds : (me : ℕ) (t : Tid) (c : Call) (x : Thread) (d : EventSoFar) → Adds d (serves_call me t c x d)
-call_adds me t (Create entry argument priority) x d = created me t entry argument priority (free_slot d.node.slots.free) d
+call_adds me t (Create entry argument priority) x d = created me t (why.Create t) entry argument priority (free_slot d.node.slots.free) d
+call_adds me t (CreateIn bubble entry argument priority) x d = created me t (why.Inside t (number_in bubble)) entry argument priority (free_slot d.node.slots.free) d
 call_adds me t (Isomalloc len) x d = allocated t (rounded len) (run_for (rounded len) x.guest d.node.slots.free) x d
 call_adds me t _ x d = keeps d d refl
 
@@ -112,6 +115,20 @@ granted_one me left t old mid new has some few first can is m n =
     let short : k ≤ length (drop 1 us) = omega (arith, few, some, ap length front) in
     let served = one_served me k t (drop 1 us) us old new front short (sym can ∙ is) (n ∙ ap (serves me t) m) in
     (served.0 ∙ ap (λ (i : ℕ). all me (take i us) old) next, served.1)
+
+-- or the first is refused, and the turn ends
+pub granted_none : (me left : ℕ) (t : Tid) (old mid refused ended new : EventSoFar) (has : Bool) → 0 < left → Some t ≡ slice_get old.node.talk.claims 0
+    → has ≡ has_run_for (thread_at t old) old.node.slots.free → has ≡ false → mid ≡ leaves_claims (take (left - 1) (drop 1 old.node.talk.claims)) old
+    → refused ≡ at_thread t (refuses t) mid → ended ≡ ends_turn refused → new ≡ wants_again ended → new ≡ grants_to me left old
+granted_none me left t old mid refused ended new has some first can is m r e n =
+    let us : List Tid = old.node.talk.claims in
+    let k : ℕ = left - 1 in
+    let left_in : EventSoFar = leaves_claims (take k (drop 1 us)) old in
+    let next : suc k ≡ left = omega (arith, some) in
+    n ∙ ap wants_again (e ∙ ap ends_turn (r ∙ ap (at_thread t (refuses t)) m))
+    ∙ sym (ap (λ (b : Bool). cond b (all me (take k (drop 1 us)) (serves me t left_in)) (wants_again (ends_turn (at_thread t (refuses t) left_in)))) (sym can ∙ is))
+    ∙ sym (ap (λ (xs : List Tid). all me (take (suc k) xs) old) (first_of t us first))
+    ∙ ap (λ (i : ℕ). all me (take i us) old) next
 
 -- ## A thread that is served, as it is found
 

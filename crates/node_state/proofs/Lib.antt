@@ -1,8 +1,8 @@
 pub mod Lowest
 pub mod Told
-pub mod InPlace
 pub mod Heaps
-pub mod Found
+pub mod Born
+pub mod Choices
 pub mod Coming
 pub mod Possible
 pub mod Waiting

@@ -1,25 +1,30 @@
 -- What the checks of a call come to in code, and how a thread that asks begins to wait.
-use Rattle.std.specs.Prelude.{◌≡◌, ℕ, ◌<◌, ◌≤◌, ◌/◌, ◌%◌, ◌^◌, List, [], Option, Some, None, true, ⊤}
+use Rattle.std.specs.Prelude.{◌≡◌, ℕ, ◌<◌, ◌≤◌, ◌/◌, ◌%◌, ◌^◌, List, [], Option, Some, None, Result, Ok, Err, true, ⊤}
 use Rattle.slot_space.specs.declared.names.Tid.{Tid}
 use Rattle.slot_space.specs.declared.names.Reply.{Reply}
 use Rattle.iso_blocks.specs.Heap.{starts_at}
-use Rattle.marcel_sync.specs.Semaphores.{node_in}
+use Rattle.marcel_sync.specs.Semaphores.{node_in, number_in}
+use Rattle.bubbles.specs.declared.bubble.Did.{Did}
+use Rattle.bubbles.specs.Forests.{ForestView, gathers}
 use Rattle.run_trace.specs.declared.call.Call.{Call}
-use Rattle.run_trace.specs.declared.call.Call.TheVariants.{Create, Join, Detach, SemNew, SemP, SemV, Isomalloc, Isofree, MigrateSelf, Migrate, Print}
+use Rattle.run_trace.specs.declared.call.Call.TheVariants.{Create, Join, Detach, SemNew, SemP, SemV, Isomalloc, Isofree, MigrateSelf, Migrate, Print, BubbleNew, CreateIn}
 use Rattle.run_trace.specs.declared.packet.Body.{Body}
 use Rattle.run_trace.specs.declared.node.Wait.TheVariants as wait
 use Rattle.run_trace.specs.Program.{Program}
 use Rattle.run_trace.specs.Guests.{Solo, Thread, waits}
 use Rattle.run_trace.specs.Calls.{refusal, bytes_of}
+use Rattle.run_trace.specs.Bubbles.{no_bubble}
 use Rattle.run_trace.specs.Local.{EventSoFar}
 use Rattle.run_trace.specs.Steps.{put, keep, asks}
 use Rattle.node_thread.specs.Limits.{block_limit}
 use Rattle.node_state.specs.declared.call.Checked.{Checked}
 use Rattle.node_state.specs.declared.call.Checked.TheVariants.{Refused, Shows, Passed}
 
--- a call whose checks have passed names an entry, a priority, a home, a value, a size and a node that fit
+-- a call whose checks have passed names an entry, a priority, a depth, a home, a value, a size and a node that fit
 abbrev pub IsSmall : Call → Type 0
 IsSmall (Create entry argument priority) = (priority ≤ 7) × (entry % 4 ≡ 0)
+IsSmall (CreateIn bubble entry argument priority) = (priority ≤ 7) × (entry % 4 ≡ 0)
+IsSmall (BubbleNew priority depth) = (priority ≤ 7) × (depth ≤ 2)
 IsSmall (Join name) = name / 2 ^ 32 < 256
 IsSmall (Detach name) = name / 2 ^ 32 < 256
 IsSmall (SemNew value) = value < 2 ^ 31
@@ -93,6 +98,11 @@ abbrev pub CanBeDone : Call → Option Thread → Checked → Type 0
 CanBeDone c o (Refused reply) = ⊤
 CanBeDone c o (Shows bytes) = IsPrint c
 CanBeDone c o Passed = IsSmall c × NamesBlockAt c o × IsHere o
+
+-- what a bubble that is to gather its members is answered: the forest's word, or the check of its name that fails
+abbrev pub AnswersGather : Program → (me name : ℕ) → ForestView → Result Did Reply → Type 0
+AnswersGather p me name f (Ok did) = (no_bubble p me name f ≡ None) × (did ≡ (gathers (number_in name) f).answer)
+AnswersGather p me name f (Err reply) = no_bubble p me name f ≡ Some reply
 
 -- the thread asks another node, by this packet, and waits for the answer
 unfoldable pub asks_by_link : Tid → Call → (to : ℕ) → Body → Thread → EventSoFar → EventSoFar

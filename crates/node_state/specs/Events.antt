@@ -1,12 +1,14 @@
 -- What an event of a node in code is.
-use Rattle.std.specs.Prelude.{◌≡◌, ℕ, ◌<◌, ◌%◌, [], Option, Some, None, Bool, true, false, length, nat_lt, ⊤}
+use Rattle.std.specs.Prelude.{◌≡◌, ℕ, ◌<◌, ◌%◌, [], Option, Some, None, Bool, true, false, ⊤}
 use Rattle.rv_inst.specs.declared.image.Image.{Image}
 use Rattle.slot_space.specs.Addresses.{starting_slots}
 use Rattle.slot_space.specs.Limits.{node_limit}
 use Rattle.run_trace.specs.declared.entry.Act.{Act}
 use Rattle.run_trace.specs.declared.entry.Act.TheVariants.{Boot, Run, Take, Move}
 use Rattle.run_trace.specs.declared.entry.Setup.{Setup}
-use Rattle.run_trace.specs.RunLists.{is_listed}
+use Rattle.levels.specs.Choice.{has_ready}
+use Rattle.bubbles.specs.Forests.{empty_forest}
+use Rattle.run_trace.specs.Bubbles.{is_listed}
 use Rattle.run_trace.specs.Program.{Program}
 use Rattle.run_trace.specs.Talks.{silent}
 use Rattle.run_trace.specs.Local.{Local, EventSoFar}
@@ -25,19 +27,19 @@ fresh_in setup n = record {
   booted = false;
   slots = record { free = starting_slots setup.geometry.nodes setup.geometry.slots n };
   threads = [];
-  run_lists = record { rows = []; next = 0 };
+  forest = empty_forest setup.tree;
   births = [];
   sems = [];
   halted = false;
   talk = silent;
 }
 
--- a thread can be picked, or the one that is to move is on the run list
+-- the processor has a pick, or the thread that is to move is on a run list
 abbrev pub can_act : Local → Act → Bool
 can_act s Boot = true
-can_act s (Run vp quantum) = nat_lt 0 (length s.run_lists.rows)
+can_act s (Run vp quantum) = has_ready s.forest.lists.tree vp s.forest.lists.rows
 can_act s (Take from) = true
-can_act s (Move t to) = is_listed t s.run_lists.rows
+can_act s (Move t to) = is_listed t s.forest
 
 -- the node that a packet is taken from has one of the numbers that there may be
 abbrev pub IsFromNode : Act → Type 0

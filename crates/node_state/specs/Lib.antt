@@ -1,4 +1,5 @@
 pub mod Views
+pub mod Listed
 pub mod Runs
 pub mod Asking
 pub mod Heaps

@@ -10,7 +10,7 @@ use Rattle.run_trace.specs.declared.packet.Send.{Send}
 use Rattle.run_trace.specs.Names.{tid_cmp}
 use Rattle.run_trace.specs.Guests.{Thread}
 use Rattle.run_trace.specs.Talks.{Talk}
-use Rattle.run_trace.specs.RunLists.{RunLists}
+use Rattle.bubbles.specs.Forests.{ForestView}
 use Rattle.run_trace.specs.Local.{Local, EventSoFar}
 
 -- the threads stand in the order of their names
@@ -20,12 +20,12 @@ AreInOrder threads = IsStrictlySortedBy tid_cmp (keys_of threads)
 abbrev pub talk_of : List Tid → Bool → List ℕ → Talk
 talk_of claims wants wanting = record { claims = claims; wants = wants; wanting = wanting }
 
-abbrev pub local_of : Bool → List ℕ → List (Tid × Thread) → RunLists → List Birth → List SemRow → Bool → Talk → Local
-local_of booted free threads run_lists births sems halted talk = record {
+abbrev pub local_of : Bool → List ℕ → List (Tid × Thread) → ForestView → List Birth → List SemRow → Bool → Talk → Local
+local_of booted free threads forest births sems halted talk = record {
   booted = booted;
   slots = record { free = free };
   threads = threads;
-  run_lists = run_lists;
+  forest = forest;
   births = births;
   sems = sems;
   halted = halted;

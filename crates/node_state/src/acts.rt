@@ -1,21 +1,14 @@
-//! The acts of a node: to begin, to run the thread that is picked, to take a packet, and to send a thread away.
+//! The acts of a node: to begin, to run the thread to which a processor comes, to take a packet, and to send a thread away.
 
-ghost use Rattle.std.specs.Prelude.{◌≡◌, ℕ, IfOk, true};
-ghost use Rattle.run_trace.specs.Machine.{boots, run_found, run_picked, is_range, acts, local_event};
+ghost use Rattle.std.specs.Prelude.{◌≡◌, IfOk, true};
+ghost use Rattle.run_trace.specs.Machine.{boots, is_range, acts, local_event};
 ghost use Rattle.run_trace.specs.Local.{nothing};
-ghost use Rattle.run_trace.specs.Steps.{thread_at};
 ghost use Rattle.node_state.specs.Events.{StartsAligned, Becomes, IsFromNode, can_act};
-ghost use Rattle.run_trace.specs.Trees.{Tree};
-ghost use Rattle.run_trace.specs.RunLists.{best_on};
 
 use crate::event_so_far::EventSoFar;
 use crate::here::Here;
 use basics::NoMemory;
-use run_trace::{Act, Packet, ReadyRow, Why};
-use slot_space::Tid;
-
-/// How many processors a node has.
-const PROCESSORS: u8 = 1;
+use run_trace::{Act, Packet, Why};
 
 /// The most instructions that an act may let a thread run.
 const QUANTUM_LIMIT: u32 = 65536;
@@ -47,41 +40,6 @@ impl EventSoFar {
         }
     }
 
-    /// The thread of this row runs, false where it isn't here.
-    fn run_found(
-        &mut self,
-        here: &Here<'_>,
-        vp: u8,
-        quantum: u32,
-        t: &Tid,
-    ) -> Result<bool, NoMemory>
-        requires { self.old ≡ nothing self.old.node }
-        ensures { IfOk result (λ did. Becomes (run_found here.now.program.now here.now.me vp quantum t.now (thread_at t.now self.old) self.old.node) self.old self.new did) }
-    {
-        let Some(stop) = self.runs(here.program.image(), t, vp, quantum)? else {
-            return Ok(false);
-        };
-        self.stops(here, t, stop)?;
-        Ok(true)
-    }
-
-    /// The thread that is picked runs, false where there is none.
-    fn run_picked(
-        &mut self,
-        here: &Here<'_>,
-        vp: u8,
-        quantum: u32,
-        row: Option<ReadyRow>,
-    ) -> Result<bool, NoMemory>
-        requires { self.old ≡ nothing self.old.node }
-        ensures { IfOk result (λ did. Becomes (run_picked here.now.program.now here.now.me vp quantum row self.old.node) self.old self.new did) }
-    {
-        match row {
-            None => Ok(false),
-            Some(row) => self.run_found(here, vp, quantum, &row.tid),
-        }
-    }
-
     /// The act's numbers are such as the node can do.
     #[tactic(auto, unfolding(run_trace::specs::Machine::is_range))]
     fn is_range(&self, here: &Here<'_>, act: &Act) -> bool
@@ -96,7 +54,8 @@ impl EventSoFar {
             Act::Run(vp, quantum) => {
                 me.0 < nodes
                     && (node.booted
-                        && (*vp < PROCESSORS && (0 < *quantum && *quantum <= QUANTUM_LIMIT)))
+                        && (*vp < here.program.processors()
+                            && (0 < *quantum && *quantum <= QUANTUM_LIMIT)))
             }
             Act::Take(from) => me.0 < nodes && (node.booted && from.0 < nodes),
             Act::Move(_, to) => { me.0 < nodes && (node.booted && (to.0 < nodes && to.0 != me.0)) }
@@ -118,8 +77,8 @@ impl EventSoFar {
                     Ok(true)
                 }
                 Act::Run(vp, quantum) => {
-                    let row = self.best();
-                    self.run_picked(here, *vp, *quantum, row)
+                    self.chooses(here, *vp, *quantum)?;
+                    Ok(true)
                 }
                 Act::Move(t, to) => self.moves_listed(here.program, t, *to),
                 Act::Take(_) => Ok(false),
@@ -133,14 +92,6 @@ impl EventSoFar {
                 _ => Ok(false),
             },
         }
-    }
-
-    /// The row of the run list that is picked, on whatever processor of whatever tree.
-    fn best(&self) -> Option<ReadyRow>
-        ensures { (tree : Tree) (vp : ℕ) → result ≡ best_on tree vp self.now.node.run_lists.rows }
-    {
-        let node = &self.node;
-        node.run_list.best()
     }
 
     /// One event, from a node where nothing has happened; false where the act isn't possible.

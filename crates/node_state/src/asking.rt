@@ -157,10 +157,9 @@ impl EventSoFar {
         let Some(thread) = node.threads.get_mut(t) else {
             return Ok(());
         };
-        let priority = thread.priority();
         thread.tell(code, second);
         self.say(Label::Told(*t))?;
-        self.arrive(t, priority)
+        self.arrive(t)
     }
 
     /// The reply of the thread's call is settled, and goes to its node.

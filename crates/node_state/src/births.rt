@@ -3,7 +3,8 @@
 ghost use Rattle.std.specs.Prelude.{◌≡◌, ◌<◌, ◌≤◌, ◌%◌, IfOk, IfSome};
 ghost use Rattle.slot_space.specs.Limits.{slot_limit};
 ghost use Rattle.run_trace.specs.Guests.{stack_end};
-ghost use Rattle.run_trace.specs.Steps.{next_name, birth};
+ghost use Rattle.run_trace.specs.Bubbles.{bubble_for};
+ghost use Rattle.run_trace.specs.Steps.{next_name, enter, birth};
 ghost use Rattle.run_trace.specs.Machine.{free_slot};
 
 use crate::event_so_far::EventSoFar;
@@ -18,6 +19,16 @@ fn stack_end(setup: &Setup, slot: SlotNo) -> u64
     ensures { result ≡ stack_end slot }
 {
     setup.geometry.base(slot) + SLOT_SIZE
+}
+
+/// The bubble for which a thread is born.
+fn bubble_for(why: &Why) -> Option<u32>
+    ensures { result ≡ bubble_for why.now }
+{
+    match why {
+        Why::Inside(_, bubble) => Some(*bubble),
+        _ => None,
+    }
 }
 
 impl EventSoFar {
@@ -40,6 +51,13 @@ impl EventSoFar {
     {
         let node = &self.node;
         node.free.lowest_run(1)
+    }
+
+    /// A new thread becomes a member of the bubble for which it is born, where that takes members, else it is on the root list.
+    fn enter_for(&mut self, t: &Tid, priority: u8, why: &Why) -> Result<(), NoMemory>
+        ensures { IfOk result (λ _. self.new ≡ enter t.now priority (bubble_for why.now) self.old) }
+    {
+        self.enter(t, priority, bubble_for(why))
     }
 
     /// A thread is born, with this slot as its stack.
@@ -74,6 +92,6 @@ impl EventSoFar {
         let pool = &mut self.pool;
         let thread = Thread::newborn(self.alloc, pool, entry, a0, sp, slot, priority)?;
         self.thread_in(&t, thread)?;
-        self.arrive(&t, priority)
+        self.enter_for(&t, priority, &why)
     }
 }

@@ -26,7 +26,7 @@ impl EventSoFar {
     }
 
     /// The thread asks, and has its reply at once.
-    fn asks_and_hears(&mut self, t: &Tid, call: Call, code: u64) -> Result<(), NoMemory>
+    pub(crate) fn asks_and_hears(&mut self, t: &Tid, call: Call, code: u64) -> Result<(), NoMemory>
         ensures { IfOk result (λ _. self.new ≡ answer t.now code (asks t.now call self.old)) }
     {
         self.asks(t, call)?;
@@ -34,7 +34,7 @@ impl EventSoFar {
     }
 
     /// The thread creates another one, for which it seeks a slot.
-    fn asks_slot(&mut self, here: &Here<'_>, t: &Tid, call: Call) -> Result<(), NoMemory>
+    pub(crate) fn asks_slot(&mut self, here: &Here<'_>, t: &Tid, call: Call) -> Result<(), NoMemory>
         ensures { IfOk result (λ _. self.new ≡ serves here.now.me t.now (at_thread t.now (asks_slots t.now call) self.old)) }
     {
         self.asks_slots(t, call)?;
@@ -79,6 +79,11 @@ impl EventSoFar {
                 self.sends(here, t, name, NodeNo(to as u8))
             }
             Call::Print { .. } => self.asks_show(t, call, Items::new(Vec::new(self.alloc))),
+            Call::BubbleNew { priority, depth } => self.makes_bubble(here, t, priority, depth),
+            Call::BubbleInsert { bubble, member } => self.inserts_bubble(here, t, bubble, member),
+            Call::BubbleWake(bubble) => self.wakes_bubble(here, t, bubble),
+            Call::BubbleGather(bubble) => self.gathers_bubble(here, t, bubble),
+            Call::CreateIn { bubble, .. } => self.creates_inside(here, t, call, bubble),
             Call::Halt => {
                 self.asks(t, call)?;
                 self.halts(t)
@@ -117,10 +122,7 @@ impl EventSoFar {
             return Ok(());
         };
         match stop {
-            Stop::Quantum => {
-                let priority = thread.priority();
-                self.arrive(t, priority)
-            }
+            Stop::Quantum => self.arrive(t),
             Stop::Call => {
                 let call = thread.call();
                 let checked = check(alloc, here.program, t, thread, call)?;

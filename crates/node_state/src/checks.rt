@@ -57,8 +57,13 @@ fn check_numbers(program: &Program, t: &Tid, call: Call) -> Checked
     match call {
         Call::Create {
             entry,
-            argument: _,
             priority,
+            ..
+        }
+        | Call::CreateIn {
+            entry,
+            priority,
+            ..
         } => {
             if is_entry(program.image(), entry) && priority <= 7 {
                 Checked::Passed
@@ -79,6 +84,18 @@ fn check_numbers(program: &Program, t: &Tid, call: Call) -> Checked
             }
             Checked::Passed
         }
+        Call::BubbleNew { priority, depth } => {
+            if priority > 7 || depth > 2 {
+                return Checked::Refused(Reply::BadArgument);
+            }
+            Checked::Passed
+        }
+        Call::BubbleInsert { bubble, member } => {
+            if bubble == member {
+                return Checked::Refused(Reply::BadArgument);
+            }
+            Checked::Passed
+        }
         Call::Isomalloc(len) => check_len(program, len),
         Call::MigrateSelf(to) | Call::Migrate { name: _, to } => {
             if to >= program.nodes() as u64 {
@@ -86,8 +103,18 @@ fn check_numbers(program: &Program, t: &Tid, call: Call) -> Checked
             }
             Checked::Passed
         }
-        Call::Unknown(_) => Checked::Refused(Reply::BadArgument),
-        _ => Checked::Passed,
+        Call::Exit(_)
+        | Call::Name
+        | Call::Node
+        | Call::Nodes
+        | Call::Yield
+        | Call::BubbleWake(_)
+        | Call::BubbleGather(_)
+        | Call::Halt => Checked::Passed,
+        // The others look at the thread.
+        Call::Unknown(_) | Call::Print { .. } | Call::Isofree(_) => {
+            Checked::Refused(Reply::BadArgument)
+        }
     }
 }
 

@@ -2,18 +2,19 @@
 
 ghost use Rattle.std.specs.Prelude.{◌≡◌, ◌∷◌, [], IfOk};
 ghost use Rattle.run_trace.specs.Local.{nothing, with_booted};
-ghost use Rattle.run_trace.specs.Steps.{say, put, print, arrive, take_off, thread_in, thread_out, slots_out, slots_in, birth_in};
+ghost use Rattle.bubbles.specs.Picking.{step};
+ghost use Rattle.run_trace.specs.Steps.{say, put, print, enter, arrive, depart, choose, thread_in, thread_out, slots_out, slots_in, birth_in};
 ghost use Rattle.node_state.specs.Events.{fresh_in};
 
 use crate::output::EventOutput;
 use crate::state::LocalState;
 use crate::talk::Talk;
 use basics::{Items, NoMemory};
+use bubbles::{Forest, Step};
 use marcel_core::{BIRTH_LIMIT, Homes};
 use marcel_sync::Sems;
 use node_thread::Thread;
 use raw_slots::Pool;
-use run_list::RunList;
 use run_trace::{Body, Label, Send, Setup};
 use slot_space::{NodeNo, SlotNo, SlotSet, Tid};
 use std::alloc::Global;
@@ -53,7 +54,7 @@ impl EventSoFar {
                 booted: false,
                 free: SlotSet::starting(&setup.geometry, me),
                 threads: BTreeMap::new(alloc),
-                run_list: RunList::new(alloc),
+                forest: Forest::new(alloc, setup.tree),
                 homes: Homes::new(alloc, me),
                 sems: Sems::new(alloc, me, setup.geometry.nodes()),
                 halted: false,
@@ -115,22 +116,49 @@ impl EventSoFar {
         Ok(())
     }
 
-    /// The thread is on the run list.
-    #[tactic(auto, unfolding(run_trace::specs::Steps::arrive))]
-    pub(crate) fn arrive(&mut self, t: &Tid, priority: u8) -> Result<(), NoMemory>
-        ensures { IfOk result (λ _. self.new ≡ arrive t.now priority self.old) }
+    /// A new thread of the node becomes a member of the bubble, where that takes members, else it is on the root list.
+    #[tactic(auto, unfolding(run_trace::specs::Steps::enter))]
+    pub(crate) fn enter(
+        &mut self,
+        t: &Tid,
+        priority: u8,
+        bubble: Option<u32>,
+    ) -> Result<(), NoMemory>
+        ensures { IfOk result (λ _. self.new ≡ enter t.now priority bubble self.old) }
     {
         let node = &mut self.node;
-        node.run_list.arrive(*t, priority)
+        node.forest.add_thread(*t, priority, bubble)
     }
 
-    /// The thread leaves the run list.
-    #[tactic(auto, unfolding(run_trace::specs::Steps::take_off))]
-    pub(crate) fn take_off(&mut self, t: &Tid)
-        ensures { self.new ≡ take_off t.now self.old }
+    /// A thread that goes on is on the list from which it ran last.
+    #[tactic(auto, unfolding(run_trace::specs::Steps::arrive))]
+    pub(crate) fn arrive(&mut self, t: &Tid) -> Result<(), NoMemory>
+        ensures { IfOk result (λ _. self.new ≡ arrive t.now self.old) }
     {
         let node = &mut self.node;
-        node.run_list.take_off(*t);
+        node.forest.again(*t)
+    }
+
+    /// The thread is on no list and in no bubble of the node.
+    #[tactic(auto, unfolding(run_trace::specs::Steps::depart))]
+    pub(crate) fn depart(&mut self, t: &Tid)
+        ensures { self.new ≡ depart t.now self.old }
+    {
+        let node = &mut self.node;
+        node.forest.leave(*t);
+    }
+
+    /// A processor chooses: nothing, a thread, or a bubble, which is moved. Want of memory is also where the lists haven't the processor.
+    #[tactic(auto, unfolding(run_trace::specs::Steps::choose))]
+    pub(crate) fn choose(&mut self, vp: u8) -> Result<Step, NoMemory>
+        ensures what { IfOk result (λ what. what ≡ (step vp self.old.node.forest).what) }
+        ensures after { IfOk result (λ _. self.new ≡ choose vp self.old) }
+    {
+        let node = &mut self.node;
+        if vp >= node.forest.tree().processors() {
+            return Err(NoMemory);
+        }
+        node.forest.step(vp)
     }
 
     /// Adds a thread.

@@ -5,9 +5,11 @@
 mod acts;
 mod asking;
 mod births;
+mod bubble_calls;
 mod call;
 mod calls;
 mod checks;
+mod choosing;
 mod event_so_far;
 mod heap;
 mod here;

@@ -7,16 +7,16 @@ ghost use Rattle.run_trace.specs.Local.{nothing};
 ghost use Rattle.run_trace.specs.Names.{tid_of};
 ghost use Rattle.run_trace.specs.Steps.{at_thread, leaves};
 ghost use Rattle.run_trace.specs.Machine.{goes, migrates, sends_away, sends, moves_listed, lives_yet, are_away};
-ghost use Rattle.run_trace.specs.RunLists.{is_listed};
+ghost use Rattle.run_trace.specs.Bubbles.{is_listed};
 ghost use Rattle.slot_space.specs.Limits.{node_limit};
 ghost use Rattle.slot_space.specs.Replies.{tid_value};
 ghost use Rattle.slot_space.specs.Sets.{meets};
 ghost use Rattle.node_state.specs.Events.{Becomes};
-ghost use Rattle.node_state.specs.Moves.{listed_name, may_enter, enters};
+ghost use Rattle.node_state.specs.Moves.{may_enter, enters};
 
 use crate::event_so_far::EventSoFar;
 use crate::here::Here;
-use crate::names::{home_of, tid_of};
+use crate::names::{NAMES, home_of, tid_of};
 use crate::state::LocalState;
 use basics::NoMemory;
 use node_thread::Newcomer;
@@ -48,8 +48,8 @@ impl LocalState {
 }
 
 impl EventSoFar {
-    /// The thread, which is on the run list, goes to another node with all that it has.
-    #[tactic(auto, unfolding(run_trace::specs::Steps::leaves, run_trace::specs::Steps::thread_out, run_trace::specs::Steps::take_off))]
+    /// The thread, which is on a run list, goes to another node with all that it has.
+    #[tactic(auto, unfolding(run_trace::specs::Steps::leaves, run_trace::specs::Steps::thread_out, run_trace::specs::Steps::depart))]
     fn leaves(&mut self, t: &Tid, to: NodeNo) -> Result<(), NoMemory>
         requires { t.now.home < node_limit }
         ensures { IfOk result (λ _. self.new ≡ at_thread t.now (leaves t.now to) self.old) }
@@ -59,7 +59,7 @@ impl EventSoFar {
             return Ok(());
         };
         let packed = thread.pack(self.alloc, t)?;
-        self.take_off(t);
+        self.depart(t);
         self.say(Label::Left { t: *t, to })?;
         self.put(to, Body::Mover(packed))
     }
@@ -85,22 +85,22 @@ impl EventSoFar {
         self.goes(here.program, t, to)
     }
 
-    /// The thread of that name, where it is on the run list.
-    fn listed_name(&self, name: u64) -> Option<Tid>
-        ensures { result ≡ listed_name (tid_of name) self.now.node.run_lists.rows }
+    /// The thread of that name is on a run list.
+    fn is_listed(&self, name: u64) -> bool
+        ensures { result ≡ is_listed (tid_of name) self.now.node.forest }
     {
         let node = &self.node;
-        // No node's number is so great, and no thread has another home.
-        node.run_list.have_homes();
-        if home_of(name) > u8::MAX as u64 {
-            return None;
+        node.forest.on_list_by(home_of(name), (name % NAMES) as u32)
+    }
+
+    /// The thread of that name goes to another node, as each does whose home is a node of the cluster.
+    fn migrates_named(&mut self, here: &Here<'_>, to: NodeNo, name: u64) -> Result<(), NoMemory>
+        ensures { IfOk result (λ _. self.new ≡ migrates here.now.program.now here.now.me to (tid_of name) self.old) }
+    {
+        if home_of(name) >= here.program.nodes() as u64 {
+            return Ok(());
         }
-        let other = tid_of(name);
-        if node.run_list.is_listed(&other) {
-            Some(other)
-        } else {
-            None
-        }
+        self.migrates(here, to, &tid_of(name))
     }
 
     /// The thread sends the one of that name to another node. One that sends itself has its reply before it leaves.
@@ -120,7 +120,7 @@ impl EventSoFar {
         self.sends_away(here, t, name, to)
     }
 
-    /// The thread sends another one away, which has to be on the run list.
+    /// The thread sends another one away, which has to be on a run list.
     fn sends_away(
         &mut self,
         here: &Here<'_>,
@@ -128,16 +128,16 @@ impl EventSoFar {
         name: u64,
         to: NodeNo,
     ) -> Result<(), NoMemory>
-        ensures { IfOk result (λ _. self.new ≡ sends_away here.now.program.now here.now.me (tid_of name) to t.now (is_listed (tid_of name) self.old.node.run_lists.rows) self.old) }
+        ensures { IfOk result (λ _. self.new ≡ sends_away here.now.program.now here.now.me (tid_of name) to t.now (is_listed (tid_of name) self.old.node.forest) self.old) }
     {
-        let Some(other) = self.listed_name(name) else {
+        if !self.is_listed(name) {
             return self.answer(t, Reply::NotHere.code());
-        };
-        self.migrates(here, to, &other)?;
+        }
+        self.migrates_named(here, to, name)?;
         self.answer(t, 0)
     }
 
-    /// A thread that is on the run list is sent away, false where it isn't here.
+    /// A thread that is on a run list is sent away, false where it isn't here.
     pub(crate) fn moves_listed(
         &mut self,
         program: &Program,
@@ -145,7 +145,7 @@ impl EventSoFar {
         to: NodeNo,
     ) -> Result<bool, NoMemory>
         requires node { self.old ≡ nothing self.old.node }
-        requires listed { is_listed t.now self.old.node.run_lists.rows ≡ true }
+        requires listed { is_listed t.now self.old.node.forest ≡ true }
         ensures { IfOk result (λ did. Becomes (moves_listed program.now t.now to self.old.node) self.old self.new did) }
     {
         let node = &self.node;
@@ -188,7 +188,7 @@ impl EventSoFar {
         node.are_away(&newcomer.thread.slots())
     }
 
-    /// The thread comes, and is on the run list, the last to arrive.
+    /// The thread comes, and is on the root list, the last to arrive.
     pub(crate) fn enters(&mut self, newcomer: Newcomer) -> Result<(), NoMemory>
         ensures { IfOk result (λ _. self.new ≡ enters newcomer self.old) }
     {
@@ -201,6 +201,6 @@ impl EventSoFar {
         let priority = thread.priority();
         self.say(Label::Came(*t))?;
         self.thread_in(t, thread)?;
-        self.arrive(t, priority)
+        self.enter(t, priority, None)
     }
 }

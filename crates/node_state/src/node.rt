@@ -2,9 +2,9 @@
 
 ghost use Rattle.std.specs.Prelude.{◌≡◌, ◌≤◌, IfOk, length, slice_get};
 ghost use Rattle.run_trace.specs.Machine.{local_event};
-ghost use Rattle.run_trace.specs.Guests.{unwaiting};
-ghost use Rattle.run_list.specs.Names.{names_of};
+ghost use Rattle.levels.specs.Choice.{has_ready};
 ghost use Rattle.node_state.specs.Views.{AreInOrder};
+ghost use Rattle.node_state.specs.Listed.{listed};
 ghost use Rattle.node_state.specs.Spare.{spare_kept};
 ghost use Rattle.node_state.specs.Events.{StartsAligned, fresh_in, can_act, Answers};
 
@@ -61,8 +61,9 @@ impl NodeState {
     }
 
     /// One event: what it has come to, or None where the act isn't possible, and then nothing has changed. Want of memory is
-    /// also where a home can't count another birth or another semaphore, or the run list another arrival, and where slots are claimed for
-    /// a call that its checks refuse, as none is.
+    /// also where a home can't count another birth or another semaphore, the run lists another arrival or bubble, or a bubble its members;
+    /// and where slots are claimed for a call that its checks refuse, the run lists have other processors than the program says, or a
+    /// processor that has a pick doesn't come to a thread of the node, as none does.
     pub fn event(
         &mut self,
         program: &Program,
@@ -82,30 +83,44 @@ impl NodeState {
         if result? { Ok(Some(done)) } else { Ok(None) }
     }
 
-    /// Whether a thread can be picked, or the one that is to move is on the run list. An event asks the same.
+    /// Whether the processor has a pick, or the thread that is to move is on a run list. An event asks the same.
     pub fn can(&self, act: &Act) -> bool
         ensures { result ≡ can_act self.now act.now }
     {
         self.doing.node.can(act)
     }
 
-    /// How many threads are on the run list.
+    /// Whether the processor has a pick.
+    pub fn has_pick(&self, vp: u8) -> bool
+        ensures { result ≡ has_ready self.now.forest.lists.tree vp self.now.forest.lists.rows }
+    {
+        self.doing.node.forest.has_pick(vp)
+    }
+
+    /// How many threads and bubbles are on run lists.
+    pub fn entities(&self) -> u32
+        ensures { result ≡ length self.now.forest.lists.rows }
+    {
+        self.doing.node.forest.count()
+    }
+
+    /// How many threads are on run lists.
     pub fn ready(&self) -> usize
-        ensures { result ≡ length self.now.run_lists.rows }
+        ensures { result ≡ length (listed self.now) }
     {
-        self.doing.node.run_list.count()
+        self.doing.node.ready()
     }
 
-    /// The name at this place among those of the threads on the run list, in the order of names.
+    /// The name at this place among those of the threads that are on run lists, in the order of names.
     pub fn ready_at(&self, place: usize) -> Option<Tid>
-        ensures { result ≡ slice_get (names_of self.now.run_lists.rows) place }
+        ensures { result ≡ slice_get (listed self.now) place }
     {
-        self.doing.node.run_list.name_at(place)
+        self.doing.node.ready_at(place)
     }
 
-    /// The names of the threads that are here and wait for nothing, ascending.
+    /// The names of the threads that are here and on run lists, ascending.
     pub fn ready_names(&self, alloc: Global) -> Result<Vec<Tid>, NoMemory>
-        ensures { IfOk result (λ names. names.items ≡ unwaiting self.now.threads) }
+        ensures { IfOk result (λ names. names.items ≡ listed self.now) }
     {
         self.doing.node.ready_names(alloc)
     }

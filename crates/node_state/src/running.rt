@@ -1,7 +1,7 @@
 //! A thread runs, and a thread ends.
 
 ghost use Rattle.std.specs.Prelude.{◌≡◌, IfOk};
-ghost use Rattle.run_trace.specs.Steps.{thread_at, at_thread};
+ghost use Rattle.run_trace.specs.Steps.{thread_at, at_thread, ends};
 ghost use Rattle.run_trace.specs.Machine.{end_thread};
 ghost use Rattle.node_state.specs.Runs.{ran_at, stop_found};
 
@@ -14,8 +14,8 @@ use rv_step::Stop;
 use slot_space::Tid;
 
 impl EventSoFar {
-    /// The thread runs, and why it stops, None where it isn't here.
-    #[tactic(auto, unfolding(run_trace::specs::Steps::ran, run_trace::specs::Steps::keep, run_trace::specs::Steps::take_off))]
+    /// The thread, which is chosen, runs, and why it stops, None where it isn't here.
+    #[tactic(auto, unfolding(run_trace::specs::Steps::keep))]
     pub(crate) fn runs(
         &mut self,
         image: &Image,
@@ -31,7 +31,6 @@ impl EventSoFar {
             return Ok(None);
         };
         let ran = thread.run(image, quantum);
-        self.take_off(t);
         self.say(Label::Ran {
             t: *t,
             vp,
@@ -42,7 +41,7 @@ impl EventSoFar {
     }
 
     /// The thread gives all its slots back, and is here no more; it has ended, and its home gets a note.
-    #[tactic(auto, unfolding(run_trace::specs::Steps::gives, run_trace::specs::Steps::ends))]
+    #[tactic(auto, unfolding(run_trace::specs::Steps::gives))]
     pub(crate) fn end_thread(&mut self, t: &Tid, end: End) -> Result<(), NoMemory>
         ensures { IfOk result (λ _. self.new ≡ at_thread t.now (λ x. end_thread t.now x end) self.old) }
     {
@@ -58,6 +57,15 @@ impl EventSoFar {
         })?;
         self.slots_in(&slots);
         self.thread_out(t);
+        self.ends(t, end)
+    }
+
+    /// The thread has ended, and its home gets a note.
+    #[tactic(auto, unfolding(run_trace::specs::Steps::ends))]
+    fn ends(&mut self, t: &Tid, end: End) -> Result<(), NoMemory>
+        ensures { IfOk result (λ _. self.new ≡ ends t.now end self.old) }
+    {
+        self.depart(t);
         self.say(Label::Ended { t: *t, end })?;
         self.put(t.home, Body::EndNote { seq: t.seq, end })
     }

@@ -1,15 +1,15 @@
 //! The state of a node.
 
-ghost use Rattle.std.specs.Prelude.{◌≡◌, IfOk};
-ghost use Rattle.run_trace.specs.Guests.{unwaiting};
+ghost use Rattle.std.specs.Prelude.{◌≡◌, IfOk, length, slice_get};
 ghost use Rattle.node_state.specs.Events.{can_act};
+ghost use Rattle.node_state.specs.Listed.{listed_among, listed};
 
 use crate::talk::Talk;
 use basics::NoMemory;
+use bubbles::Forest;
 use marcel_core::Homes;
 use marcel_sync::Sems;
 use node_thread::Thread;
-use run_list::RunList;
 use run_trace::Act;
 use slot_space::{SlotSet, Tid};
 use std::alloc::Global;
@@ -24,7 +24,8 @@ pub(crate) struct LocalState {
     pub(crate) free: SlotSet,
     /// The threads that are here and live.
     pub(crate) threads: BTreeMap<Tid, Thread>,
-    pub(crate) run_list: RunList,
+    /// Its run lists and bubbles.
+    pub(crate) forest: Forest,
     /// The threads that were born here.
     pub(crate) homes: Homes,
     /// The semaphores that were made here.
@@ -40,33 +41,64 @@ impl Model for LocalState {
 
     ghost Value = { Local };
 
-    ghost view = { λ s. local_of s.booted s.free s.threads.entries s.run_list s.homes.births s.sems.sems s.halted s.talk };
+    ghost view = { λ s. local_of s.booted s.free s.threads.entries s.forest s.homes.births s.sems.sems s.halted s.talk };
 }
 
 impl LocalState {
-    /// A thread can be picked, or the one that is to move is on the run list. The other acts need neither.
+    /// The processor has a pick, or the thread that is to move is on a run list. The other acts need neither.
     pub(crate) fn can(&self, act: &Act) -> bool
         ensures { result ≡ can_act self.now act.now }
     {
         match act {
-            Act::Run(_, _) => self.run_list.count() > 0,
-            Act::Move(t, _) => self.run_list.is_listed(t),
+            Act::Run(vp, _) => self.forest.has_pick(*vp),
+            Act::Move(t, _) => self.forest.on_list(*t),
             Act::Boot => true,
             Act::Take(_) => true,
         }
     }
 
-    /// The names of the threads that wait for nothing, ascending.
+    /// The names of the threads that are on run lists, ascending.
     pub(crate) fn ready_names(&self, alloc: Global) -> Result<Vec<Tid>, NoMemory>
-        ensures { IfOk result (λ names. names.items ≡ unwaiting self.now.threads) }
+        ensures { IfOk result (λ names. names.items ≡ listed self.now) }
     {
         let mut names = Vec::new(alloc);
-        for (t, thread) in &self.threads {
-            if !thread.is_unwaiting() {
+        for (t, _) in &self.threads {
+            if !self.forest.on_list(*t) {
                 continue;
             }
             names.push(*t)?;
         }
         Ok(names)
+    }
+
+    /// How many threads are on run lists.
+    pub(crate) fn ready(&self) -> usize
+        ensures { result ≡ length (listed self.now) }
+    {
+        let mut count = self.threads.len();
+        for (t, _) in &self.threads {
+            if self.forest.on_list(*t) {
+                continue;
+            }
+            count -= 1;
+        }
+        count
+    }
+
+    /// The name at this place among those of the threads that are on run lists.
+    pub(crate) fn ready_at(&self, place: usize) -> Option<Tid>
+        ensures { result ≡ slice_get (listed self.now) place }
+    {
+        let mut left = place;
+        for (t, _) in &self.threads {
+            if !self.forest.on_list(*t) {
+                continue;
+            }
+            if left == 0 {
+                return Some(*t);
+            }
+            left -= 1;
+        }
+        None
     }
 }

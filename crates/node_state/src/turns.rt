@@ -9,6 +9,7 @@ ghost use Rattle.run_trace.specs.Machine.{claims, creates, serves_call, serves, 
 ghost use Rattle.node_state.specs.Asking.{IsSmall, IsHere};
 ghost use Rattle.node_state.specs.Turns.{turn_for, Grants};
 
+use crate::bubble_calls::number_in;
 use crate::event_so_far::EventSoFar;
 use crate::heap::slots_for;
 use crate::here::Here;
@@ -27,8 +28,13 @@ fn slots_wanted(call: &Call) -> Result<u16, NoMemory>
     match call {
         Call::Create {
             entry,
-            argument: _,
             priority,
+            ..
+        }
+        | Call::CreateIn {
+            entry,
+            priority,
+            ..
         } => {
             if *entry % 4 == 0 && *priority <= 7 {
                 return Ok(1);
@@ -82,19 +88,20 @@ impl EventSoFar {
         &mut self,
         here: &Here<'_>,
         t: &Tid,
+        reason: Why,
         entry: u64,
         argument: u64,
         priority: u8,
     ) -> Result<(), NoMemory>
         requires aligned { entry % 4 ≡ 0 }
         requires low { priority ≤ 7 }
-        ensures { IfOk result (λ _. self.new ≡ creates here.now.me t.now entry argument priority self.old) }
+        ensures { IfOk result (λ _. self.new ≡ creates here.now.me t.now reason entry argument priority self.old) }
     {
         match self.free_slot() {
             None => self.claims(t),
             Some(slot) => {
                 let child = self.next_name(here);
-                self.birth(here, Why::Create(*t), entry, argument, priority, slot)?;
+                self.birth(here, reason, entry, argument, priority, slot)?;
                 self.answer(t, child.value())
             }
         }
@@ -111,7 +118,20 @@ impl EventSoFar {
                 entry,
                 argument,
                 priority,
-            } => self.creates(here, t, entry, argument, priority as u8),
+            } => self.creates(here, t, Why::Create(*t), entry, argument, priority as u8),
+            Call::CreateIn {
+                bubble,
+                entry,
+                argument,
+                priority,
+            } => self.creates(
+                here,
+                t,
+                Why::Inside(*t, number_in(bubble)),
+                entry,
+                argument,
+                priority as u8,
+            ),
             Call::Isomalloc(len) => self.allocates(t, len),
             _ => Ok(()),
         }

@@ -4,6 +4,7 @@ ghost use Rattle.std.specs.Prelude.{IfOk};
 ghost use Rattle.node_state.specs.Events.{StartsAligned};
 
 use basics::Items;
+use levels::Tree;
 use node_state::NodeState;
 use run_trace::{Act, Packet, Program, Send, Setup};
 use rv_inst::Image;
@@ -82,6 +83,7 @@ fn program(alloc: Global, nodes: u8, slots: u16, image: &Image) -> Result<Progra
     let geometry = Geometry::new(nodes, slots).ok_or("within the limits")?;
     let setup = Setup {
         geometry,
+        tree: Tree::new(1, None).ok_or("a tree")?,
         quantum: 1000,
     };
     Ok(Program::of(alloc, &setup, image)?)

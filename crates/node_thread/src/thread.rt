@@ -250,7 +250,7 @@ impl Thread {
         ensures { result ≡ call_of self.now.guest.solo.state }
     {
         let regs = &self.hart.regs;
-        Call::of(regs[17], regs[10], regs[11], regs[12])
+        Call::of(regs[17], regs[10], regs[11], regs[12], regs[13])
     }
 
     /// At most a line's bytes from an address on, None where one of them isn't readable.

@@ -64,17 +64,17 @@ image_given files command (Some bytes) schedule image h is = record { bytes = by
 
 -- ## The schedule
 
-long : (nodes : ℕ) (bytes : List ℕ) → schedule_limit < length bytes → acts_of nodes bytes ≡ Err 0
-long nodes bytes more = let is : nat_lt schedule_limit (length bytes) ≡ true = grind (arith, nat_tests) in rw is refl
+long : (nodes processors : ℕ) (bytes : List ℕ) → schedule_limit < length bytes → acts_of nodes processors bytes ≡ Err 0
+long nodes processors bytes more = let is : nat_lt schedule_limit (length bytes) ≡ true = grind (arith, nat_tests) in rw is refl
 
-short : (nodes : ℕ) (bytes : List ℕ) → length bytes ≤ schedule_limit → acts_of nodes bytes ≡ schedule_of nodes bytes
-short nodes bytes few = let is : nat_lt schedule_limit (length bytes) ≡ false = grind (arith, nat_tests) in rw is refl
+short : (nodes processors : ℕ) (bytes : List ℕ) → length bytes ≤ schedule_limit → acts_of nodes processors bytes ≡ schedule_of nodes processors bytes
+short nodes processors bytes few = let is : nat_lt schedule_limit (length bytes) ≡ false = grind (arith, nat_tests) in rw is refl
 
 -- what stands there has the acts that were found, or none for the same reason
-pub schedule_such : (nodes : ℕ) (told : Option (Option (List ℕ))) (schedule : Option (List ℕ)) → MayBeRead schedule_limit told schedule → MayBeSuch told (λ b. acts_of nodes b ≡ acts_in nodes schedule)
-schedule_such nodes told None h = such told (λ b. schedule_limit < length b) (λ b. acts_of nodes b ≡ Err 0) (long nodes) h
-schedule_such nodes told (Some bytes) h = be_such told bytes (λ b. acts_of nodes b ≡ schedule_of nodes bytes) (short nodes bytes h.1) h.0
+pub schedule_such : (nodes processors : ℕ) (told : Option (Option (List ℕ))) (schedule : Option (List ℕ)) → MayBeRead schedule_limit told schedule → MayBeSuch told (λ b. acts_of nodes processors b ≡ acts_in nodes processors schedule)
+schedule_such nodes processors told None h = such told (λ b. schedule_limit < length b) (λ b. acts_of nodes processors b ≡ Err 0) (long nodes processors) h
+schedule_such nodes processors told (Some bytes) h = be_such told bytes (λ b. acts_of nodes processors b ≡ schedule_of nodes processors bytes) (short nodes processors bytes h.1) h.0
 
-pub no_schedule : (nodes line : ℕ) (told : Option (Option (List ℕ))) (schedule : Option (List ℕ)) → MayBeRead schedule_limit told schedule → acts_in nodes schedule ≡ Err line
-    → MayBeSuch told (λ b. acts_of nodes b ≡ Err line)
-no_schedule nodes line told schedule h is = such told (λ b. acts_of nodes b ≡ acts_in nodes schedule) (λ b. acts_of nodes b ≡ Err line) (λ b same. same ∙ is) (schedule_such nodes told schedule h)
+pub no_schedule : (nodes processors line : ℕ) (told : Option (Option (List ℕ))) (schedule : Option (List ℕ)) → MayBeRead schedule_limit told schedule → acts_in nodes processors schedule ≡ Err line
+    → MayBeSuch told (λ b. acts_of nodes processors b ≡ Err line)
+no_schedule nodes processors line told schedule h is = such told (λ b. acts_of nodes processors b ≡ acts_in nodes processors schedule) (λ b. acts_of nodes processors b ≡ Err line) (λ b same. same ∙ is) (schedule_such nodes processors told schedule h)

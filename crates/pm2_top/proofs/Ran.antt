@@ -9,6 +9,7 @@ use Rattle.rv_inst.specs.declared.image.Image.{Image}
 use Rattle.rv_asm.specs.declared.error.AsmError.{AsmError}
 use Rattle.rv_asm.specs.Images.{image_of}
 use Rattle.asm_list.specs.Listing.{listing}
+use Rattle.levels.specs.Trees.{processors}
 use Rattle.run_trace.specs.declared.packet.Packet.{Packet}
 use Rattle.run_trace.specs.declared.entry.Entry.{Entry}
 use Rattle.run_trace.specs.Legality.{boot_entries}
@@ -65,24 +66,24 @@ ran_status : (R : Program → Simulated → Type 0) (asked : Chosen) (image : Im
 ran_status R asked image given w now ended d = ap (λ (x : Report). x.status) d.reported
 
 -- why a command may end with this status
-abbrev pub Cause : Content → Command → ℕ → Status → Type 0
-Cause files command nodes Done = ⊤
-Cause files command nodes Usage = ⊥
-Cause files command nodes (BadSource error) = MayBeSuch (source_in files command) (λ bytes. image_of bytes ≡ Err error)
-Cause files command nodes Stalled = ⊤
-Cause files command nodes OutOfTurns = ⊤
-Cause files command nodes ReadFault = ⊤
-Cause files command nodes WriteFault = ⊤
-Cause files command nodes NoMemory = ⊤
-Cause files command nodes (NotPossible line) = ⊤
-Cause files command nodes (BadScheduleText line) = MayBeSuch (schedule_in files command) (λ bytes. acts_of nodes bytes ≡ Err line)
+abbrev pub Cause : Content → Command → (nodes processors : ℕ) → Status → Type 0
+Cause files command nodes processors Done = ⊤
+Cause files command nodes processors Usage = ⊥
+Cause files command nodes processors (BadSource error) = MayBeSuch (source_in files command) (λ bytes. image_of bytes ≡ Err error)
+Cause files command nodes processors Stalled = ⊤
+Cause files command nodes processors OutOfTurns = ⊤
+Cause files command nodes processors ReadFault = ⊤
+Cause files command nodes processors WriteFault = ⊤
+Cause files command nodes processors NoMemory = ⊤
+Cause files command nodes processors (NotPossible line) = ⊤
+Cause files command nodes processors (BadScheduleText line) = MayBeSuch (schedule_in files command) (λ bytes. acts_of nodes processors bytes ≡ Err line)
 
-module _ (files : Content) (command : Command) (nodes : ℕ) where
-  unless : (s t : Status) → Cause files command nodes s → IsUnlessMemory t s → Cause files command nodes t
-  unless s t c (inl e) = subst (λ x. Cause files command nodes x) (sym e) c
-  unless s t c (inr e) = subst (λ x. Cause files command nodes x) (sym e) tt
+module _ (files : Content) (command : Command) (nodes processors : ℕ) where
+  unless : (s t : Status) → Cause files command nodes processors s → IsUnlessMemory t s → Cause files command nodes processors t
+  unless s t c (inl e) = subst (λ x. Cause files command nodes processors x) (sym e) c
+  unless s t c (inr e) = subst (λ x. Cause files command nodes processors x) (sym e) tt
 
-  run_cause : (e : RunEnd) → Cause files command nodes (end_status e)
+  run_cause : (e : RunEnd) → Cause files command nodes processors (end_status e)
   run_cause end.Done = tt
   run_cause end.Stalled = tt
   run_cause end.OutOfTurns = tt
@@ -90,7 +91,7 @@ module _ (files : Content) (command : Command) (nodes : ℕ) where
   run_cause end.WriteFault = tt
   run_cause end.NoMemory = tt
 
-  listing_cause : (text : List ℕ) (w now : Option (List ℕ)) (s : Status) → Lists text w now s → Cause files command nodes s
+  listing_cause : (text : List ℕ) (w now : Option (List ℕ)) (s : Status) → Lists text w now s → Cause files command nodes processors s
   listing_cause text w now Done d = tt
   listing_cause text w now WriteFault d = tt
   listing_cause text w now NoMemory d = tt
@@ -103,32 +104,32 @@ module _ (files : Content) (command : Command) (nodes : ℕ) where
   listing_cause text w now (BadScheduleText line) d = absurd d
 
   ran_cause : (R : Program → Simulated → Type 0) (asked : Chosen) (image : Image) (given : List (Ends Packet)) (w now : Option (List ℕ)) (ended : Report) → HasRunAs R asked image given w now ended
-      → Cause files command nodes ended.status
-  ran_cause R asked image given w now ended d = subst (λ x. Cause files command nodes x) (sym (ran_status R asked image given w now ended d)) (run_cause d.run.end)
+      → Cause files command nodes processors ended.status
+  ran_cause R asked image given w now ended d = subst (λ x. Cause files command nodes processors x) (sym (ran_status R asked image given w now ended d)) (run_cause d.run.end)
 
 done_cause : (files : Content) (command : Command) (asked : Chosen) (source schedule : Option (List ℕ)) (image : Image) (given : List (Ends Packet)) (w now : Option (List ℕ)) (ended : Report)
-    → MayBeGiven files command source schedule → DoneWith command asked (acts_in asked.nodes schedule) image given w now ended → Cause files command asked.nodes ended.status
-done_cause files (Asm name) asked source schedule image given w now ended may d = listing_cause files (Asm name) asked.nodes (listing image) w now ended.status d.0
-done_cause files (Run name) asked source schedule image given w now ended may d = ran_cause files (Run name) asked.nodes _ asked image given w now ended d
-done_cause files (Sim name) asked source schedule image given w now ended may d = ran_cause files (Sim name) asked.nodes _ asked image given w now ended d
-done_cause files (Stress jobs) asked source schedule image given w now ended may d = ran_cause files (Stress jobs) asked.nodes _ asked image given w now ended d
-done_cause files (Replay name acts) asked source schedule image given w now ended may d = by (acts_in asked.nodes schedule) refl d
+    → MayBeGiven files command source schedule → DoneWith command asked (acts_in asked.nodes (processors asked.tree) schedule) image given w now ended → Cause files command asked.nodes (processors asked.tree) ended.status
+done_cause files (Asm name) asked source schedule image given w now ended may d = listing_cause files (Asm name) asked.nodes (processors asked.tree) (listing image) w now ended.status d.0
+done_cause files (Run name) asked source schedule image given w now ended may d = ran_cause files (Run name) asked.nodes (processors asked.tree) _ asked image given w now ended d
+done_cause files (Sim name) asked source schedule image given w now ended may d = ran_cause files (Sim name) asked.nodes (processors asked.tree) _ asked image given w now ended d
+done_cause files (Stress jobs) asked source schedule image given w now ended may d = ran_cause files (Stress jobs) asked.nodes (processors asked.tree) _ asked image given w now ended d
+done_cause files (Replay name acts) asked source schedule image given w now ended may d = by (acts_in asked.nodes (processors asked.tree) schedule) refl d
   where
-    by : (r : Result (List Scheduled) ℕ) → acts_in asked.nodes schedule ≡ r → HasReplayed asked r image given w now ended → Cause files (Replay name acts) asked.nodes ended.status
-    by (Ok items) is (inl none) = unless files (Replay name acts) asked.nodes NoMemory ended.status tt (plain NoMemory given w now ended none)
-    by (Ok items) is (inr ran) = ran_cause files (Replay name acts) asked.nodes _ asked image given w now ended ran
+    by : (r : Result (List Scheduled) ℕ) → acts_in asked.nodes (processors asked.tree) schedule ≡ r → HasReplayed asked r image given w now ended → Cause files (Replay name acts) asked.nodes (processors asked.tree) ended.status
+    by (Ok items) is (inl none) = unless files (Replay name acts) asked.nodes (processors asked.tree) NoMemory ended.status tt (plain NoMemory given w now ended none)
+    by (Ok items) is (inr ran) = ran_cause files (Replay name acts) asked.nodes (processors asked.tree) _ asked image given w now ended ran
     by (Err line) is none =
-        unless files (Replay name acts) asked.nodes (BadScheduleText line) ended.status (no_schedule asked.nodes line (file_at files acts) schedule may.1 is) (plain (BadScheduleText line) given w now ended none)
+        unless files (Replay name acts) asked.nodes (processors asked.tree) (BadScheduleText line) ended.status (no_schedule asked.nodes (processors asked.tree) line (file_at files acts) schedule may.1 is) (plain (BadScheduleText line) given w now ended none)
 
-cause : (files : Content) (asked : Chosen) (given : List (Ends Packet)) (w now : Option (List ℕ)) (ended : Report) → HasRun files asked given w now ended → Cause files asked.command asked.nodes ended.status
-cause files asked given w now ended (NotRead h) = unless files asked.command asked.nodes ReadFault ended.status tt (plain ReadFault given w now ended h)
+cause : (files : Content) (asked : Chosen) (given : List (Ends Packet)) (w now : Option (List ℕ)) (ended : Report) → HasRun files asked given w now ended → Cause files asked.command asked.nodes (processors asked.tree) ended.status
+cause files asked given w now ended (NotRead h) = unless files asked.command asked.nodes (processors asked.tree) ReadFault ended.status tt (plain ReadFault given w now ended h)
 cause files asked given w now ended (Read source schedule may d) = by (image_in source) refl d
   where
-    by : (r : Result Image AsmError) → image_in source ≡ r → HasSourceEnded asked r (acts_in asked.nodes schedule) given w now ended → Cause files asked.command asked.nodes ended.status
-    by (Ok image) is (inl none) = unless files asked.command asked.nodes NoMemory ended.status tt (plain NoMemory given w now ended none)
+    by : (r : Result Image AsmError) → image_in source ≡ r → HasSourceEnded asked r (acts_in asked.nodes (processors asked.tree) schedule) given w now ended → Cause files asked.command asked.nodes (processors asked.tree) ended.status
+    by (Ok image) is (inl none) = unless files asked.command asked.nodes (processors asked.tree) NoMemory ended.status tt (plain NoMemory given w now ended none)
     by (Ok image) is (inr d) = done_cause files asked.command asked source schedule image given w now ended may d
     by (Err error) is none =
-        unless files asked.command asked.nodes (BadSource error) ended.status (no_source files asked.command source schedule error may is) (plain (BadSource error) given w now ended none)
+        unless files asked.command asked.nodes (processors asked.tree) (BadSource error) ended.status (no_source files asked.command source schedule error may is) (plain (BadSource error) given w now ended none)
 
 -- ## Where the files are told
 
@@ -214,14 +215,14 @@ usual_of : (files : Content) (asked : Chosen) (given : List (Ends Packet)) (w no
     → IsUsual asked.command ended.status ⊎ IsFault ended.status
 usual_of files asked given w now ended (NotRead h) source = or_else (IsUsual asked.command) ReadFault ended.status (inr (inr (inl refl))) (plain ReadFault given w now ended h)
 usual_of files asked given w now ended (Read text schedule may d) source =
-    by (subst (λ r. HasSourceEnded asked r (acts_in asked.nodes schedule) given w now ended) image_is d)
+    by (subst (λ r. HasSourceEnded asked r (acts_in asked.nodes (processors asked.tree) schedule) given w now ended) image_is d)
   where
     image_is : image_in text ≡ has source.image
     image_is = sym (at_told (source_in files asked.command) source.bytes (λ b. image_of b ≡ image_in text) source.told (source_such files asked.command text schedule may)) ∙ source.assembled
 
-    by : HasSourceEnded asked (has source.image) (acts_in asked.nodes schedule) given w now ended → IsUsual asked.command ended.status ⊎ IsFault ended.status
+    by : HasSourceEnded asked (has source.image) (acts_in asked.nodes (processors asked.tree) schedule) given w now ended → IsUsual asked.command ended.status ⊎ IsFault ended.status
     by (inl none) = or_else (IsUsual asked.command) NoMemory ended.status (inr (inl refl)) (plain NoMemory given w now ended none)
-    by (inr d) = done_usual asked.command asked (acts_in asked.nodes schedule) source.image given w now ended d
+    by (inr d) = done_usual asked.command asked (acts_in asked.nodes (processors asked.tree) schedule) source.image given w now ended d
 
 -- a status, or a file wasn't read, or there was no memory
 abbrev IsUnlessRead : Status → Status → Type 0
@@ -232,7 +233,7 @@ bad_of : (files : Content) (asked : Chosen) (given : List (Ends Packet)) (w now 
 bad_of files asked given w now ended bytes error (NotRead (same, inl h)) told is = inr (status_is ended ReadFault h)
 bad_of files asked given w now ended bytes error (NotRead (same, inr h)) told is = inl (inr (status_is ended NoMemory h))
 bad_of files asked given w now ended bytes error (Read text schedule may d) told is =
-    inl (plain (BadSource error) given w now ended (subst (λ r. HasSourceEnded asked r (acts_in asked.nodes schedule) given w now ended) reason d))
+    inl (plain (BadSource error) given w now ended (subst (λ r. HasSourceEnded asked r (acts_in asked.nodes (processors asked.tree) schedule) given w now ended) reason d))
   where
     reason : image_in text ≡ fails error
     reason = sym (at_told (source_in files asked.command) bytes (λ b. image_of b ≡ image_in text) told (source_such files asked.command text schedule may)) ∙ is
@@ -242,7 +243,7 @@ abbrev spoilt : ℕ → Result (List Scheduled) ℕ
 spoilt line = Err line
 
 bad_done : (files : Content) (command : Command) (asked : Chosen) (text schedule : Option (List ℕ)) (image : Image) (given : List (Ends Packet)) (w now : Option (List ℕ)) (ended : Report) (bytes : List ℕ) (line : ℕ)
-    → MayBeGiven files command text schedule → DoneWith command asked (acts_in asked.nodes schedule) image given w now ended → schedule_in files command ≡ Some (Some bytes) → acts_of asked.nodes bytes ≡ Err line
+    → MayBeGiven files command text schedule → DoneWith command asked (acts_in asked.nodes (processors asked.tree) schedule) image given w now ended → schedule_in files command ≡ Some (Some bytes) → acts_of asked.nodes (processors asked.tree) bytes ≡ Err line
     → IsUnlessMemory ended.status (BadScheduleText line)
 bad_done files (Asm name) asked text schedule image given w now ended bytes line may d told is = let bad : Some None ≡ Some (Some bytes) = told in cc
 bad_done files (Run name) asked text schedule image given w now ended bytes line may d told is = let bad : Some None ≡ Some (Some bytes) = told in cc
@@ -251,15 +252,15 @@ bad_done files (Stress jobs) asked text schedule image given w now ended bytes l
 bad_done files (Replay name acts) asked text schedule image given w now ended bytes line may d told is =
     plain (BadScheduleText line) given w now ended (subst (λ r. HasReplayed asked r image given w now ended) reason d)
   where
-    reason : acts_in asked.nodes schedule ≡ spoilt line
-    reason = sym (at_told (file_at files acts) bytes (λ b. acts_of asked.nodes b ≡ acts_in asked.nodes schedule) told (schedule_such asked.nodes (file_at files acts) schedule may.1)) ∙ is
+    reason : acts_in asked.nodes (processors asked.tree) schedule ≡ spoilt line
+    reason = sym (at_told (file_at files acts) bytes (λ b. acts_of asked.nodes (processors asked.tree) b ≡ acts_in asked.nodes (processors asked.tree) schedule) told (schedule_such asked.nodes (processors asked.tree) (file_at files acts) schedule may.1)) ∙ is
 
 bad_schedule_of : (files : Content) (asked : Chosen) (given : List (Ends Packet)) (w now : Option (List ℕ)) (ended : Report) (bytes : List ℕ) (line : ℕ) → HasRun files asked given w now ended
-    → HasSource files asked → schedule_in files asked.command ≡ Some (Some bytes) → acts_of asked.nodes bytes ≡ Err line → IsUnlessRead ended.status (BadScheduleText line)
+    → HasSource files asked → schedule_in files asked.command ≡ Some (Some bytes) → acts_of asked.nodes (processors asked.tree) bytes ≡ Err line → IsUnlessRead ended.status (BadScheduleText line)
 bad_schedule_of files asked given w now ended bytes line (NotRead (same, inl h)) source told is = inr (status_is ended ReadFault h)
 bad_schedule_of files asked given w now ended bytes line (NotRead (same, inr h)) source told is = inl (inr (status_is ended NoMemory h))
 bad_schedule_of files asked given w now ended bytes line (Read text schedule may d) source told is =
-    by (subst (λ r. HasSourceEnded asked r (acts_in asked.nodes schedule) given w now ended) image_is d)
+    by (subst (λ r. HasSourceEnded asked r (acts_in asked.nodes (processors asked.tree) schedule) given w now ended) image_is d)
   where
     image_is : image_in text ≡ has source.image
     image_is = sym (at_told (source_in files asked.command) source.bytes (λ b. image_of b ≡ image_in text) source.told (source_such files asked.command text schedule may)) ∙ source.assembled
@@ -268,7 +269,7 @@ bad_schedule_of files asked given w now ended bytes line (Read text schedule may
     memory (inl e) = e
     memory (inr e) = e
 
-    by : HasSourceEnded asked (has source.image) (acts_in asked.nodes schedule) given w now ended → IsUnlessRead ended.status (BadScheduleText line)
+    by : HasSourceEnded asked (has source.image) (acts_in asked.nodes (processors asked.tree) schedule) given w now ended → IsUnlessRead ended.status (BadScheduleText line)
     by (inl none) = inl (inr (memory (plain NoMemory given w now ended none)))
     by (inr d) = inl (bad_done files asked.command asked text schedule source.image given w now ended bytes line may d told is)
 
@@ -342,22 +343,22 @@ module _ (files : Content) (settings : Option Chosen) (given : List (Ends Packet
       by asked (inl h) = subst (λ s. P asked s) (sym (memory h told)) (none asked)
       by asked (inr o) = some asked o.ran o.shown o.has_run (told_after o.ran.status ended status (becomes asked o.ran o.shown now ended o.tells) told)
 
-  caused : IfSome settings (λ asked. Cause files asked.command asked.nodes status)
-  caused = by_run (λ asked s. Cause files asked.command asked.nodes s) (λ asked. tt) (λ asked ran shown r b. after asked ran.status b (cause files asked given w shown ran r))
+  caused : IfSome settings (λ asked. Cause files asked.command asked.nodes (processors asked.tree) status)
+  caused = by_run (λ asked s. Cause files asked.command asked.nodes (processors asked.tree) s) (λ asked. tt) (λ asked ran shown r b. after asked ran.status b (cause files asked given w shown ran r))
     where
-      after : (asked : Chosen) (first : Status) → Becomes first status → Cause files asked.command asked.nodes first → Cause files asked.command asked.nodes status
-      after asked first (inl e) c = subst (λ s. Cause files asked.command asked.nodes s) (sym e) c
-      after asked first (inr (inl e)) c = subst (λ s. Cause files asked.command asked.nodes s) (sym e) tt
-      after asked first (inr (inr e)) c = subst (λ s. Cause files asked.command asked.nodes s) (sym e.0) tt
+      after : (asked : Chosen) (first : Status) → Becomes first status → Cause files asked.command asked.nodes (processors asked.tree) first → Cause files asked.command asked.nodes (processors asked.tree) status
+      after asked first (inl e) c = subst (λ s. Cause files asked.command asked.nodes (processors asked.tree) s) (sym e) c
+      after asked first (inr (inl e)) c = subst (λ s. Cause files asked.command asked.nodes (processors asked.tree) s) (sym e) tt
+      after asked first (inr (inr e)) c = subst (λ s. Cause files asked.command asked.nodes (processors asked.tree) s) (sym e.0) tt
 
   pub source : (error : AsmError) → status ≡ BadSource error → IfSome settings (λ asked. MayBeSuch (source_in files asked.command) (λ bytes. image_of bytes ≡ Err error))
-  source error is = subst (λ s. IfSome settings (λ asked. Cause files asked.command asked.nodes s)) is caused
+  source error is = subst (λ s. IfSome settings (λ asked. Cause files asked.command asked.nodes (processors asked.tree) s)) is caused
 
-  pub schedule : (line : ℕ) → status ≡ BadScheduleText line → IfSome settings (λ asked. MayBeSuch (schedule_in files asked.command) (λ bytes. acts_of asked.nodes bytes ≡ Err line))
-  schedule line is = subst (λ s. IfSome settings (λ asked. Cause files asked.command asked.nodes s)) is caused
+  pub schedule : (line : ℕ) → status ≡ BadScheduleText line → IfSome settings (λ asked. MayBeSuch (schedule_in files asked.command) (λ bytes. acts_of asked.nodes (processors asked.tree) bytes ≡ Err line))
+  schedule line is = subst (λ s. IfSome settings (λ asked. Cause files asked.command asked.nodes (processors asked.tree) s)) is caused
 
   pub usage : status ≡ Usage → settings ≡ None
-  usage is = by settings (subst (λ s. IfSome settings (λ asked. Cause files asked.command asked.nodes s)) is caused)
+  usage is = by settings (subst (λ s. IfSome settings (λ asked. Cause files asked.command asked.nodes (processors asked.tree) s)) is caused)
     where
       by : (o : Option Chosen) → IfSome o (λ asked. ⊥) → o ≡ None
       by None h = refl
@@ -379,9 +380,9 @@ module _ (files : Content) (settings : Option Chosen) (given : List (Ends Packet
       (λ asked bytes error h is. inl (inr refl))
       (λ asked ran shown r b bytes error h is. kept (BadSource error) ran.status refl (bad_of files asked given w shown ran bytes error r h is) b)
 
-  pub bad_schedule : IfSome settings (λ asked. (bytes : List ℕ) (line : ℕ) → HasSource files asked → schedule_in files asked.command ≡ Some (Some bytes) → acts_of asked.nodes bytes ≡ Err line
+  pub bad_schedule : IfSome settings (λ asked. (bytes : List ℕ) (line : ℕ) → HasSource files asked → schedule_in files asked.command ≡ Some (Some bytes) → acts_of asked.nodes (processors asked.tree) bytes ≡ Err line
       → IsUnlessMemory status (BadScheduleText line) ⊎ (status ≡ ReadFault))
-  bad_schedule = by_run (λ asked s. (bytes : List ℕ) (line : ℕ) → HasSource files asked → schedule_in files asked.command ≡ Some (Some bytes) → acts_of asked.nodes bytes ≡ Err line → IsUnlessRead s (BadScheduleText line))
+  bad_schedule = by_run (λ asked s. (bytes : List ℕ) (line : ℕ) → HasSource files asked → schedule_in files asked.command ≡ Some (Some bytes) → acts_of asked.nodes (processors asked.tree) bytes ≡ Err line → IsUnlessRead s (BadScheduleText line))
       (λ asked bytes line source h is. inl (inr refl))
       (λ asked ran shown r b bytes line source h is. kept (BadScheduleText line) ran.status refl (bad_schedule_of files asked given w shown ran bytes line r source h is) b)
 

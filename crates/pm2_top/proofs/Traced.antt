@@ -6,6 +6,7 @@ use Rattle.outside.specs.declared.outside.WriteRefusal.{WriteRefusal}
 use Rattle.outside.specs.declared.outside.WriteRefusal.TheVariants as refusals
 use Rattle.rv_inst.specs.declared.image.Image.{Image}
 use Rattle.rv_asm.specs.declared.error.AsmError.{AsmError}
+use Rattle.levels.specs.Trees.{processors}
 use Rattle.run_trace.specs.declared.entry.Entry.{Entry}
 use Rattle.run_trace.specs.declared.packet.Packet.{Packet}
 use Rattle.run_trace.specs.Legality.{Legal}
@@ -175,9 +176,9 @@ module _ (files : Content) (given : List (Ends Packet)) (fresh : AreFreshFor nod
   of_run asked w now ended (NotRead h) = plain asked ReadFault w now ended untouched h
   of_run asked w now ended (Read source schedule may d) = by (image_in source) refl d
     where
-      by : (r : Result Image AsmError) → image_in source ≡ r → HasSourceEnded asked r (acts_in asked.nodes schedule) given w now ended → IsGood asked ended
+      by : (r : Result Image AsmError) → image_in source ≡ r → HasSourceEnded asked r (acts_in asked.nodes (processors asked.tree) schedule) given w now ended → IsGood asked ended
       by (Ok image) is (inl none) = plain asked NoMemory w now ended tt none
-      by (Ok image) is (inr d) = of_image asked.command asked refl (acts_in asked.nodes schedule) image (image_given files asked.command source schedule image may is) w now ended d
+      by (Ok image) is (inr d) = of_image asked.command asked refl (acts_in asked.nodes (processors asked.tree) schedule) image (image_given files asked.command source schedule image may is) w now ended d
       by (Err error) is none = plain asked (BadSource error) w now ended untouched none
 
   refused : (asked : Chosen) (ran : Report) (r : WriteRefusal) → is_told ran.status ≡ true → IsGood asked ran → IsGood asked (with_status (refusal_status r) ran)

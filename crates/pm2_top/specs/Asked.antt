@@ -76,13 +76,13 @@ image_in None = Err errors.TooLong
 image_in (Some source) = image_of source
 
 -- the acts of what was read, or the first line that is bad; a schedule that is too long is bad as a whole
-abbrev pub acts_in : (nodes : ℕ) → Option (List ℕ) → Result (List Scheduled) ℕ
-acts_in nodes None = Err 0
-acts_in nodes (Some schedule) = schedule_of nodes schedule
+abbrev pub acts_in : (nodes processors : ℕ) → Option (List ℕ) → Result (List Scheduled) ℕ
+acts_in nodes processors None = Err 0
+acts_in nodes processors (Some schedule) = schedule_of nodes processors schedule
 
 -- the acts of a schedule's bytes, likewise
-abbrev pub acts_of : (nodes : ℕ) → List ℕ → Result (List Scheduled) ℕ
-acts_of nodes bytes = if nat_lt schedule_limit (length bytes) then Err 0 else schedule_of nodes bytes
+abbrev pub acts_of : (nodes processors : ℕ) → List ℕ → Result (List Scheduled) ℕ
+acts_of nodes processors bytes = if nat_lt schedule_limit (length bytes) then Err 0 else schedule_of nodes processors bytes
 
 -- this may be the image of the command's source
 pub record IsImageOf (files : Content) (command : Command) (image : Image) : Type 0 where
@@ -92,8 +92,9 @@ pub record IsImageOf (files : Content) (command : Command) (image : Image) : Typ
 
 -- ---- the cluster
 
--- the cluster has as many nodes and slots as the settings say, and a run as many instructions at most
+-- the cluster has as many nodes and slots as the settings say, each node these run lists, and a run as many instructions at most
 pub record IsClusterOf (asked : Chosen) (setup : Setup) : Type 0 where
   pub nodes : setup.geometry.nodes ≡ asked.nodes
   pub slots : setup.geometry.slots ≡ asked.slots
+  pub tree : setup.tree ≡ asked.tree
   pub quantum : setup.quantum ≡ asked.quantum

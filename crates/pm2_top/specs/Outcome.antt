@@ -6,6 +6,7 @@ use Rattle.rv_asm.specs.declared.error.AsmError.{AsmError}
 use Rattle.rv_asm.specs.Images.{image_of}
 use Rattle.asm_list.specs.Listing.{listing}
 use Rattle.node_state.specs.Events.{program}
+use Rattle.levels.specs.Trees.{processors}
 use Rattle.run_trace.specs.declared.entry.Entry.{Entry}
 use Rattle.run_trace.specs.declared.entry.Setup.{Setup}
 use Rattle.run_trace.specs.declared.packet.Packet.{Packet}
@@ -39,7 +40,7 @@ MayBeNoSource files asked error = MayBeSuch (source_in files asked.command) (λ 
 
 -- where it is told, this is the first bad line of the schedule
 abbrev pub MayBeNoSchedule : Content → Chosen → ℕ → Type 0
-MayBeNoSchedule files asked line = MayBeSuch (schedule_in files asked.command) (λ bytes. acts_of asked.nodes bytes ≡ Err line)
+MayBeNoSchedule files asked line = MayBeSuch (schedule_in files asked.command) (λ bytes. acts_of asked.nodes (processors asked.tree) bytes ≡ Err line)
 
 -- ---- how a command comes to its end
 
@@ -113,7 +114,7 @@ HasSourceEnded asked (Err error) acts given written now ended = EndsPlainly (Bad
 pub data HasRun (files : Content) (asked : Chosen) (given : List (Ends Packet)) (written now : Option (List ℕ)) (ended : Report) : Type 0 where
   NotRead : EndsPlainly ReadFault given written now ended → HasRun files asked given written now ended
   Read : (source schedule : Option (List ℕ)) → MayBeGiven files asked.command source schedule
-      → HasSourceEnded asked (image_in source) (acts_in asked.nodes schedule) given written now ended → HasRun files asked given written now ended
+      → HasSourceEnded asked (image_in source) (acts_in asked.nodes (processors asked.tree) schedule) given written now ended → HasRun files asked given written now ended
 
 -- what the words ask for was done, and what they ask for was told
 pub record HasObeyed (files : Content) (asked : Chosen) (given : List (Ends Packet)) (written now : Option (List ℕ)) (ended : Report) : Type 0 where

@@ -14,6 +14,7 @@ ghost use Rattle.wires.specs.Wires.{AreFreshFor};
 ghost use Rattle.settings.specs.Settings.{settings_of};
 ghost use Rattle.settings.specs.Seen.{chosen, IsWithinLimits};
 ghost use Rattle.simulation.specs.Schedules.{AreInRange};
+ghost use Rattle.levels.specs.Trees.{processors};
 ghost use Rattle.pm2_top.specs.Asked.{LacksAny, acts_in, acts_of, image_in, schedule_in, source_in, schedule_limit};
 ghost use Rattle.pm2_top.specs.Delivery.{is_told, HasFiles, LeavesFiles, Leaves, KeepsCount, CountsNoOther};
 ghost use Rattle.pm2_top.specs.Outcome.{IsUnlessMemory, IsUsual, MayBeNoSource, MayBeNoSchedule, HasSource, Lists, HasRunAs, DrawnBy, InRounds, HasReplayed, HasSourceEnded, HasRun, HasObeyed, HasEnded, IsTraceOf, IsCarriedOut, node_limit};
@@ -122,7 +123,7 @@ fn acts_in(
     schedule: &Option<Items<u8>>,
 ) -> Result<Items<Scheduled>, TextError>
     requires within { IfSome schedule.now (λ bytes. length bytes ≤ schedule_limit) }
-    ensures reads { Reads result (acts_in setup.now.geometry.nodes schedule.now) }
+    ensures reads { Reads result (acts_in setup.now.geometry.nodes (processors setup.now.tree) schedule.now) }
     ensures fine { (image : Assembled) → IfOk result (λ acts. (length acts ≤ 1000000) × AreInRange (program setup.now image) acts) }
 {
     match schedule {
@@ -147,7 +148,7 @@ fn replay_image<K: Sink>(
     requires within { IfSome schedule.now (λ bytes. length bytes ≤ schedule_limit) }
     requires image { StartsAligned image }
     requires fresh { AreFreshFor node_limit wires }
-    ensures replayed { HasReplayed (chosen asked.now) (acts_in asked.now.setup.geometry.nodes schedule.now) image wires (K.written out.old) (K.written out.new) result }
+    ensures replayed { HasReplayed (chosen asked.now) (acts_in asked.now.setup.geometry.nodes (processors asked.now.setup.tree) schedule.now) image wires (K.written out.old) (K.written out.new) result }
     ensures failed { result.status ≡ Status.WriteFault → Rose (K.faults out.old) (K.faults out.new) }
     ensures later { K.faults out.old ≤ K.faults out.new }
 {
@@ -188,7 +189,7 @@ fn do_inputs<R: Threads + Sync, K: Sink, G: Gate>(
     requires limits { IsWithinLimits asked.now }
     requires within { IfSome inputs.now.schedule (λ bytes. length bytes ≤ schedule_limit) }
     requires fresh { AreFreshFor node_limit wires }
-    ensures ending { HasSourceEnded (chosen asked.now) (image_in inputs.now.source) (acts_in asked.now.setup.geometry.nodes inputs.now.schedule)
+    ensures ending { HasSourceEnded (chosen asked.now) (image_in inputs.now.source) (acts_in asked.now.setup.geometry.nodes (processors asked.now.setup.tree) inputs.now.schedule)
         wires (K.written out.old) (K.written out.new) result }
     ensures failed { result.status ≡ Status.WriteFault → Rose (K.faults out.old) (K.faults out.new) }
     ensures later { K.faults out.old ≤ K.faults out.new }
@@ -343,7 +344,7 @@ pub fn pm2_main<R: Threads + Sync, S: Shelf, K: Sink, E: Sink, G: Gate>(
     ensures schedule { (line : ℕ) → result.status ≡ Status.BadScheduleText line → IfSome (settings_of (map string_bytes words.now)) (λ asked.
         MayBeNoSchedule (S.content shelf.old) asked line) }
     ensures bad_schedule { IfSome (settings_of (map string_bytes words.now)) (λ asked. (bytes : List ℕ) (line : ℕ) → HasSource (S.content shelf.old) asked
-        → schedule_in (S.content shelf.old) asked.command ≡ Some (Some bytes) → acts_of asked.nodes bytes ≡ Err line
+        → schedule_in (S.content shelf.old) asked.command ≡ Some (Some bytes) → acts_of asked.nodes (processors asked.tree) bytes ≡ Err line
         → IsUnlessMemory result.status (Status.BadScheduleText line) ⊎ (result.status ≡ Status.ReadFault)) }
 
     // With a source that has an image, and no fault of reading or writing, nothing but the program and its schedule decide.

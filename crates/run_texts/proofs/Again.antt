@@ -99,58 +99,58 @@ tid_word t home seq =
 
 -- ---- a line
 
-line_says : (nodes b : ℕ) (w : Text) (ws : List Text) → eqb b 35 ≡ false → eqb b 32 ≡ false → IsWord (b ∷ w) → AreWords ws → said_in nodes (words_text ((b ∷ w) ∷ ws)) ≡ said_words nodes ((b ∷ w) ∷ ws)
-line_says nodes b w ws no_comment no_blank h hs =
+line_says : (nodes processors b : ℕ) (w : Text) (ws : List Text) → eqb b 35 ≡ false → eqb b 32 ≡ false → IsWord (b ∷ w) → AreWords ws → said_in nodes processors (words_text ((b ∷ w) ∷ ws)) ≡ said_words nodes processors ((b ∷ w) ∷ ws)
+line_says nodes processors b w ws no_comment no_blank h hs =
     rw (nothing_stripped (words_text ((b ∷ w) ∷ ws)) (no_carriage_return (b ∷ w) ws h hs), no_comment, words_again (b ∷ w) ws h hs, no_blank) refl
 
-run_says : (nodes node vp quantum : ℕ) (n v q : Text) → number_in 0 nodes n ≡ Some node → number_in 0 1 v ≡ Some vp → number_in 1 65537 q ≡ Some quantum
-    → said_words nodes (codes "run" ∷ n ∷ v ∷ q ∷ []) ≡ said.Act node (act.Run vp quantum)
-run_says nodes node vp quantum n v q en ev eq = rw (en, ev, eq) refl
+run_says : (nodes processors node vp quantum : ℕ) (n v q : Text) → number_in 0 nodes n ≡ Some node → number_in 0 processors v ≡ Some vp → number_in 1 65537 q ≡ Some quantum
+    → said_words nodes processors (codes "run" ∷ n ∷ v ∷ q ∷ []) ≡ said.Act node (act.Run vp quantum)
+run_says nodes processors node vp quantum n v q en ev eq = rw (en, ev, eq) refl
 
-take_says : (nodes node sender : ℕ) (n s : Text) → number_in 0 nodes n ≡ Some node → number_in 0 nodes s ≡ Some sender → said_words nodes (codes "take" ∷ n ∷ s ∷ []) ≡ said.Act node (act.Take sender)
-take_says nodes node sender n s en es = rw (en, es) refl
+take_says : (nodes processors node sender : ℕ) (n s : Text) → number_in 0 nodes n ≡ Some node → number_in 0 nodes s ≡ Some sender → said_words nodes processors (codes "take" ∷ n ∷ s ∷ []) ≡ said.Act node (act.Take sender)
+take_says nodes processors node sender n s en es = rw (en, es) refl
 
-move_says : (nodes node to : ℕ) (t : Tid) (n name m : Text) → number_in 0 nodes n ≡ Some node → tid_in nodes name ≡ Some t → number_in 0 nodes m ≡ Some to → eqb to node ≡ false
-    → said_words nodes (codes "move" ∷ n ∷ name ∷ m ∷ []) ≡ said.Act node (act.Move t to)
-move_says nodes node to t n name m en et em other = rw (en, et, em, other) refl
+move_says : (nodes processors node to : ℕ) (t : Tid) (n name m : Text) → number_in 0 nodes n ≡ Some node → tid_in nodes name ≡ Some t → number_in 0 nodes m ≡ Some to → eqb to node ≡ false
+    → said_words nodes processors (codes "move" ∷ n ∷ name ∷ m ∷ []) ≡ said.Act node (act.Move t to)
+move_says nodes processors node to t n name m en et em other = rw (en, et, em, other) refl
 
 -- ---- all lines
 
 -- what a line of such words says, and the rest
-one_line : (nodes line n node b : ℕ) (a : Act) (w : Text) (ws : List Text) (rest : Text) (more : List Scheduled) → eqb b 35 ≡ false → eqb b 32 ≡ false → IsWord (b ∷ w) → AreWords ws
-    → said_words nodes ((b ∷ w) ∷ ws) ≡ said.Act node a → n < 1000000 → acts_from nodes (line + 1) (n + 1) (lines_of rest) ≡ Ok more
-    → acts_from nodes line n (lines_of (line_or_nothing ((b ∷ w) ∷ ws) ++ rest)) ≡ Ok (record { line = line; node = node; act = a } ∷ more)
-one_line nodes line n node b a w ws rest more no_comment no_blank h hs says less e =
+one_line : (nodes processors line n node b : ℕ) (a : Act) (w : Text) (ws : List Text) (rest : Text) (more : List Scheduled) → eqb b 35 ≡ false → eqb b 32 ≡ false → IsWord (b ∷ w) → AreWords ws
+    → said_words nodes processors ((b ∷ w) ∷ ws) ≡ said.Act node a → n < 1000000 → acts_from nodes processors (line + 1) (n + 1) (lines_of rest) ≡ Ok more
+    → acts_from nodes processors line n (lines_of (line_or_nothing ((b ∷ w) ∷ ws) ++ rest)) ≡ Ok (record { line = line; node = node; act = a } ∷ more)
+one_line nodes processors line n node b a w ws rest more no_comment no_blank h hs says less e =
     let text = words_text ((b ∷ w) ∷ ws) in
     let first : lines_of ((text ++ 10 ∷ []) ++ rest) ≡ text ∷ lines_of rest = ap lines_of (append_assoc text (10 ∷ []) rest) ∙ part_behind 10 text rest (no_newline (b ∷ w) ws h hs) in
-    let said_is = line_says nodes b w ws no_comment no_blank h hs ∙ says in
+    let said_is = line_says nodes processors b w ws no_comment no_blank h hs ∙ says in
     let test : nat_lt n 1000000 ≡ true = grind (arith, nat_tests) in
     rw (first, said_is, test, e) refl
 
 -- what is behind a line is read from any line on
-abbrev Rest : ℕ → Text → (ℕ → List Scheduled) → Type 0
-Rest nodes rest more = (line n : ℕ) → n + length (more line) ≤ 1000000 → acts_from nodes line n (lines_of rest) ≡ Ok (more line)
+abbrev Rest : (nodes processors : ℕ) → Text → (ℕ → List Scheduled) → Type 0
+Rest nodes processors rest more = (line n : ℕ) → n + length (more line) ≤ 1000000 → acts_from nodes processors line n (lines_of rest) ≡ Ok (more line)
 
-one_act : (nodes line n node : ℕ) (a : Act) (rest : Text) (more : ℕ → List Scheduled) → nodes ≤ 8 → node < nodes → IsInRange nodes node a → n + length (at_line line node a more) ≤ 1000000 → Rest nodes rest more
-    → acts_from nodes line n (lines_of (line_or_nothing (act_words node a) ++ rest)) ≡ Ok (at_line line node a more)
+one_act : (nodes processors line n node : ℕ) (a : Act) (rest : Text) (more : ℕ → List Scheduled) → nodes ≤ 8 → processors ≤ 16 → node < nodes → IsInRange nodes processors node a → n + length (at_line line node a more) ≤ 1000000 → Rest nodes processors rest more
+    → acts_from nodes processors line n (lines_of (line_or_nothing (act_words node a) ++ rest)) ≡ Ok (at_line line node a more)
 unfolding act_words
-one_act nodes line n node act.Boot rest more few here fit all behind = behind line n all
-one_act nodes line n node (act.Run vp quantum) rest more few here fit all behind =
+one_act nodes processors line n node act.Boot rest more few narrow here fit all behind = behind line n all
+one_act nodes processors line n node (act.Run vp quantum) rest more few narrow here fit all behind =
     let at_node = number_again 0 nodes node (omega arith) here (omega arith) in
-    let at_vp = number_again 0 1 vp (omega arith) fit.0 (omega (arith, fit.0)) in
+    let at_vp = number_again 0 processors vp (omega arith) fit.0 (omega (arith, fit.0)) in
     let at_quantum = number_again 1 65537 quantum fit.1 (omega (arith, fit.2)) (omega (arith, fit.2)) in
-    one_line nodes line n node 114 (act.Run vp quantum) (117 ∷ 110 ∷ []) (decimal node ∷ decimal vp ∷ decimal quantum ∷ []) rest (more (line + 1)) refl refl
+    one_line nodes processors line n node 114 (act.Run vp quantum) (117 ∷ 110 ∷ []) (decimal node ∷ decimal vp ∷ decimal quantum ∷ []) rest (more (line + 1)) refl refl
     (record { some = refl; newline = refl; carriage_return = refl; blank = refl })
     (number_word node (omega arith), (number_word vp (omega (arith, fit.0)), (number_word quantum (omega (arith, fit.2)), tt)))
-    (run_says nodes node vp quantum (decimal node) (decimal vp) (decimal quantum) at_node at_vp at_quantum) (omega (arith, all)) (behind (line + 1) (n + 1) (omega (arith, all)))
-one_act nodes line n node (act.Take sender) rest more few here fit all behind =
+    (run_says nodes processors node vp quantum (decimal node) (decimal vp) (decimal quantum) at_node at_vp at_quantum) (omega (arith, all)) (behind (line + 1) (n + 1) (omega (arith, all)))
+one_act nodes processors line n node (act.Take sender) rest more few narrow here fit all behind =
     let at_node = number_again 0 nodes node (omega arith) here (omega arith) in
     let at_sender = number_again 0 nodes sender (omega arith) fit (omega (arith, fit)) in
-    one_line nodes line n node 116 (act.Take sender) (97 ∷ 107 ∷ 101 ∷ []) (decimal node ∷ decimal sender ∷ []) rest (more (line + 1)) refl refl
+    one_line nodes processors line n node 116 (act.Take sender) (97 ∷ 107 ∷ 101 ∷ []) (decimal node ∷ decimal sender ∷ []) rest (more (line + 1)) refl refl
     (record { some = refl; newline = refl; carriage_return = refl; blank = refl })
     (number_word node (omega arith), (number_word sender (omega (arith, fit)), tt))
-    (take_says nodes node sender (decimal node) (decimal sender) at_node at_sender) (omega (arith, all)) (behind (line + 1) (n + 1) (omega (arith, all)))
-one_act nodes line n node (act.Move t to) rest more few here fit all behind =
+    (take_says nodes processors node sender (decimal node) (decimal sender) at_node at_sender) (omega (arith, all)) (behind (line + 1) (n + 1) (omega (arith, all)))
+one_act nodes processors line n node (act.Move t to) rest more few narrow here fit all behind =
     let at_node = number_again 0 nodes node (omega arith) here (omega arith) in
     let home : t.home < nodes = fit.0 in
     let seq : t.seq < 2 ^ 32 = fit.1 in
@@ -159,16 +159,16 @@ one_act nodes line n node (act.Move t to) rest more few here fit all behind =
     let other : eqb to node ≡ false = grind (arith, nat_tests) in
     let at_t = tid_again nodes t few home seq in
     let at_to = number_again 0 nodes to (omega arith) near (omega arith) in
-    one_line nodes line n node 109 (act.Move t to) (111 ∷ 118 ∷ 101 ∷ []) (decimal node ∷ tid_text t ∷ decimal to ∷ []) rest (more (line + 1)) refl refl
+    one_line nodes processors line n node 109 (act.Move t to) (111 ∷ 118 ∷ 101 ∷ []) (decimal node ∷ tid_text t ∷ decimal to ∷ []) rest (more (line + 1)) refl refl
     (record { some = refl; newline = refl; carriage_return = refl; blank = refl })
     (number_word node (omega arith), (tid_word t (omega arith) seq, (number_word to (omega arith), tt)))
-    (move_says nodes node to t (decimal node) (tid_text t) (decimal to) at_node at_t at_to other) (omega (arith, all)) (behind (line + 1) (n + 1) (omega (arith, all)))
+    (move_says nodes processors node to t (decimal node) (tid_text t) (decimal to) at_node at_t at_to other) (omega (arith, all)) (behind (line + 1) (n + 1) (omega (arith, all)))
 
-all_lines : (nodes : ℕ) → nodes ≤ 8 → (xs : List Entry) → AreInRange nodes xs → Rest nodes (schedule_text xs) (λ line. numbered line xs)
-all_lines nodes few [] fit line n all = refl
-all_lines nodes few (x ∷ xs) fit line n all =
-    one_act nodes line n x.node x.act (schedule_text xs) (λ next. numbered next xs) few fit.0.0 fit.0.1 all (all_lines nodes few xs fit.1)
+all_lines : (nodes processors : ℕ) → nodes ≤ 8 → processors ≤ 16 → (xs : List Entry) → AreInRange nodes processors xs → Rest nodes processors (schedule_text xs) (λ line. numbered line xs)
+all_lines nodes processors few narrow [] fit line n all = refl
+all_lines nodes processors few narrow (x ∷ xs) fit line n all =
+    one_act nodes processors line n x.node x.act (schedule_text xs) (λ next. numbered next xs) few narrow fit.0.0 fit.0.1 all (all_lines nodes processors few narrow xs fit.1)
 
-pub read_again : (nodes : ℕ) (xs : List Entry) (text : Text) → text ≡ schedule_text xs → nodes ≤ 8 → AreInRange nodes xs → length (numbered 1 xs) ≤ 1000000 → schedule_of nodes text ≡ Ok (numbered 1 xs)
+pub read_again : (nodes processors : ℕ) (xs : List Entry) (text : Text) → text ≡ schedule_text xs → nodes ≤ 8 → processors ≤ 16 → AreInRange nodes processors xs → length (numbered 1 xs) ≤ 1000000 → schedule_of nodes processors text ≡ Ok (numbered 1 xs)
 unfolding schedule_of
-read_again nodes xs text is few fit all = rw is (all_lines nodes few xs fit 1 0 (omega (arith, all)))
+read_again nodes processors xs text is few narrow fit all = rw is (all_lines nodes processors few narrow xs fit 1 0 (omega (arith, all)))

@@ -53,20 +53,20 @@ some_bounds low below text n is = subst (λ o. IfSome o (λ m. (low ≤ m) × (m
 
 -- ## A line
 
-module _ (nodes : ℕ) where
+module _ (nodes processors : ℕ) where
   -- an act that a line says is in range
   abbrev IsFine : Said → Type 0
   IsFine said.Nothing = ⊤
   IsFine said.Bad = ⊤
-  IsFine (said.Act node a) = (node < nodes) × IsActOf nodes node a
+  IsFine (said.Act node a) = (node < nodes) × IsActOf nodes processors node a
 
-  run_fine : (node : ℕ) (words : List Text) → node < nodes → IsFine (said_act node (run_in words))
+  run_fine : (node : ℕ) (words : List Text) → node < nodes → IsFine (said_act node (run_in processors words))
   run_fine node [] l = tt
   run_fine node (vp ∷ []) l = tt
   run_fine node (vp ∷ quantum ∷ x ∷ rest) l = tt
-  run_fine node (vp ∷ quantum ∷ []) l = by (number_in 0 1 vp) (number_in 1 65537 quantum) (number_bounds 0 1 vp) (number_bounds 1 65537 quantum)
+  run_fine node (vp ∷ quantum ∷ []) l = by (number_in 0 processors vp) (number_in 1 65537 quantum) (number_bounds 0 processors vp) (number_bounds 1 65537 quantum)
     where
-      by : (v q : Option ℕ) → IfSome v (λ m. (0 ≤ m) × (m < 1)) → IfSome q (λ m. (1 ≤ m) × (m < 65537)) → IsFine (said_act node (option_and_then (λ w. option_map (λ k. act.Run w k) q) v))
+      by : (v q : Option ℕ) → IfSome v (λ m. (0 ≤ m) × (m < processors)) → IfSome q (λ m. (1 ≤ m) × (m < 65537)) → IsFine (said_act node (option_and_then (λ w. option_map (λ k. act.Run w k) q) v))
       by None q h k = tt
       by (Some w) None h k = tt
       by (Some w) (Some n) h k = (l, (h.1, k.0, omega (arith, k.1)))
@@ -96,40 +96,40 @@ module _ (nodes : ℕ) where
       by (Some thread) None h = tt
       by (Some thread) (Some n) h = other thread n (n == node) refl h.1
 
-  act_fine : (node : ℕ) (name : Text) (words : List Text) → node < nodes → IsFine (said_act node (act_in nodes node name words))
+  act_fine : (node : ℕ) (name : Text) (words : List Text) → node < nodes → IsFine (said_act node (act_in nodes processors node name words))
   act_fine node name words l = by (bytes_eq name (codes "run")) (bytes_eq name (codes "take")) (bytes_eq name (codes "move"))
     where
-      by : (r t m : Bool) → IsFine (said_act node (cond r (run_in words) (cond t (take_in nodes words) (cond m (move_in nodes node words) None))))
+      by : (r t m : Bool) → IsFine (said_act node (cond r (run_in processors words) (cond t (take_in nodes words) (cond m (move_in nodes node words) None))))
       by true t m = run_fine node words l
       by false true m = take_fine node words l
       by false false true = move_fine node words l
       by false false false = tt
 
-  words_fine : (words : List Text) → IsFine (said_words nodes words)
+  words_fine : (words : List Text) → IsFine (said_words nodes processors words)
   words_fine [] = tt
   words_fine (name ∷ []) = tt
   words_fine (name ∷ node ∷ words) = by (number_in 0 nodes node) (number_bounds 0 nodes node)
     where
-      by : (o : Option ℕ) → IfSome o (λ m. (0 ≤ m) × (m < nodes)) → IsFine (said_node nodes name o words)
+      by : (o : Option ℕ) → IfSome o (λ m. (0 ≤ m) × (m < nodes)) → IsFine (said_node nodes processors name o words)
       by None h = tt
       by (Some n) h = act_fine n name words h.1
 
-  line_fine : (line : Text) → IsFine (said_in nodes line)
+  line_fine : (line : Text) → IsFine (said_in nodes processors line)
   line_fine line = plainly (strip_carriage_return line)
     where
-      behind : (first : ℕ) (words : List Text) → IsFine (said_from nodes first words)
+      behind : (first : ℕ) (words : List Text) → IsFine (said_from nodes processors first words)
       behind first [] = tt
       behind first (w ∷ ws) = by (first == 32)
         where
-          by : (v : Bool) → IsFine (cond v said.Bad (said_words nodes (w ∷ ws)))
+          by : (v : Bool) → IsFine (cond v said.Bad (said_words nodes processors (w ∷ ws)))
           by true = tt
           by false = words_fine (w ∷ ws)
 
-      plainly : (text : Text) → IsFine (said_plainly nodes text)
+      plainly : (text : Text) → IsFine (said_plainly nodes processors text)
       plainly [] = tt
       plainly (b ∷ bs) = by (b == 35)
         where
-          by : (v : Bool) → IsFine (cond v said.Nothing (said_from nodes b (words_of (b ∷ bs))))
+          by : (v : Bool) → IsFine (cond v said.Nothing (said_from nodes processors b (words_of (b ∷ bs))))
           by true = tt
           by false = behind b (words_of (b ∷ bs))
 
@@ -137,28 +137,28 @@ module _ (nodes : ℕ) where
 
   -- acts behind so many others are not too many, and in range
   abbrev AreFine : ℕ → Reading → Type 0
-  AreFine before (Ok acts) = (before + length acts ≤ most_acts) × AreActsOf nodes acts
+  AreFine before (Ok acts) = (before + length acts ≤ most_acts) × AreActsOf nodes processors acts
   AreFine before (Err line) = ⊤
 
-  one_more : (before line node : ℕ) (a : Act) (rest : Reading) → (node < nodes) × IsActOf nodes node a → AreFine (before + 1) rest → AreFine before (at_front (record { line = line; node = node; act = a }) rest)
+  one_more : (before line node : ℕ) (a : Act) (rest : Reading) → (node < nodes) × IsActOf nodes processors node a → AreFine (before + 1) rest → AreFine before (at_front (record { line = line; node = node; act = a }) rest)
   one_more before line node a (Ok acts) h more = (omega (arith, more.0), (h.0, h.1, more.1))
   one_more before line node a (Err bad) h more = tt
 
-  lines_fine : (line before : ℕ) (ls : List Text) → before ≤ most_acts → AreFine before (acts_from nodes line before ls)
+  lines_fine : (line before : ℕ) (ls : List Text) → before ≤ most_acts → AreFine before (acts_from nodes processors line before ls)
   lines_fine line before [] l = (omega (arith, l), tt)
-  lines_fine line before (x ∷ xs) l = by (said_in nodes x) (line_fine x) (λ n m. lines_fine (line + 1) n xs m)
+  lines_fine line before (x ∷ xs) l = by (said_in nodes processors x) (line_fine x) (λ n m. lines_fine (line + 1) n xs m)
     where
-      by : (s : Said) → IsFine s → ((n : ℕ) → n ≤ most_acts → AreFine n (acts_from nodes (line + 1) n xs)) → AreFine before (goes_on line before s (λ n. acts_from nodes (line + 1) n xs))
+      by : (s : Said) → IsFine s → ((n : ℕ) → n ≤ most_acts → AreFine n (acts_from nodes processors (line + 1) n xs)) → AreFine before (goes_on line before s (λ n. acts_from nodes processors (line + 1) n xs))
       by said.Nothing h rest = rest before l
       by said.Bad h rest = tt
       by (said.Act node a) h rest = few (nat_lt before most_acts) refl
         where
-          few : (v : Bool) → nat_lt before most_acts ≡ v → AreFine before (cond v (at_front (record { line = line; node = node; act = a }) (acts_from nodes (line + 1) (before + 1) xs)) (Err line))
-          few true e = one_more before line node a (acts_from nodes (line + 1) (before + 1) xs) h (rest (before + 1) (grind (arith, nat_tests)))
+          few : (v : Bool) → nat_lt before most_acts ≡ v → AreFine before (cond v (at_front (record { line = line; node = node; act = a }) (acts_from nodes processors (line + 1) (before + 1) xs)) (Err line))
+          few true e = one_more before line node a (acts_from nodes processors (line + 1) (before + 1) xs) h (rest (before + 1) (grind (arith, nat_tests)))
           few false e = tt
 
   -- the acts of a schedule are not too many, and in range
-  pub acts_fine : (text : Text) (acts : List Scheduled) → schedule_of nodes text ≡ Ok acts → (length acts ≤ most_acts) × AreActsOf nodes acts
+  pub acts_fine : (text : Text) (acts : List Scheduled) → schedule_of nodes processors text ≡ Ok acts → (length acts ≤ most_acts) × AreActsOf nodes processors acts
   unfolding schedule_of
   acts_fine text acts is =
       let fine : AreFine 0 (Ok acts) = subst (λ r. AreFine 0 r) is (lines_fine 1 0 (lines_of text) (omega arith)) in

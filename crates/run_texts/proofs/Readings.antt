@@ -22,9 +22,9 @@ behind_end [] = refl
 behind_end (b ∷ before) = ap (at_front b) (behind_end before)
 
 -- all lines are read
-pub all_read : (nodes line n : ℕ) (acts : List Scheduled) (rest : Text) (r : Reading) → length rest ≡ 0 → behind acts (acts_from nodes line n (lines_of rest)) ≡ r → r ≡ Ok acts
-all_read nodes line n acts [] r h e = sym e ∙ behind_end acts
-all_read nodes line n acts (b ∷ bs) r h e = absurd (omega arith)
+pub all_read : (nodes processors line n : ℕ) (acts : List Scheduled) (rest : Text) (r : Reading) → length rest ≡ 0 → behind acts (acts_from nodes processors line n (lines_of rest)) ≡ r → r ≡ Ok acts
+all_read nodes processors line n acts [] r h e = sym e ∙ behind_end acts
+all_read nodes processors line n acts (b ∷ bs) r h e = absurd (omega arith)
 
 -- a line is bad, or there is no memory
 pub refused : (e : TextError) (line n : ℕ) (said : Said) (acts : List Scheduled) (rest : ℕ → Reading) (r : Reading)

@@ -21,10 +21,10 @@ tid_in nodes text =
     option_and_then (λ home. option_map (λ seq. record { home = home; seq = seq }) (number_in 0 (2 ^ 32) (after_first (λ b. b == 46) text)))
     (node_in nodes (before_first (λ b. b == 46) text))
 
--- a processor, of which there is one, and a quantum
-abbrev pub run_in : List Text → Option Act
-run_in (vp ∷ quantum ∷ []) = option_and_then (λ v. option_map (λ q. act.Run v q) (number_in 1 65537 quantum)) (number_in 0 1 vp)
-run_in _ = None
+-- a processor, of so many, and a quantum
+abbrev pub run_in : ℕ → List Text → Option Act
+run_in processors (vp ∷ quantum ∷ []) = option_and_then (λ v. option_map (λ q. act.Run v q) (number_in 1 65537 quantum)) (number_in 0 processors vp)
+run_in processors _ = None
 
 abbrev pub take_in : ℕ → List Text → Option Act
 take_in nodes (sender ∷ []) = option_map act.Take (node_in nodes sender)
@@ -36,9 +36,9 @@ move_in nodes node (t ∷ to ∷ []) = option_and_then (λ t. option_and_then (�
 move_in nodes node _ = None
 
 -- an act of this name on this node
-abbrev pub act_in : (nodes node : ℕ) → Text → List Text → Option Act
-act_in nodes node name words =
-    if bytes_eq name (codes "run") then run_in words
+abbrev pub act_in : (nodes processors node : ℕ) → Text → List Text → Option Act
+act_in nodes processors node name words =
+    if bytes_eq name (codes "run") then run_in processors words
     else (if bytes_eq name (codes "take") then take_in nodes words
     else (if bytes_eq name (codes "move") then move_in nodes node words else None))
 
@@ -47,24 +47,24 @@ said_act node None = said.Bad
 said_act node (Some a) = said.Act node a
 
 -- words that are an act: its name, its node, and what else it has
-abbrev pub said_node : (nodes : ℕ) → Text → Option ℕ → List Text → Said
-said_node nodes name None words = said.Bad
-said_node nodes name (Some node) words = said_act node (act_in nodes node name words)
+abbrev pub said_node : (nodes processors : ℕ) → Text → Option ℕ → List Text → Said
+said_node nodes processors name None words = said.Bad
+said_node nodes processors name (Some node) words = said_act node (act_in nodes processors node name words)
 
-abbrev pub said_words : ℕ → List Text → Said
-said_words nodes (name ∷ node ∷ words) = said_node nodes name (node_in nodes node) words
-said_words nodes _ = said.Bad
+abbrev pub said_words : (nodes processors : ℕ) → List Text → Said
+said_words nodes processors (name ∷ node ∷ words) = said_node nodes processors name (node_in nodes node) words
+said_words nodes processors _ = said.Bad
 
 -- a line of blanks says nothing, and no act stands behind a blank; a blank is 32
-abbrev pub said_from : (nodes first : ℕ) → List Text → Said
-said_from nodes first [] = said.Nothing
-said_from nodes first (w ∷ ws) = if first == 32 then said.Bad else said_words nodes (w ∷ ws)
+abbrev pub said_from : (nodes processors first : ℕ) → List Text → Said
+said_from nodes processors first [] = said.Nothing
+said_from nodes processors first (w ∷ ws) = if first == 32 then said.Bad else said_words nodes processors (w ∷ ws)
 
 -- an empty line and a comment, which begins with a `#`, say nothing
-abbrev pub said_plainly : ℕ → Text → Said
-said_plainly nodes [] = said.Nothing
-said_plainly nodes (b ∷ bs) = if b == 35 then said.Nothing else said_from nodes b (words_of (b ∷ bs))
+abbrev pub said_plainly : (nodes processors : ℕ) → Text → Said
+said_plainly nodes processors [] = said.Nothing
+said_plainly nodes processors (b ∷ bs) = if b == 35 then said.Nothing else said_from nodes processors b (words_of (b ∷ bs))
 
--- what a line says, without the one carriage return at its end, where there are so many nodes
-abbrev pub said_in : ℕ → Text → Said
-said_in nodes line = said_plainly nodes (strip_carriage_return line)
+-- what a line says, without the one carriage return at its end, where there are so many nodes, each with so many processors
+abbrev pub said_in : (nodes processors : ℕ) → Text → Said
+said_in nodes processors line = said_plainly nodes processors (strip_carriage_return line)

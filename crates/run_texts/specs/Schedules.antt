@@ -32,14 +32,14 @@ goes_on line acts said.Bad rest = Err line
 goes_on line acts (said.Act node a) rest =
     if nat_lt acts most_acts then at_front (record { line = line; node = node; act = a }) (rest (acts + 1)) else Err line
 
--- the lines from this one on, behind so many acts, where there are so many nodes
-abbrev pub acts_from : (nodes line acts : ℕ) → List Text → Reading
-acts_from nodes line acts [] = Ok []
-acts_from nodes line acts (l ∷ ls) = goes_on line acts (said_in nodes l) (λ n. acts_from nodes (line + 1) n ls)
+-- the lines from this one on, behind so many acts, where there are so many nodes, each with so many processors
+abbrev pub acts_from : (nodes processors line acts : ℕ) → List Text → Reading
+acts_from nodes processors line acts [] = Ok []
+acts_from nodes processors line acts (l ∷ ls) = goes_on line acts (said_in nodes processors l) (λ n. acts_from nodes processors (line + 1) n ls)
 
 -- the acts of a schedule, each with its line, or the first line that is bad; lines are counted from 1
-unfoldable pub schedule_of : ℕ → Text → Reading
-schedule_of nodes text = acts_from nodes 1 0 (lines_of text)
+unfoldable pub schedule_of : (nodes processors : ℕ) → Text → Reading
+schedule_of nodes processors text = acts_from nodes processors 1 0 (lines_of text)
 
 -- the answer is this reading
 abbrev pub Reads : Result (List Scheduled) TextError → Reading → Type 0

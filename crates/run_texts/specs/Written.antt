@@ -37,12 +37,12 @@ abbrev pub numbered : ℕ → List Entry → List Scheduled
 numbered line [] = []
 numbered line (x ∷ xs) = at_line line x.node x.act (λ next. numbered next xs)
 
--- an act on this node is in range where there are so many nodes, each with one processor
-abbrev pub IsInRange : (nodes node : ℕ) → Act → Type 0
-IsInRange nodes node act.Boot = ⊤
-IsInRange nodes node (act.Run vp quantum) = (vp < 1) × (1 ≤ quantum) × (quantum ≤ 65536)
-IsInRange nodes node (act.Take sender) = sender < nodes
-IsInRange nodes node (act.Move t to) = (t.home < nodes) × (t.seq < 2 ^ 32) × (to < nodes) × (to ≢ node)
+-- an act on this node is in range where there are so many nodes, each with so many processors
+abbrev pub IsInRange : (nodes processors node : ℕ) → Act → Type 0
+IsInRange nodes processors node act.Boot = ⊤
+IsInRange nodes processors node (act.Run vp quantum) = (vp < processors) × (1 ≤ quantum) × (quantum ≤ 65536)
+IsInRange nodes processors node (act.Take sender) = sender < nodes
+IsInRange nodes processors node (act.Move t to) = (t.home < nodes) × (t.seq < 2 ^ 32) × (to < nodes) × (to ≢ node)
 
-abbrev pub AreInRange : ℕ → List Entry → Type 0
-AreInRange nodes trace = AllByRecursion (λ x. (x.node < nodes) × IsInRange nodes x.node x.act) trace
+abbrev pub AreInRange : (nodes processors : ℕ) → List Entry → Type 0
+AreInRange nodes processors trace = AllByRecursion (λ x. (x.node < nodes) × IsInRange nodes processors x.node x.act) trace

@@ -50,9 +50,9 @@ fn tid_in(nodes: u8, text: &[u8]) -> Option<Tid>
     })
 }
 
-/// A processor, of which there is one, and a quantum.
-fn run_in(words: &[u8]) -> Option<Act>
-    ensures { result ≡ run_in (words_of words.now) }
+/// A processor, of so many, and a quantum.
+fn run_in(processors: u8, words: &[u8]) -> Option<Act>
+    ensures { result ≡ run_in processors (words_of words.now) }
 {
     let Some((vp, rest)) = next_word(words) else {
         return None
@@ -63,7 +63,7 @@ fn run_in(words: &[u8]) -> Option<Act>
     if next_word(rest).is_some() {
         return None;
     }
-    let Some(vp) = number_in(0, 1, vp) else {
+    let Some(vp) = number_in(0, processors as u64, vp) else {
         return None
     };
     let Some(quantum) = number_in(1, 65537, quantum) else {
@@ -115,11 +115,11 @@ fn move_in(nodes: u8, node: NodeNo, words: &[u8]) -> Option<Act>
 }
 
 /// An act of this name on this node.
-fn act_in(nodes: u8, node: NodeNo, name: &[u8], words: &[u8]) -> Option<Act>
-    ensures { result ≡ act_in nodes node name.now (words_of words.now) }
+fn act_in(nodes: u8, processors: u8, node: NodeNo, name: &[u8], words: &[u8]) -> Option<Act>
+    ensures { result ≡ act_in nodes processors node name.now (words_of words.now) }
 {
     if name == b"run".as_slice() {
-        run_in(words)
+        run_in(processors, words)
     } else if name == b"take".as_slice() {
         take_in(nodes, words)
     } else if name == b"move".as_slice() {
@@ -130,8 +130,8 @@ fn act_in(nodes: u8, node: NodeNo, name: &[u8], words: &[u8]) -> Option<Act>
 }
 
 /// What an act's words say.
-fn said_words(nodes: u8, line: &[u8]) -> Said
-    ensures { result ≡ said_words nodes (words_of line.now) }
+fn said_words(nodes: u8, processors: u8, line: &[u8]) -> Said
+    ensures { result ≡ said_words nodes processors (words_of line.now) }
 {
     let Some((name, rest)) = next_word(line) else {
         return Said::Bad
@@ -142,14 +142,14 @@ fn said_words(nodes: u8, line: &[u8]) -> Said
     let Some(node) = node_in(nodes, node) else {
         return Said::Bad
     };
-    match act_in(nodes, node, name, rest) {
+    match act_in(nodes, processors, node, name, rest) {
         Some(act) => Said::Act(node, act),
         None => Said::Bad,
     }
 }
 
-fn said_plainly(nodes: u8, line: &[u8]) -> Said
-    ensures { result ≡ said_plainly nodes line.now }
+fn said_plainly(nodes: u8, processors: u8, line: &[u8]) -> Said
+    ensures { result ≡ said_plainly nodes processors line.now }
 {
     if line.is_empty() || line[0] == b'#' || next_word(line).is_none() {
         return Said::Nothing;
@@ -157,12 +157,12 @@ fn said_plainly(nodes: u8, line: &[u8]) -> Said
     if line[0] == b' ' {
         return Said::Bad;
     }
-    said_words(nodes, line)
+    said_words(nodes, processors, line)
 }
 
-/// What a line says, where there are so many nodes.
-pub(crate) fn said_in(nodes: u8, line: &[u8]) -> Said
-    ensures { result ≡ said_in nodes line.now }
+/// What a line says, where there are so many nodes, each with so many processors.
+pub(crate) fn said_in(nodes: u8, processors: u8, line: &[u8]) -> Said
+    ensures { result ≡ said_in nodes processors line.now }
 {
-    said_plainly(nodes, without_carriage_return(line))
+    said_plainly(nodes, processors, without_carriage_return(line))
 }

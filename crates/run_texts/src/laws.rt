@@ -8,6 +8,6 @@ ghost use Rattle.run_texts.specs.declared.schedule.Scheduled.{Scheduled as Act};
 
 /// The acts of each schedule are not too many, and each is in range. A text has no more lines than bytes.
 pub fn schedules_fit()
-    ensures acts { (nodes : ℕ) (text : List ℕ) (acts : List Act) → schedule_of nodes text ≡ Ok acts → (length acts ≤ most_acts) × AreActsOf nodes acts }
+    ensures acts { (nodes processors : ℕ) (text : List ℕ) (acts : List Act) → schedule_of nodes processors text ≡ Ok acts → (length acts ≤ most_acts) × AreActsOf nodes processors acts }
     ensures lines { (text : List ℕ) → length (lines_of text) ≤ length text }
 {}

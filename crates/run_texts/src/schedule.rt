@@ -1,6 +1,7 @@
 //! A schedule, read.
 
 ghost use Rattle.std.specs.Prelude.{◌≡◌, ℕ, ◌^◌, ◌<◌, length, OnOk, IsErrOf, Err};
+ghost use Rattle.levels.specs.Trees.{processors};
 ghost use Rattle.run_texts.specs.Parts.{lines_of};
 ghost use Rattle.run_texts.specs.Schedules.{Reading, Reads, behind, goes_on, schedule_of};
 
@@ -44,23 +45,35 @@ fn take_line(acts: &mut Vec<Scheduled>, line: u32, said: Said) -> Result<(), Tex
 }
 
 /// The acts of a schedule for this cluster, in order.
-#[tactic(auto, unfolding(crate::specs::Schedules::schedule_of))]
 pub fn read_schedule(
     alloc: Global,
     text: &[u8],
     setup: &Setup,
 ) -> Result<Items<Scheduled>, TextError>
     requires { length (lines_of text.now) < 2 ^ 32 }
-    ensures { Reads result (schedule_of setup.now.geometry.nodes text.now) }
+    ensures { Reads result (schedule_of setup.now.geometry.nodes (processors setup.now.tree) text.now) }
 {
-    let nodes = setup.geometry.nodes;
+    read_within(alloc, text, setup.geometry.nodes, setup.tree.processors())
+}
+
+/// The acts of a schedule for so many nodes, each with so many processors, in order.
+#[tactic(auto, unfolding(crate::specs::Schedules::schedule_of))]
+fn read_within(
+    alloc: Global,
+    text: &[u8],
+    nodes: u8,
+    processors: u8,
+) -> Result<Items<Scheduled>, TextError>
+    requires { length (lines_of text.now) < 2 ^ 32 }
+    ensures { Reads result (schedule_of nodes processors text.now) }
+{
     let mut acts = Vec::new(alloc);
     let mut rest = text;
     let mut line = 0;
     while !rest.is_empty() {
         let (first, after) = first_part(b'\n', rest);
         line += 1;
-        if let Err(error) = take_line(&mut acts, line, said_in(nodes, first)) {
+        if let Err(error) = take_line(&mut acts, line, said_in(nodes, processors, first)) {
             return Err(error);
         }
         rest = after;

@@ -70,8 +70,8 @@ pub fn schedule_text(alloc: Global, trace: &[Entry]) -> Result<Vec<u8>, NoMemory
     ensures text { IfOk result (λ text. text.items ≡ schedule_text trace.now) }
 
     // What was written is read again, where the acts are in range and not too many.
-    ensures again { IfOk result (λ text. (nodes : ℕ) → nodes ≤ 8 → AreInRange nodes trace.now → length (numbered 1 trace.now) ≤ most_acts
-        → schedule_of nodes text.items ≡ Ok (numbered 1 trace.now)) }
+    ensures again { IfOk result (λ text. (nodes processors : ℕ) → nodes ≤ 8 → processors ≤ 16 → AreInRange nodes processors trace.now → length (numbered 1 trace.now) ≤ most_acts
+        → schedule_of nodes processors text.items ≡ Ok (numbered 1 trace.now)) }
 {
     lines_of_acts(alloc, trace)
 }

@@ -1,9 +1,6 @@
 -- Lemmas of the definitions of runs. Other crates cite these alone.
 use Rattle.std.proofs.Common.{[], IsSome, List, None, cond, false, true, ℕ, ◌++◌, ◌∷◌, ◌≡◌, refl, sym, ap, ◌∙◌, subst, arith}
 use Rattle.run_trace.specs.Guests.{with_zero_slots, without_slots}
-use Rattle.run_trace.specs.RunLists.{AreOnRoot, IsRising, RunLists, arrived, best, best_on, taken_off, without_row}
-use Rattle.run_trace.specs.Trees.{Tree}
-use Rattle.run_trace.specs.declared.node.ReadyRow.{ReadyRow}
 use Rattle.rv_step.specs.Memory.{Memory, block_of, slots_of}
 use Rattle.slot_space.specs.Sets.{IsAscending, has, minus, run, union}
 use Rattle.slot_space.specs.declared.names.Tid.{Tid}
@@ -13,8 +10,6 @@ use Rattle.std.specs.Ordering.{nat_cmp, ordering_then, is_eq}
 use Rattle.std.proofs.lemmas.Bool.{eq-eqb, eqb-true, ltb-true}
 use Rattle.run_trace.specs.Names.{is_tid, tid}
 use Rattle.run_trace.proofs.HeldSlots
-use Rattle.run_trace.proofs.OnRoot
-use Rattle.run_trace.proofs.Rising
 
 -- ## The slots that a memory holds
 
@@ -50,30 +45,6 @@ not_held = HeldSlots.not_held
 -- none is no value
 pub missing : IsSome {T = List ℕ} None → ⊥
 missing = HeldSlots.missing
-
--- ## Rows on the root list
-
--- where all rows stand on the root list, a processor's choice is the best of all rows
-pub on_root : (tree : Tree) (vp : ℕ) (rows : List ReadyRow) → AreOnRoot rows → best_on tree vp rows ≡ best rows
-on_root = OnRoot.on_root
-
--- who arrives on the root list leaves all rows there
-pub root_pushed : (rows : List ReadyRow) (r : ReadyRow) → AreOnRoot rows → r.list ≡ 0 → AreOnRoot (rows ++ r ∷ [])
-root_pushed = OnRoot.root_pushed
-
--- whoever is taken off leaves the other rows on the root list
-pub root_without : (t : Tid) (rows : List ReadyRow) → AreOnRoot rows → AreOnRoot (without_row t rows)
-root_without = OnRoot.root_without
-
--- ## Numbers of arrival
-
--- numbers of arrival still rise when a thread arrives
-pub arrival_rises : (t : Tid) (priority : ℕ) (s : RunLists) → IsRising s → IsRising (arrived t priority s)
-arrival_rises = Rising.arrival_rises
-
--- numbers of arrival still rise when a thread is taken off
-pub less_rises : (t : Tid) (s : RunLists) → IsRising s → IsRising (taken_off t s)
-less_rises = Rising.less_rises
 
 -- ## Names
 

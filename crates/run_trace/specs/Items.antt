@@ -4,7 +4,7 @@ use Rattle.slot_space.specs.declared.names.Tid.{Tid}
 use Rattle.run_trace.specs.declared.entry.Act.{Act}
 use Rattle.run_trace.specs.declared.entry.Act.TheVariants.{Take}
 use Rattle.run_trace.specs.declared.label.Label.{Label}
-use Rattle.run_trace.specs.declared.label.Label.TheVariants.{Born, Ran, Asked, Heard, Judged, Told, Took, Gave, Ended, Known, Left, Came, Decided, Shown, Halted}
+use Rattle.run_trace.specs.declared.label.Label.TheVariants.{Born, Ran, Asked, Heard, Judged, Told, Took, Gave, Ended, Known, Left, Came, Decided, Down, Burst, Gathered, Shown, Halted}
 use Rattle.run_trace.specs.declared.label.Why.TheVariants as why
 use Rattle.run_trace.specs.declared.packet.Body.{Body}
 use Rattle.run_trace.specs.declared.packet.Body.TheVariants.{Mover, Show, ShowDone, JoinAsk, DetachAsk, SemAsk, Answer, EndNote, Want, Turn, Over}
@@ -15,8 +15,9 @@ use Rattle.run_trace.specs.Program.{Program}
 use Rattle.run_trace.specs.Links.{first_of}
 use Rattle.run_trace.specs.Causes.{causes}
 use Rattle.run_trace.specs.Calls.{slots_wanted}
+use Rattle.run_trace.specs.Bubbles.{Gathering}
 use Rattle.run_trace.specs.Talks.{Talk, one_send, want_sends, claiming, with_claims, after_turn, again_sends, again, listing_sends, listing, turn_to, next_turn, without_first}
-use Rattle.run_trace.specs.Spots.{Running, Due, Served, Seeks, Told_next, Told_then, Departs, Ends, Leaves, Halts, Showing, Answers, Life, On, Going, Spots, sets_going, its_call, lowest_free, after_label, after_labels}
+use Rattle.run_trace.specs.Spots.{Running, Due, Served, Seeks, Told_next, Told_then, Departs, Ends, Leaves, Halts, Showing, Answers, Life, On, Going, Spots, sets_going, its_call, gathered_by_call, lowest_free, after_label, after_labels}
 
 -- ## Whom an entry is busy with
 
@@ -79,6 +80,7 @@ abbrev pub doer : Label → Option Subject
 doer (Decided t count first) = None
 doer (Born t why.Main entry a0 a1 sp slot) = None
 doer (Born t (why.Create by) entry a0 a1 sp slot) = Some (Thread by)
+doer (Born t (why.Inside by bubble) entry a0 a1 sp slot) = Some (Thread by)
 doer l = subject l
 
 abbrev pub as_list : Option Subject → List Subject
@@ -98,8 +100,8 @@ goes_on_with p n l w = as_list (one_going (sets_going p n l w)) ++ as_list (doer
 pub data Item : Type 0 where
   -- to say just this
   Says : (label : Label) → Item
-  -- a run of this thread on this processor
-  Runs : (t : Tid) (vp : ℕ) → Item
+  -- the choice of this processor, again after each bubble that it moves, and then a run of the thread that it takes
+  Chooses : (vp : ℕ) → Item
   -- what comes next for this one
   Does : (s : Subject) → Item
   -- to give this thread, which seeks slots, a run of the node's own; where there is none, it claims one
@@ -156,6 +158,21 @@ abbrev pub all_but_first : List Item → List Item
 all_but_first [] = []
 all_but_first (i ∷ is) = is
 
+-- a choice goes on where a bubble was moved
+abbrev pub rest_after : Label → List Item → List Item
+rest_after (Down bubble list) is = is
+rest_after (Burst bubble list) is = is
+rest_after _ is = all_but_first is
+
+-- a bubble that a call gathers is told first
+abbrev pub told_gathered : Option Gathering → List Item
+told_gathered None = []
+told_gathered (Some g) = Says (Gathered g.bubble g.count) ∷ []
+
+abbrev pub told_first : Program → ℕ → Label → Spots → List Item
+told_first p n (Asked t call args bytes) w = told_gathered (gathered_by_call p n t w)
+told_first p n _ w = []
+
 -- what there is to do for a thread in this life
 abbrev pub items_in : ℕ → Tid → Life → List Item
 items_in n t life = if is_busy n life then Does (Thread t) ∷ [] else if is_seeking n life then Serves t ∷ [] else []
@@ -167,7 +184,7 @@ items_for n (Turns ∷ ss) w = items_for n ss w
 
 -- what there is to do after a label, the next first
 abbrev pub to_do_after : Program → ℕ → Label → Spots → List Item → List Item
-to_do_after p n l w to_do = items_for n (goes_on_with p n l w) (after_label p n l w) ++ all_but_first to_do
+to_do_after p n l w to_do = told_first p n l w ++ items_for n (goes_on_with p n l w) (after_label p n l w) ++ rest_after l to_do
 
 -- the label is said, and what it causes is sent
 abbrev pub said : Program → ℕ → Label → Spots → Progress → Progress

@@ -1,6 +1,6 @@
 -- A legal trace, newest entry first: it is in order, begins with the nodes' beginnings, its rounds never fall, and it keeps the
 -- rules, which speak of labels alone. So it is what the machine does; what that says of nodes and links stands beside the rules.
-use Rattle.std.specs.Prelude.{◌≡◌, ◌≤◌, ◌⊎◌, ℕ, zero, suc, List, [], ◌∷◌, ◌++◌, ◌==◌, if◌then◌else◌, map, ⊤}
+use Rattle.std.specs.Prelude.{◌≡◌, ◌≤◌, ◌⊎◌, ℕ, zero, suc, List, [], ◌∷◌, ◌++◌, ◌==◌, if◌then◌else◌, ⊤}
 use Rattle.run_trace.specs.declared.entry.Act.TheVariants.{Boot}
 use Rattle.run_trace.specs.declared.entry.Entry.{Entry}
 use Rattle.run_trace.specs.declared.label.Label.{Label}
@@ -14,7 +14,7 @@ use Rattle.run_trace.specs.Trace.{IsRun, net_after_trace}
 use Rattle.run_trace.specs.Holding.{EachHeldOnce}
 use Rattle.run_trace.specs.Alone.{EachRunsAlone}
 use Rattle.run_trace.specs.Histories.{IsInOrder}
-use Rattle.run_trace.specs.Stands.{Stands, listed}
+use Rattle.run_trace.specs.Stands.{Stands}
 use Rattle.run_trace.specs.World.{World}
 use Rattle.run_trace.specs.Telling.{world_of, first_world}
 use Rattle.run_trace.specs.Obeying.{KeepsRules}
@@ -52,7 +52,6 @@ AfterEach P p (x ∷ xs) = AfterEach P p xs × P (net_after_trace p (fresh_net p
 -- nodes and links are exactly what the labels tell
 pub record IsTold (p : Program) (w : World) (net : Net) : Type 0 where
   pub stands : Stands p w.spots net
-  pub lists : (n : ℕ) → map listed (net.nodes n).run_lists.rows ≡ w.lists n
   pub links : (i j : ℕ) → net.links i j ≡ w.links i j
   pub begun : (n : ℕ) → (net.nodes n).booted ≡ w.begun n
   pub talks : (n : ℕ) → (net.nodes n).talk ≡ w.talks n

@@ -1,10 +1,9 @@
 pub mod Names
-pub mod Trees
 pub mod Program
 pub mod Guests
 pub mod Calls
+pub mod Bubbles
 pub mod Talks
-pub mod RunLists
 pub mod Local
 pub mod Steps
 pub mod Machine

@@ -5,18 +5,23 @@ use Rattle.run_trace.specs.declared.entry.Act.{Act}
 use Rattle.run_trace.specs.declared.entry.Act.TheVariants.{Boot, Run, Take, Move}
 use Rattle.run_trace.specs.declared.entry.Entry.{Entry}
 use Rattle.run_trace.specs.declared.label.Label.{Label}
-use Rattle.run_trace.specs.declared.label.Label.TheVariants.{Born, Ran, Left, Decided}
+use Rattle.run_trace.specs.declared.label.Label.TheVariants.{Born, Ran, Left, Decided, Down, Burst}
 use Rattle.run_trace.specs.declared.label.Why.TheVariants as why
 use Rattle.run_trace.specs.declared.packet.Packet.{Packet}
 use Rattle.run_trace.specs.Names.{tid, is_tid}
 use Rattle.run_trace.specs.Program.{Program, nodes_of, tree_of, processors_of, quantum_limit}
-use Rattle.run_trace.specs.Trees.{Tree, depth_of, covers}
+use Rattle.levels.specs.Choice.{has_ready}
+use Rattle.bubbles.specs.declared.bubble.Shift.TheVariants as shifts
+use Rattle.bubbles.specs.declared.bubble.Step.{Step}
+use Rattle.bubbles.specs.declared.bubble.Step.TheVariants.{Empty, Takes, Shifts}
+use Rattle.bubbles.specs.Picking.{step}
 use Rattle.rv_step.specs.declared.hart.Stop.{Stop}
 use Rattle.run_trace.specs.Guests.{stack_end}
 use Rattle.run_trace.specs.Spots.{Spots, lowest_free}
 use Rattle.run_trace.specs.Rules.{SoloRule, HoldersRule, LifeRule, RepliesRule, GrantsRule, Occasion, saying}
-use Rattle.run_trace.specs.World.{Listed, World, world_after}
-use Rattle.run_trace.specs.Items.{Item, Says, Runs, Does, Serves, Decides, Progress, has_to, is_busy_with, is_seeking, Thread, doer, worked_off, said, begins_with}
+use Rattle.run_trace.specs.Bubbles.{is_listed}
+use Rattle.run_trace.specs.World.{World, world_after}
+use Rattle.run_trace.specs.Items.{Item, Says, Chooses, Does, Serves, Decides, Progress, has_to, is_busy_with, is_seeking, Thread, doer, worked_off, said, begins_with}
 use Rattle.run_trace.specs.Links.{first_of, taken_packet}
 use Rattle.run_trace.specs.Telling.{world_of}
 
@@ -29,31 +34,14 @@ may_act p n begun (Run vp quantum) =
 may_act p n begun (Take from) = nat_lt n (nodes_of p) && (begun && nat_lt from (nodes_of p))
 may_act p n begun (Move t to) = nat_lt n (nodes_of p) && (begun && (nat_lt to (nodes_of p) && not (to == n)))
 
--- ## Who runs: of those on the lists that cover the processor the first of the greatest priority on the deepest list
+-- ## Who runs, by the choice of a processor
 
--- a has the lesser priority, or the same on a list that isn't as deep
-abbrev pub IsBelow : Tree → Listed → Listed → Type 0
-IsBelow tree a b = (a.priority < b.priority) ⊎ ((a.priority ≡ b.priority) × (depth_of tree a.list < depth_of tree b.list))
-
-abbrev pub AllBelow : Tree → ℕ → Listed → List Listed → Type 0
-AllBelow tree vp x [] = ⊤
-AllBelow tree vp x (y ∷ ys) = (covers tree vp y.list ≡ true → IsBelow tree y x) × AllBelow tree vp x ys
-
-abbrev pub NoneOver : Tree → ℕ → Listed → List Listed → Type 0
-NoneOver tree vp x [] = ⊤
-NoneOver tree vp x (y ∷ ys) = (covers tree vp y.list ≡ true → IsBelow tree x y → ⊥) × NoneOver tree vp x ys
-
-pub record IsPicked (tree : Tree) (vp : ℕ) (x : Listed) (xs : List Listed) : Type 0 where
-  pub before : List Listed
-  pub after : List Listed
-  pub is : xs ≡ before ++ x ∷ after
-  pub here : covers tree vp x.list ≡ true
-  pub first : AllBelow tree vp x before
-  pub greatest : NoneOver tree vp x after
-
-abbrev pub is_on_list : Tid → List Listed → Bool
-is_on_list t [] = false
-is_on_list t (x ∷ xs) = if is_tid t x.tid then true else is_on_list t xs
+-- the label says what is chosen: a bubble is moved, or a thread runs
+abbrev pub IsChoice : ℕ → Step → Label → Type 0
+IsChoice vp Empty l = ⊥
+IsChoice vp (Takes t) l = (count : ℕ) × (stop : Stop) × (l ≡ Ran t vp count stop)
+IsChoice vp (Shifts (shifts.Down bubble list)) l = l ≡ Down bubble list
+IsChoice vp (Shifts (shifts.Burst bubble list)) l = l ≡ Burst bubble list
 
 -- ## How an entry begins, by its act
 
@@ -62,14 +50,15 @@ abbrev pub first_birth : Program → ℕ → Option ℕ → Spots → List Item
 first_birth p n None w = []
 first_birth p n (Some slot) w = Says (Born (tid n (length (w.births n))) why.Main p.image.main 0 0 (stack_end slot) slot) ∷ []
 
--- node 0 begins with the main thread; the one that is picked runs; the first packet of the link is taken, which was sent before;
--- a thread that is sent away is on the run list
+-- node 0 begins with the main thread; a processor chooses where a list of its own has an entity; the first packet of the link is taken, which
+-- was sent before; a thread that is sent away is on a run list
 abbrev pub Starts : Program → (stamp n : ℕ) → Act → World → Progress → Type 0
 Starts p stamp n Boot w r = r ≡ has_to (if n == 0 then first_birth p n (lowest_free n 1 w.spots) w.spots else []) (w.talks n)
-Starts p stamp n (Run vp quantum) w r = (x : Listed) × IsPicked (tree_of p) vp x (w.lists n) × (r ≡ has_to (Runs x.tid vp ∷ []) (w.talks n))
+Starts p stamp n (Run vp quantum) w r =
+    (has_ready (tree_of p) vp (w.spots.forests n).lists.rows ≡ true) × (r ≡ has_to (Chooses vp ∷ []) (w.talks n))
 Starts p stamp n (Take from) w r =
     (x : Packet) × (first_of (w.links from n) ≡ Some x) × (x.stamp < stamp) × (r ≡ begins_with n from x.body (w.talks n))
-Starts p stamp n (Move t to) w r = (is_on_list t (w.lists n) ≡ true) × (r ≡ has_to (Says (Left t to) ∷ []) (w.talks n))
+Starts p stamp n (Move t to) w r = (is_listed t (w.spots.forests n) ≡ true) × (r ≡ has_to (Says (Left t to) ∷ []) (w.talks n))
 
 -- ## How it goes on: each label is what is to be done next, until there is nothing to do
 
@@ -83,7 +72,7 @@ pub record Allows (p : Program) (o : Occasion) (n : ℕ) (l : Label) (w : World)
 
 abbrev pub IsBy : ℕ → Label → Spots → Item → Type 0
 IsBy n l w (Says m) = l ≡ m
-IsBy n l w (Runs t vp) = (count : ℕ) × (stop : Stop) × (l ≡ Ran t vp count stop)
+IsBy n l w (Chooses vp) = IsChoice vp (step vp (w.forests n)).what l
 IsBy n l w (Does s) = (doer l ≡ Some s) × (is_busy_with n s w ≡ true)
 IsBy n l w (Serves t) = (doer l ≡ Some (Thread t)) × (is_seeking n (w.threads t).life ≡ true)
 IsBy n l w (Decides t) = (count : ℕ) × (first : Option ℕ) × (l ≡ Decided t count first)

@@ -6,13 +6,13 @@ use Rattle.iso_blocks.specs.Heap.{rounded, place, emptied}
 use Rattle.slot_space.specs.declared.names.Tid.{Tid}
 use Rattle.rv_step.specs.Run.{after, StopsBy}
 use Rattle.marcel_core.specs.Homes.{joiner}
-use Rattle.marcel_sync.specs.Semaphores.{node_in}
+use Rattle.marcel_sync.specs.Semaphores.{node_in, number_in}
 use Rattle.rv_step.specs.Step.{HartState}
 use Rattle.run_trace.specs.declared.entry.Act.{Act}
 use Rattle.run_trace.specs.declared.entry.Act.TheVariants.{Run}
 use Rattle.run_trace.specs.declared.entry.Entry.{Entry}
 use Rattle.run_trace.specs.declared.label.Label.{Label}
-use Rattle.run_trace.specs.declared.label.Label.TheVariants.{Born, Ran, Asked, Heard, Judged, Told, Took, Gave, Ended, Known, Left, Came, Decided, Shown, Halted}
+use Rattle.run_trace.specs.declared.label.Label.TheVariants.{Born, Ran, Asked, Heard, Judged, Told, Took, Gave, Ended, Known, Left, Came, Decided, Down, Burst, Gathered, Shown, Halted}
 use Rattle.run_trace.specs.declared.label.Why.{Why}
 use Rattle.run_trace.specs.declared.label.Why.TheVariants as why
 use Rattle.run_trace.specs.declared.label.Extra.{Extra}
@@ -21,8 +21,9 @@ use Rattle.run_trace.specs.Names.{tid}
 use Rattle.run_trace.specs.Program.{Program, nodes_of, code_of}
 use Rattle.run_trace.specs.Guests.{Solo, Guest, stack_start, guest_slots, heap_of}
 use Rattle.run_trace.specs.declared.call.Call.{Call}
-use Rattle.run_trace.specs.declared.call.Call.TheVariants.{Create, Isomalloc, Isofree, MigrateSelf}
+use Rattle.run_trace.specs.declared.call.Call.TheVariants.{Create, CreateIn, Isomalloc, Isofree, MigrateSelf}
 use Rattle.run_trace.specs.Calls.{extra_of, slots_wanted, call_of, number_of, args_of, refusal, said_bytes}
+use Rattle.run_trace.specs.Bubbles.{is_listed}
 use Rattle.run_trace.specs.World.{World}
 use Rattle.run_trace.specs.Spots.{Ready, Running, Due, Served, Seeks, Told_next, Told_then, Departs, Ends, Leaves, Halts, Shows, Showing, Shown_there, Asks, Awaits, Answers, Answered, Detaches, Signals, Life, Unborn, On, Moving, Noting, Spots, Of_node, Of_thread, stack_bytes, stepped, its_call, lowest_free, after_labels}
 
@@ -49,6 +50,8 @@ Rule = Program → Occasion → (n : ℕ) → Label → World → Type 0
 abbrev pub IsBorn : Program → ℕ → Why → (entry a0 : ℕ) → Spots → Type 0
 IsBorn p n why.Main entry a0 w = (entry ≡ p.image.main) × (a0 ≡ 0) × (n ≡ 0)
 IsBorn p n (why.Create by) entry a0 w = ((w.threads by).life ≡ On n Seeks) × (priority : ℕ) × (its_call by w ≡ Create entry a0 priority)
+IsBorn p n (why.Inside by bubble) entry a0 w =
+    ((w.threads by).life ≡ On n Seeks) × (name : ℕ) × (priority : ℕ) × (its_call by w ≡ CreateIn name entry a0 priority) × (bubble ≡ number_in name)
 IsBorn p n _ entry a0 w = ⊥
 
 abbrev pub SoloRule : Rule
@@ -71,7 +74,8 @@ HoldersRule p o n (Took t first count) w = (s : ℕ) → has s (run first count)
 HoldersRule p o n (Gave t slots) w = (s : ℕ) → has s slots ≡ true → w.spots.slots s ≡ Of_thread t
 HoldersRule p o n _ w = ⊤
 
--- ## Life: what a thread goes through, in this order
+-- ## Life: what a thread goes through, in this order. What moves bubbles is no thread's; what has to be said of them next is said by what there
+-- is to do
 
 abbrev pub MayJudge : ℕ → Life → Type 0
 MayJudge n (On m (Due code)) = m ≡ n
@@ -104,7 +108,7 @@ MayGive n (On m (Ends end)) g slots = (m ≡ n) × (slots ≡ guest_slots g)
 MayGive n (On m (Served (Isofree address))) g slots = (m ≡ n) × (slots ≡ emptied (heap_of g.solo) address) × (slots ≡ [] → ⊥)
 MayGive n _ g slots = ⊥
 
--- a thread leaves for another node of the cluster, from the run list or by its own call
+-- a thread leaves for another node of the cluster, from a run list or by a call
 abbrev pub MayLeave : ℕ → ℕ → Life → Type 0
 MayLeave n to (On m Ready) = m ≡ n
 MayLeave n to (On m (Departs other)) = (m ≡ n) × (other ≡ to)
@@ -130,7 +134,7 @@ JoinerAwaits t (Some by) w = (w.threads by.0).life ≡ On by.1 (Awaits t)
 
 abbrev pub LifeRule : Rule
 LifeRule p o n (Born t why entry a0 a1 sp slot) w = ((w.spots.threads t).life ≡ Unborn) × (t ≡ tid n (length (w.spots.births n)))
-LifeRule p o n (Ran t vp count stop) w = (w.spots.threads t).life ≡ On n Ready
+LifeRule p o n (Ran t vp count stop) w = ((w.spots.threads t).life ≡ On n Ready) × (is_listed t (w.spots.forests n) ≡ true)
 LifeRule p o n (Asked t call args bytes) w = (w.spots.threads t).life ≡ On n Running
 LifeRule p o n (Heard t) w = MayHear n (w.spots.threads t).life
 LifeRule p o n (Judged t reply extra) w = MayJudge n (w.spots.threads t).life
@@ -140,9 +144,13 @@ LifeRule p o n (Gave t slots) w = MayGive n (w.spots.threads t).life (w.spots.th
 LifeRule p o n (Ended t end) w = (w.spots.threads t).life ≡ On n (Leaves end)
 LifeRule p o n (Known t) w =
     MayKnow (w.spots.threads t).life × (t.home ≡ n) × JoinerAwaits t (joiner (slice_get (w.spots.births t.home) t.seq)) w.spots
-LifeRule p o n (Left t to) w = MayLeave n to (w.spots.threads t).life × (to < nodes_of p) × (to ≡ n → ⊥)
+LifeRule p o n (Left t to) w =
+    MayLeave n to (w.spots.threads t).life × (is_listed t (w.spots.forests n) ≡ true) × (to < nodes_of p) × (to ≡ n → ⊥)
 LifeRule p o n (Came t) w = MayCome n (w.spots.threads t).life
 LifeRule p o n (Decided t count first) w = (w.spots.threads t).life ≡ On n Seeks
+LifeRule p o n (Down bubble list) w = ⊤
+LifeRule p o n (Burst bubble list) w = ⊤
+LifeRule p o n (Gathered bubble count) w = ⊤
 LifeRule p o n (Shown t) w = MayShow n (w.spots.threads t).life
 LifeRule p o n (Halted t) w = (w.spots.threads t).life ≡ On n Halts
 LifeRule p o n _ w = ⊥

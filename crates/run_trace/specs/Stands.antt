@@ -15,22 +15,25 @@ use Rattle.run_trace.specs.declared.label.Extra.TheVariants.{Nothing}
 use Rattle.run_trace.specs.declared.packet.Body.{Body}
 use Rattle.run_trace.specs.declared.packet.Body.TheVariants.{Mover, Show, ShowDone, JoinAsk, DetachAsk, SemAsk, Answer, EndNote, Want, Turn, Over}
 use Rattle.run_trace.specs.declared.packet.Packet.{Packet}
-use Rattle.run_trace.specs.declared.node.ReadyRow.{ReadyRow}
 use Rattle.run_trace.specs.declared.node.Wait.{Wait}
 use Rattle.run_trace.specs.declared.node.Wait.TheVariants as wait
 use Rattle.run_trace.specs.Names.{is_tid, tid}
-use Rattle.run_trace.specs.Program.{Program, nodes_of}
+use Rattle.run_trace.specs.Program.{Program, nodes_of, tree_of}
 use Rattle.run_trace.specs.Guests.{Guest, Thread, waits, guest_slots, packed}
 use Rattle.run_trace.specs.Local.{Local}
-use Rattle.run_trace.specs.RunLists.{IsRising}
+use Rattle.bubbles.specs.declared.bubble.KnownThread.{KnownThread}
+use Rattle.bubbles.specs.Rows.{thread_of}
+use Rattle.bubbles.specs.Forests.{ForestView}
+use Rattle.bubbles.specs.Standing.{IsForest, seats}
+use Rattle.bubbles.specs.Covering.{AreCovered}
+use Rattle.run_trace.specs.Bubbles.{is_listed}
 use Rattle.run_trace.specs.Calls.{extra_of}
 use Rattle.run_trace.specs.Cluster.{Net}
 use Rattle.run_trace.specs.Keyed.{about, StandsFor, MapStandsFor}
 use Rattle.run_trace.specs.Talks.{Talk, is_first}
 use Rattle.run_trace.specs.declared.call.Call.{Call}
-use Rattle.run_trace.specs.declared.call.Call.TheVariants.{Create, Isomalloc, Isofree}
+use Rattle.run_trace.specs.declared.call.Call.TheVariants.{Create, CreateIn, Isomalloc, Isofree}
 use Rattle.run_trace.specs.Spots.{Stage, Ready, Served, Seeks, Departs, Leaves, Stays, Shows, Showing, Shown_there, Asks, Awaits, Answers, Answered, Detaches, Signals, Queues, Life, Unborn, On, Moving, Noting, Gone, Response, Spot, Spots, Holder, Of_thread, is_free, its_call}
-use Rattle.run_trace.specs.World.{Listed}
 use Rattle.run_trace.specs.Items.{Item, Serves, Grants, Decides, Ends_turn, Wants_again, is_busy, is_seeking, Subject, Thread as Thread_of, Turns, same_subject}
 
 -- ## The threads of a node: those that are there, but one that has given its slots
@@ -62,25 +65,35 @@ thread_in_life n _ g = None
 abbrev pub thread_part : ℕ → Tid → Spot → Option Thread
 thread_part n t s = thread_in_life n s.life s.guest
 
--- ## The run lists: the ready threads, on the root, with their priorities
+-- ## The run lists and bubbles: each thread that waits for nothing has one place
 
-abbrev pub listed_name : Listed → Tid
-listed_name x = x.tid
+-- how often a thread in this life stands on a list or in a bubble that isn't burst
+abbrev pub seats_in_stage : Stage → ℕ
+seats_in_stage Ready = 1
+seats_in_stage (Departs to) = 1
+seats_in_stage _ = 0
 
-abbrev pub listed : ReadyRow → Listed
-listed r = record { tid = r.tid; list = r.list; priority = r.priority }
+abbrev pub seats_in_life : ℕ → Life → ℕ
+seats_in_life n (On m stage) = if m == n then seats_in_stage stage else 0
+seats_in_life n _ = 0
 
-abbrev pub row_in_stage : Tid → Stage → ℕ → Option Listed
-row_in_stage t Ready priority = Some (record { tid = t; list = 0; priority = priority })
-row_in_stage t (Departs to) priority = Some (record { tid = t; list = 0; priority = priority })
-row_in_stage t _ priority = None
+-- with which priority node n knows a thread in this life
+abbrev pub priority_in_life : ℕ → Life → Guest → Option ℕ
+priority_in_life n (On m stage) g = if m == n then Some g.priority else None
+priority_in_life n _ g = None
 
-abbrev pub row_in_life : ℕ → Tid → Life → ℕ → Option Listed
-row_in_life n t (On m stage) priority = if m == n then row_in_stage t stage priority else None
-row_in_life n t _ priority = None
+abbrev pub known_priority : Option KnownThread → Option ℕ
+known_priority None = None
+known_priority (Some x) = Some x.priority
 
-abbrev pub row_part : ℕ → Tid → Spot → Option Listed
-row_part n t s = row_in_life n t s.life s.guest.priority
+-- the forest of node n: it knows exactly the threads that are there, with their priorities; those have a place that wait for nothing; and who is
+-- sent away by another's call is on a list
+pub record AreSeated (p : Program) (n : ℕ) (w : Spots) : Type 0 where
+  pub tree : (w.forests n).lists.tree ≡ tree_of p
+  pub forest : IsForest (w.forests n)
+  pub known : (t : Tid) → known_priority (thread_of t (w.forests n).threads) ≡ priority_in_life n (w.threads t).life (w.threads t).guest
+  pub seats : (t : Tid) → seats t (w.forests n) ≡ seats_in_life n (w.threads t).life
+  pub departs : (t : Tid) (to : ℕ) → (w.threads t).life ≡ On n (Departs to) → is_listed t (w.forests n) ≡ true
 
 -- ## In the midst of an event: the threads that node n is busy with
 
@@ -258,7 +271,7 @@ pub record AreInTurn (talks : ℕ → Talk) (links : ℕ → ℕ → List Word) 
 -- node n in the state s, busy with these, and about to serve those
 pub record Here (n : ℕ) (w : Spots) (s : Local) (hand : List Busy) (served : List Tid) : Type 0 where
   pub threads : MapStandsFor is_tid (thread_part n) s.threads w.threads
-  pub rows : StandsFor is_tid listed_name (row_part n) (map listed s.run_lists.rows) w.threads
+  pub forest : s.forest ≡ w.forests n
   pub busy : StandsFor is_tid busy_name (busy_part n) hand w.threads
   pub seekers : StandsFor is_tid itself (seeker_part n) (served ++ s.talk.claims) w.threads
   pub births : s.births ≡ w.births n
@@ -345,6 +358,7 @@ IsWellHeld (Some h) = IsWell h
 -- a call for which its thread may seek slots
 abbrev pub WantsSlots : Call → Type 0
 WantsSlots (Create entry argument priority) = ⊤
+WantsSlots (CreateIn bubble entry argument priority) = ⊤
 WantsSlots (Isomalloc len) = ⊤
 WantsSlots _ = ⊥
 
@@ -368,4 +382,5 @@ pub record Stands (p : Program) (w : Spots) (net : Net) : Type 0 where
   pub links : (i j : ℕ) (t : Tid) → words_about (words_of j (net.links i j)) (Thread_of t) ≡ link_part i j t w.threads
   pub turns : AreInTurn (λ n. (net.nodes n).talk) (λ i j. words_about (words_of j (net.links i j)) Turns) (λ n. [])
   pub agrees : Agrees p w
-  pub rising : (n : ℕ) → IsRising (net.nodes n).run_lists
+  pub seated : (n : ℕ) → AreSeated p n w
+  pub covered : (n : ℕ) → AreCovered (w.forests n)

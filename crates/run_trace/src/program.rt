@@ -1,7 +1,7 @@
 //! What doesn't change while a program runs.
 
 ghost use Rattle.std.specs.Prelude.{◌≡◌, IfOk};
-ghost use Rattle.run_trace.specs.Program.{nodes_of};
+ghost use Rattle.run_trace.specs.Program.{nodes_of, processors_of};
 
 use crate::entry::Setup;
 use basics::NoMemory;
@@ -54,5 +54,12 @@ impl Program {
         ensures { result ≡ nodes_of self.now }
     {
         self.setup.geometry.nodes()
+    }
+
+    /// How many processors each node has.
+    pub fn processors(&self) -> u8
+        ensures { result ≡ processors_of self.now }
+    {
+        self.setup.tree.processors()
     }
 }

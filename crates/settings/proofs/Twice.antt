@@ -10,7 +10,7 @@ use Rattle.words.proofs.Lemmas.{same_text, tally, tally_is, uses_have_values}
 use Rattle.settings.specs.declared.verb.Verb.{Verb}
 use Rattle.settings.specs.declared.command.Command.{Command}
 use Rattle.settings.specs.declared.command.Command.TheVariants as command
-use Rattle.settings.specs.Numbers.{NumberOf, all_names, at_most_once, at_most_one, flag_at, moves, nodes, number_at, quantum, schedule, seed, slots, summary, trace, turns}
+use Rattle.settings.specs.Numbers.{NumberOf, all_names, at_most_once, at_most_one, flag_at, moves, nodes, number_at, quantum, schedule, seed, slots, summary, trace, tree, tree_at, turns}
 use Rattle.settings.specs.Settings.{IsOnceOnly, chosen_by, chosen_with, command_of, grammar_of, settings_by, settings_of, some_then, turns_of, verb_of}
 
 -- ---- what there isn't
@@ -82,6 +82,15 @@ schedule_single command given two =
     then_nothing (number_at given seed) _ (λ d. then_nothing (flag_at given moves) _ (λ m. then_nothing (flag_at given summary) _ (λ u. then_nothing (at_most_one (given trace)) _ (λ r.
     rw (two_values (given schedule) two) refl))))))))
 
+no_tree : (given : Text → List Text) → 2 ≤ length (given tree) → tree_at given ≡ None
+no_tree given h = rw (two_values (given tree) h) refl
+
+tree_single : IsSingle tree
+tree_single command given two =
+    then_nothing (number_at given nodes) _ (λ n. then_nothing (number_at given slots) _ (λ s. then_nothing (number_at given quantum) _ (λ q. then_nothing (number_at given (turns_of command)) _ (λ t.
+    then_nothing (number_at given seed) _ (λ d. then_nothing (flag_at given moves) _ (λ m. then_nothing (flag_at given summary) _ (λ u. then_nothing (at_most_one (given trace)) _ (λ r.
+    then_nothing (at_most_one (given schedule)) _ (λ c. rw (no_tree given two) refl)))))))))
+
 -- ---- the words
 
 pub good_names : (verb : Verb) (names : List Text) (command : Command) → command_of verb names ≡ Some command → list_all is_name names ≡ true
@@ -135,13 +144,14 @@ once name single (word ∷ words) h = by_verb name single word words (verb_of wo
 
 pub all_once : All IsOnceOnly all_names
 all_once =
-    All-cons IsOnceOnly nodes.name (slots.name ∷ quantum.name ∷ turns.name ∷ seed.name ∷ trace ∷ schedule ∷ moves ∷ summary ∷ []) (once nodes.name nodes_single)
-    (All-cons IsOnceOnly slots.name (quantum.name ∷ turns.name ∷ seed.name ∷ trace ∷ schedule ∷ moves ∷ summary ∷ []) (once slots.name slots_single)
-    (All-cons IsOnceOnly quantum.name (turns.name ∷ seed.name ∷ trace ∷ schedule ∷ moves ∷ summary ∷ []) (once quantum.name quantum_single)
-    (All-cons IsOnceOnly turns.name (seed.name ∷ trace ∷ schedule ∷ moves ∷ summary ∷ []) (once turns.name turns_single)
-    (All-cons IsOnceOnly seed.name (trace ∷ schedule ∷ moves ∷ summary ∷ []) (once seed.name seed_single)
+    All-cons IsOnceOnly nodes.name (slots.name ∷ quantum.name ∷ turns.name ∷ seed.name ∷ tree ∷ trace ∷ schedule ∷ moves ∷ summary ∷ []) (once nodes.name nodes_single)
+    (All-cons IsOnceOnly slots.name (quantum.name ∷ turns.name ∷ seed.name ∷ tree ∷ trace ∷ schedule ∷ moves ∷ summary ∷ []) (once slots.name slots_single)
+    (All-cons IsOnceOnly quantum.name (turns.name ∷ seed.name ∷ tree ∷ trace ∷ schedule ∷ moves ∷ summary ∷ []) (once quantum.name quantum_single)
+    (All-cons IsOnceOnly turns.name (seed.name ∷ tree ∷ trace ∷ schedule ∷ moves ∷ summary ∷ []) (once turns.name turns_single)
+    (All-cons IsOnceOnly seed.name (tree ∷ trace ∷ schedule ∷ moves ∷ summary ∷ []) (once seed.name seed_single)
+    (All-cons IsOnceOnly tree (trace ∷ schedule ∷ moves ∷ summary ∷ []) (once tree tree_single)
     (All-cons IsOnceOnly trace (schedule ∷ moves ∷ summary ∷ []) (once trace trace_single)
     (All-cons IsOnceOnly schedule (moves ∷ summary ∷ []) (once schedule schedule_single)
     (All-cons IsOnceOnly moves (summary ∷ []) (once moves moves_single)
     (All-cons IsOnceOnly summary [] (once summary summary_single)
-    (All-nil IsOnceOnly)))))))))
+    (All-nil IsOnceOnly))))))))))

@@ -1,9 +1,10 @@
 -- Options whose values are numbers, flags, and what is given at most once.
-use Rattle.std.specs.Prelude.{◌&&◌, ℕ, Bool, true, false, List, [], ◌∷◌, ◌++◌, length, map, not, Option, Some, None, if◌then◌else◌, codes, nat_le, option_and_then}
-use Rattle.std.specs.List.{list_all}
+use Rattle.std.specs.Prelude.{◌&&◌, ◌==◌, ℕ, Bool, true, false, List, [], ◌∷◌, ◌++◌, length, map, not, Option, Some, None, if◌then◌else◌, codes, nat_le, option_and_then}
+use Rattle.std.specs.List.{list_all, list_any, before_first, after_first}
 use Rattle.std.specs.Str.{bytes_eq}
 use Rattle.std.specs.Str.Parse.{digits_value}
 use Rattle.slot_space.specs.Limits.{node_limit, slot_limit}
+use Rattle.levels.specs.Trees.{Tree, processor_limit, tree_of, tree_within}
 use Rattle.words.specs.Words.{Text, is_name}
 
 -- the value, if there is one; None where there are two, or where it is no name
@@ -72,6 +73,38 @@ number_at given o = option_and_then (number_or_usual o) (at_most_one (given o.na
 abbrev pub jobs_of : Text → Option ℕ
 jobs_of text = number_of 1 1000 text
 
+-- ---- the option whose value is a tree of run lists
+
+abbrev pub tree : Text
+tree = codes "tree"
+
+-- `x` is 120
+abbrev pub is_between : ℕ → Bool
+is_between b = b == 120
+
+abbrev pub width_of : Text → Option ℕ
+width_of text = number_of 1 processor_limit text
+
+-- K processors right below the root
+abbrev pub one_level : Text → Option Tree
+one_level text = option_and_then (λ first. tree_within first None) (width_of text)
+
+-- K groups of M processors
+abbrev pub two_levels : (first second : Text) → Option Tree
+two_levels first second = option_and_then (λ k. option_and_then (λ m. tree_within k (Some m)) (width_of second)) (width_of first)
+
+-- the tree that a text writes: K, or K and M with an `x` between them
+abbrev pub tree_in : Text → Option Tree
+tree_in text = if list_any is_between text then two_levels (before_first is_between text) (after_first is_between text) else one_level text
+
+abbrev pub tree_or_usual : Option Text → Option Tree
+tree_or_usual None = Some (tree_of 1 None)
+tree_or_usual (Some text) = tree_in text
+
+-- the option's tree, by the values that are given under each name
+abbrev pub tree_at : (Text → List Text) → Option Tree
+tree_at given = option_and_then tree_or_usual (at_most_one (given tree))
+
 -- ---- options whose values are names of files
 
 abbrev pub trace : Text
@@ -103,7 +136,7 @@ flags = moves ∷ summary ∷ []
 
 -- the names of all options and flags
 abbrev pub all_names : List Text
-all_names = map (λ o. o.name) number_options ++ (name_options ++ flags)
+all_names = map (λ o. o.name) number_options ++ (tree ∷ (name_options ++ flags))
 
 -- whether there is a use of a flag; None where there are two
 abbrev pub at_most_once : List Text → Option Bool

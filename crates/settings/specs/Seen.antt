@@ -13,6 +13,7 @@ chosen s = record {
   command = s.command;
   nodes = s.setup.geometry.nodes;
   slots = s.setup.geometry.slots;
+  tree = s.setup.tree;
   quantum = s.setup.quantum;
   turns = s.turns;
   seed = s.seed;
@@ -31,6 +32,7 @@ chosen_in command a = record {
   command = command;
   nodes = a.setup.geometry.nodes;
   slots = a.setup.geometry.slots;
+  tree = a.setup.tree;
   quantum = a.setup.quantum;
   turns = a.turns;
   seed = a.seed;
@@ -43,7 +45,7 @@ chosen_in command a = record {
 abbrev pub IsBetween : ℕ → ℕ → ℕ → Type 0
 IsBetween low high n = (low ≤ n) × (n ≤ high)
 
--- a run has 1 to 65,536 instructions, and there are 1 to 1,000,000 entries; nodes and slots have their own limits; the trace and the
+-- a run has 1 to 65,536 instructions, and there are 1 to 1,000,000 entries; nodes, slots and the tree have their own limits; the trace and the
 -- schedule go to two files
 pub record IsWithinLimits (s : Settings) : Type 0 where
   pub some_quantum : 1 ≤ s.setup.quantum

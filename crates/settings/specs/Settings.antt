@@ -3,9 +3,10 @@ use Rattle.std.specs.Prelude.{◌≡◌, ◌≤◌, ◌||◌, ℕ, Bool, true, f
 use Rattle.std.specs.Option.{option_map}
 use Rattle.std.specs.List.{list_all, list_any}
 use Rattle.std.specs.Str.{bytes_eq}
+use Rattle.levels.specs.Trees.{Tree}
 use Rattle.words.specs.Uses.{is_use}
 use Rattle.words.specs.Words.{Form, GrammarOf, Text, file, form_of, is_name, items_of, long, values}
-use Rattle.settings.specs.Numbers.{NumberOf, are_apart, at_most_one, flag_at, flags, jobs_of, long_turns, moves, name_options, nodes, number_at, number_options, quantum, schedule, seed, slots, summary, trace, turns}
+use Rattle.settings.specs.Numbers.{NumberOf, are_apart, at_most_one, flag_at, flags, jobs_of, long_turns, moves, name_options, nodes, number_at, number_options, quantum, schedule, seed, slots, summary, trace, tree, tree_at, turns}
 use Rattle.settings.specs.declared.verb.Verb.{Verb}
 use Rattle.settings.specs.declared.verb.Verb.TheVariants as verb
 use Rattle.settings.specs.declared.command.Command.{Command}
@@ -24,10 +25,10 @@ verb_of word =
 -- what a command takes beside its positional words
 abbrev pub grammar_of : Verb → GrammarOf
 grammar_of verb.Asm = record { options = []; flags = [] }
-grammar_of verb.Run = record { options = nodes.name ∷ slots.name ∷ quantum.name ∷ turns.name ∷ name_options; flags = summary ∷ [] }
-grammar_of verb.Sim = record { options = map (λ o. o.name) number_options ++ name_options; flags = flags }
-grammar_of verb.Replay = record { options = nodes.name ∷ slots.name ∷ trace ∷ []; flags = summary ∷ [] }
-grammar_of verb.Stress = record { options = nodes.name ∷ slots.name ∷ quantum.name ∷ turns.name ∷ name_options; flags = [] }
+grammar_of verb.Run = record { options = nodes.name ∷ slots.name ∷ quantum.name ∷ turns.name ∷ tree ∷ name_options; flags = summary ∷ [] }
+grammar_of verb.Sim = record { options = map (λ o. o.name) number_options ++ (tree ∷ name_options); flags = flags }
+grammar_of verb.Replay = record { options = nodes.name ∷ slots.name ∷ tree ∷ trace ∷ []; flags = summary ∷ [] }
+grammar_of verb.Stress = record { options = nodes.name ∷ slots.name ∷ quantum.name ∷ turns.name ∷ tree ∷ name_options; flags = [] }
 
 -- a command and its positional words
 abbrev pub command_with : Verb → List Text → Option Command
@@ -53,11 +54,12 @@ abbrev pub always_sums : Command → Bool
 always_sums (command.Stress jobs) = true
 always_sums _ = false
 
--- what is asked for, in numbers; whether moves are among what is drawn, and the summary is shown; and the names of the files to write
+-- what is asked for, in numbers; the run lists of each node; whether moves are among what is drawn, and the summary is shown; and the names of the files to write
 pub record Chosen : Type 0 where
   pub command : Command
   pub nodes : ℕ
   pub slots : ℕ
+  pub tree : Tree
   pub quantum : ℕ
   pub turns : ℕ
   pub seed : ℕ
@@ -70,7 +72,7 @@ abbrev pub some_then : {A B : Type 0} → Option A → (A → Option B) → Opti
 some_then None next = None
 some_then (Some x) next = next x
 
--- a command with its numbers, its flags and its names, by the values that are given under each name
+-- a command with its numbers, its tree, its flags and its names, by the values that are given under each name
 abbrev pub chosen_with : Command → (Text → List Text) → Option Chosen
 chosen_with command given =
     some_then (number_at given nodes) (λ nodes.
@@ -82,10 +84,12 @@ chosen_with command given =
     some_then (flag_at given summary) (λ summary.
     some_then (at_most_one (given trace)) (λ trace.
     some_then (at_most_one (given schedule)) (λ schedule.
+    some_then (tree_at given) (λ tree.
     if are_apart trace schedule then Some (record {
       command = command;
       nodes = nodes;
       slots = slots;
+      tree = tree;
       quantum = quantum;
       turns = turns;
       seed = seed;
@@ -93,7 +97,7 @@ chosen_with command given =
       summary = always_sums command || summary;
       trace = trace;
       schedule = schedule;
-    }) else None)))))))))
+    }) else None))))))))))
 
 abbrev pub chosen_by : Verb → (Text → List Text) → Option Chosen
 chosen_by verb given = some_then (command_of verb (given file)) (λ command. chosen_with command given)

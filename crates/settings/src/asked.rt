@@ -12,7 +12,7 @@ use crate::name::Name;
 use crate::number::{NumberOption, at_most_one};
 use crate::table::{
     LONG_TURNS, MOVES, NODES, QUANTUM, SCHEDULE, SEED, SLOTS, SUMMARY, TRACE, TURNS, flag_at,
-    number_at,
+    number_at, tree_at,
 };
 use run_trace::Setup;
 use slot_space::Geometry;
@@ -78,7 +78,7 @@ struct Asked<'a> {
     schedule: Option<&'a str>,
 }
 
-/// The numbers, the flags and the names of a command.
+/// The numbers, the tree, the flags and the names of a command.
 fn asked_with<'a>(command: &Command, given: &Given<'a>) -> Option<Asked<'a>>
     ensures value { option_map (chosen_in command.now) result ≡ chosen_with command.now (values_given given.now) }
     ensures limits { IfSome result (λ a. IsBetween quantum.low quantum.high a.setup.quantum × IsBetween turns.low turns.high a.turns) }
@@ -93,6 +93,7 @@ fn asked_with<'a>(command: &Command, given: &Given<'a>) -> Option<Asked<'a>>
     let summary = flag_at(given, SUMMARY)?;
     let trace = at_most_one(given.values(TRACE))?;
     let schedule = at_most_one(given.values(SCHEDULE))?;
+    let tree = tree_at(given)?;
     if !are_apart(trace, schedule) {
         return None;
     }
@@ -102,6 +103,7 @@ fn asked_with<'a>(command: &Command, given: &Given<'a>) -> Option<Asked<'a>>
                 nodes: nodes as u8,
                 slots: slots as u16,
             },
+            tree,
             quantum: quantum as u32,
         },
         turns,
@@ -123,7 +125,7 @@ fn owned(alloc: Global, name: Option<&str>) -> Result<Option<Name>, AllocError>
     }
 }
 
-/// A command with its numbers, its flags and its names.
+/// A command with its numbers, its tree, its flags and its names.
 pub(crate) fn settings_with(
     alloc: Global,
     command: Command,
@@ -133,7 +135,9 @@ pub(crate) fn settings_with(
     ensures usage { IsErrOf result WordsError.Usage → chosen_with command (values_given given.now) ≡ None }
     ensures limits { IfOk result IsWithinLimits }
 {
-    let asked = asked_with(&command, given).ok_or(WordsError::Usage)?;
+    let Some(asked) = asked_with(&command, given) else {
+        return Err(WordsError::Usage);
+    };
     let trace = owned(alloc, asked.trace)?;
     let schedule = owned(alloc, asked.schedule)?;
     Ok(Settings {

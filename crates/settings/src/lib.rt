@@ -9,6 +9,7 @@ mod laws;
 mod name;
 mod number;
 mod table;
+mod tree;
 mod verb;
 
 pub use asked::Settings;

@@ -2,10 +2,12 @@
 
 ghost use Rattle.std.specs.Prelude.{◌≡◌, ◌≤◌, IfSome};
 ghost use Rattle.words.specs.Seen.{values_given};
-ghost use Rattle.settings.specs.Numbers.{flag_at, number_at};
+ghost use Rattle.settings.specs.Numbers.{flag_at, number_at, tree_at};
 ghost use Rattle.settings.specs.Seen.{option_seen};
 
 use crate::number::{NumberOption, at_most_one, number_of};
+use crate::tree::tree_of;
+use levels::Tree;
 use slot_space::{NODE_LIMIT, SLOT_LIMIT};
 use words::Given;
 
@@ -52,6 +54,9 @@ pub(crate) const SEED: NumberOption = NumberOption {
     usual: 0,
 };
 
+/// The name of the option whose value is a tree of run lists.
+pub(crate) const TREE: &str = "tree";
+
 /// The name of a flag.
 pub(crate) const MOVES: &str = "moves";
 
@@ -72,6 +77,16 @@ pub(crate) fn number_at(given: &Given, option: NumberOption) -> Option<u64>
     match at_most_one(given.values(option.name))? {
         None => Some(option.usual),
         Some(text) => number_of(text, option.low, option.high),
+    }
+}
+
+/// The option's tree.
+pub(crate) fn tree_at(given: &Given) -> Option<Tree>
+    ensures { result ≡ tree_at (values_given given.now) }
+{
+    match at_most_one(given.values(TREE))? {
+        None => Tree::new(1, None),
+        Some(text) => tree_of(text),
     }
 }
 

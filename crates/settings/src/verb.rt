@@ -16,15 +16,17 @@ pub(crate) enum Verb {
     Stress,
 }
 
-static RUN_OPTIONS: [&str; 6] = ["nodes", "slots", "quantum", "turns", "trace", "schedule"];
+static RUN_OPTIONS: [&str; 7] = [
+    "nodes", "slots", "quantum", "turns", "tree", "trace", "schedule",
+];
 
-static SIM_OPTIONS: [&str; 7] = [
-    "nodes", "slots", "quantum", "turns", "seed", "trace", "schedule",
+static SIM_OPTIONS: [&str; 8] = [
+    "nodes", "slots", "quantum", "turns", "seed", "tree", "trace", "schedule",
 ];
 
 static SIM_FLAGS: [&str; 2] = ["moves", "summary"];
 
-static REPLAY_OPTIONS: [&str; 3] = ["nodes", "slots", "trace"];
+static REPLAY_OPTIONS: [&str; 4] = ["nodes", "slots", "tree", "trace"];
 
 static SUMMARY_ALONE: [&str; 1] = ["summary"];
 

@@ -9,13 +9,16 @@ use Rattle.slot_space.specs.declared.names.Tid.{Tid}
 use Rattle.run_trace.specs.declared.entry.Act.{Act}
 use Rattle.run_trace.specs.declared.entry.Act.TheVariants.{Run, Take, Move}
 use Rattle.run_trace.specs.declared.entry.Entry.{Entry}
-use Rattle.run_trace.specs.Program.{Program, nodes_of, quantum_limit}
-use Rattle.run_trace.specs.RunLists.{is_listed}
+use Rattle.run_trace.specs.Program.{Program, nodes_of, processors_of, quantum_limit}
+use Rattle.bubbles.specs.Forests.{ForestView}
+use Rattle.run_trace.specs.Bubbles.{is_listed}
+use Rattle.run_trace.specs.Guests.{Thread}
+use Rattle.node_state.specs.Listed.{listed, listed_among}
 use Rattle.run_trace.specs.Cluster.{Net}
 use Rattle.node_loop.specs.Turns.{IsActInRange}
 use Rattle.node_loop.specs.declared.node.Turned.{Turned}
 use Rattle.node_loop.specs.declared.node.Turned.TheVariants.{Did, Idle}
-use Rattle.cluster.specs.Acts.{has_pick, holds, runs_of, takes_of, ready_on, moves_to, moves_of, acts_of, possible_acts, is_possible}
+use Rattle.cluster.specs.Acts.{has_pick, holds, runs_of, takes_of, moves_to, moves_of, acts_of, possible_acts, is_possible}
 use Rattle.cluster.specs.View.{ClusterView}
 use Rattle.cluster.specs.Standing.{StandsFor, Steps, net_after}
 use Rattle.simulation.specs.Drawn.{chosen, possible_after}
@@ -47,10 +50,6 @@ each_passes Q test (x ∷ xs) all = by (test x) refl (each_passes Q test xs all.
     by true e rest = ((all.0, e), rest)
     by false e rest = rest
 
-any_items : {A : Type 0} (xs : List A) → AreAll (λ x. ⊤) xs
-any_items [] = tt
-any_items (x ∷ xs) = (tt, any_items xs)
-
 run_below : (limit s count : ℕ) → s + count ≤ limit → AreAll (λ k. k < limit) (run s count)
 unfolding run
 run_below limit s zero l = tt
@@ -61,15 +60,23 @@ run_below limit s (suc count) l = (omega (arith, l), run_below limit (suc s) cou
 pub record IsPossible (p : Program) (net : Net) (a : ℕ × Act) : Type 0 where
   pub node : a.0 < nodes_of p
   pub range : IsActInRange p a.0 a.1
-  pub possible : is_possible net a.0 a.1 ≡ true
+  pub possible : is_possible p net a.0 a.1 ≡ true
+
+-- each that is named so is on a list
+each_listed : (f : ForestView) (es : List (Tid × Thread)) → AreAll (λ t. is_listed t f ≡ true) (listed_among f es)
+each_listed f [] = tt
+each_listed f (e ∷ es) = by (is_listed e.0 f) refl (each_listed f es)
+  where
+    by : (v : Bool) → is_listed e.0 f ≡ v → AreAll (λ t. is_listed t f ≡ true) (listed_among f es) → AreAll (λ t. is_listed t f ≡ true) (cond v (e.0 ∷ listed_among f es) (listed_among f es))
+    by true h more = (h, more)
+    by false h more = more
 
 module _ (p : Program) (net : Net) (some : 0 < p.setup.quantum) (bounded : p.setup.quantum ≤ quantum_limit) where
   runs_possible : (n : ℕ) → n < nodes_of p → AreAll (IsPossible p net) (runs_of p net n)
-  runs_possible n l = by (has_pick net n) refl
-    where
-      by : (v : Bool) → has_pick net n ≡ v → AreAll (IsPossible p net) (cond v (map (λ vp. (n, Run vp p.setup.quantum)) (run 0 1)) [])
-      by true e = each_mapped (λ k. k < 1) (IsPossible p net) (λ vp. (n, Run vp p.setup.quantum)) (λ vp below. record { node = l; range = (below, some, bounded); possible = e }) (run 0 1) (run_below 1 0 1 (omega arith))
-      by false e = tt
+  runs_possible n l =
+      each_mapped (λ vp. (vp < processors_of p) × (has_pick p net n vp ≡ true)) (IsPossible p net) (λ vp. (n, Run vp p.setup.quantum)) (λ vp h. record { node = l; range = (h.0, some, bounded); possible = h.1 })
+      (filter (λ vp. has_pick p net n vp) (run 0 (processors_of p)))
+      (each_passes (λ vp. vp < processors_of p) (λ vp. has_pick p net n vp) (run 0 (processors_of p)) (run_below (processors_of p) 0 (processors_of p) (omega arith)))
 
   takes_possible : (n : ℕ) → n < nodes_of p → AreAll (IsPossible p net) (takes_of p net n)
   takes_possible n l =
@@ -80,7 +87,7 @@ module _ (p : Program) (net : Net) (some : 0 < p.setup.quantum) (bounded : p.set
   other : (to n : ℕ) → not (to == n) ≡ true → to ≢ n
   other to n e same = let one : eqb to n ≡ true = eq-eqb to n same in cc (e, one)
 
-  move_possible : (n : ℕ) → n < nodes_of p → (t : Tid) → is_listed t (net.nodes n).run_lists.rows ≡ true → AreAll (IsPossible p net) (moves_to p n t)
+  move_possible : (n : ℕ) → n < nodes_of p → (t : Tid) → is_listed t (net.nodes n).forest ≡ true → AreAll (IsPossible p net) (moves_to p n t)
   move_possible n l t listed =
       each_mapped (λ to. (to < nodes_of p) × (not (to == n) ≡ true)) (IsPossible p net) (λ to. (n, Move t to)) (λ to h. record { node = l; range = (h.0, other to n h.1); possible = listed })
       (filter (λ to. not (to == n)) (run 0 (nodes_of p)))
@@ -89,9 +96,8 @@ module _ (p : Program) (net : Net) (some : 0 < p.setup.quantum) (bounded : p.set
   moves_possible : (moves : Bool) (n : ℕ) → n < nodes_of p → AreAll (IsPossible p net) (moves_of moves p net n)
   moves_possible false n l = tt
   moves_possible true n l =
-      each_joined (λ t. ⊤ × (is_listed t (net.nodes n).run_lists.rows ≡ true)) (IsPossible p net) (λ t. moves_to p n t) (λ t h. move_possible n l t h.1)
-      (ready_on (net.nodes n))
-      (each_passes (λ t. ⊤) (λ t. is_listed t (net.nodes n).run_lists.rows) (map (λ e. e.0) (net.nodes n).threads) (any_items (map (λ e. e.0) (net.nodes n).threads)))
+      each_joined (λ t. is_listed t (net.nodes n).forest ≡ true) (IsPossible p net) (λ t. moves_to p n t) (λ t h. move_possible n l t h)
+      (listed (net.nodes n)) (each_listed (net.nodes n).forest (net.nodes n).threads)
 
   acts_possible : (moves : Bool) (n : ℕ) → n < nodes_of p → AreAll (IsPossible p net) (acts_of moves p net n)
   acts_possible moves n l =
@@ -123,9 +129,9 @@ some_chosen (x ∷ xs) o word some is none =
 -- an act that can be done is done
 pub draws : (moves : Bool) (old new : ClusterView) (trace : List Entry) (o : Option (ℕ × Act)) (word n : ℕ) (act : Act) (t : Turned) → StandsFor old [] trace
     → o ≡ chosen word (possible_after moves old.program trace) → o ≡ Some (n, act) → Steps old [] trace n act new t
-    → (t ≡ Idle) ↔ (is_possible (net_after old.program (trace ++ [])) n act ≡ false) → Draws moves word trace old new
+    → (t ≡ Idle) ↔ (is_possible old.program (net_after old.program (trace ++ [])) n act ≡ false) → Draws moves word trace old new
 draws moves old new trace o word n act Idle s is some h i =
-    absurd (cc (i.0 refl, ap (λ ls. is_possible (net_after old.program ls) n act) (append-nil trace), (chosen_possible moves old trace o word (n, act) s is some).possible))
+    absurd (cc (i.0 refl, ap (λ ls. is_possible old.program (net_after old.program ls) n act) (append-nil trace), (chosen_possible moves old trace o word (n, act) s is some).possible))
 draws moves old new trace o word n act Did s is some h i = record { node = n; act = act; chosen_is = sym is ∙ some; adds = h }
 
 -- ## No part of the trace came before

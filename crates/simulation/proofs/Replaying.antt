@@ -61,14 +61,14 @@ module _ (schedule : List Scheduled) (old : ClusterView) (written : Option (List
   stopped : (end : RunEnd) → StopsAt p schedule (length u.later) (u.later ++ first) end → HasReplayed schedule old c written now end
   stopped end e = ends_here old (u.later ++ first) c u.so_far.come _ written now end u.so_far.shown (stops end e)
 
-  pub impossible : (s : Scheduled) (line : ℕ) → slice_get schedule done ≡ Some s → s.line ≡ line → is_possible (net_after c.program ((u.later ++ first) ++ [])) s.node s.act ≡ false
+  pub impossible : (s : Scheduled) (line : ℕ) → slice_get schedule done ≡ Some s → s.line ≡ line → is_possible c.program (net_after c.program ((u.later ++ first) ++ [])) s.node s.act ≡ false
       → HasReplayed schedule old c written now (ends.NotPossible line)
   impossible s line at is idle = stopped (ends.NotPossible line) (
     s,
     ap (slice_get schedule) u.so_far.count ∙ at,
     is,
-    subst (λ q. is_possible (net_after q (u.later ++ first)) s.node s.act ≡ false) u.so_far.come.program
-        (subst (λ ls. is_possible (net_after c.program ls) s.node s.act ≡ false) (append-nil (u.later ++ first)) idle),
+    subst (λ q. is_possible q (net_after q (u.later ++ first)) s.node s.act ≡ false) u.so_far.come.program
+        (subst (λ ls. is_possible c.program (net_after c.program ls) s.node s.act ≡ false) (append-nil (u.later ++ first)) idle),
   )
 
   pub is_done_by : done ≡ length schedule → IsAt c.program ((u.later ++ first) ++ []) states.Done → HasReplayed schedule old c written now ends.Done

@@ -5,8 +5,8 @@ use Rattle.std.proofs.lemmas.List.{length-append, append_assoc, append-nil}
 use Rattle.outside.specs.Outside.{Appends, AppendsPrefix}
 use Rattle.run_trace.specs.declared.entry.Entry.{Entry}
 use Rattle.run_trace.specs.Legality.{Legal, boot_entries}
-use Rattle.run_trace.specs.Program.{Program, nodes_of}
-use Rattle.node_loop.specs.Passes.{IsRound}
+use Rattle.run_trace.specs.Program.{Program, nodes_of, processors_of}
+use Rattle.node_loop.specs.Passes.{IsRound, NoneReady}
 use Rattle.node_loop.specs.View.{next_round}
 use Rattle.cluster.specs.Acts.{has_pick}
 use Rattle.cluster.specs.Outcomes.{GoesOn, IsAt}
@@ -30,15 +30,15 @@ last_joined clock (x ∷ xs) ys = ap (max x.stamp) (last_joined clock xs ys)
 
 -- ## A round has an entry where a thread can run
 
-no_acts : (nodes quantum : ℕ) (ready : Bool) (has : ℕ → Bool) → ready ≡ true → IsRound nodes quantum acts_in_round ready has [] → ⊥
-no_acts nodes quantum ready has pick r = by r.ends
+no_acts : (nodes processors quantum : ℕ) (ready has : ℕ → Bool) → 0 < processors → ready 0 ≡ true → IsRound nodes processors quantum acts_in_round ready has [] → ⊥
+no_acts nodes processors quantum ready has some pick r = by r.ends
   where
-    by : (0 ≡ acts_in_round) ⊎ ((r.last ≡ []) × (ready ≡ false)) → ⊥
+    by : (0 ≡ acts_in_round) ⊎ ((r.last ≡ []) × NoneReady processors ready) → ⊥
     by (inl e) = omega (arith, e)
-    by (inr h) = let bad : true ≡ false = sym pick ∙ h.1 in cc
+    by (inr h) = let bad : true ≡ false = sym pick ∙ h.1 0 some in cc
 
-some_entry : (p : Program) (clock round : ℕ) (old new : List Entry) → has_pick (net_after p old) 0 ≡ true → AreOfOneRound p clock round old new → 0 < length new
-some_entry p clock round old [] pick r = absurd (no_acts (nodes_of p) p.setup.quantum (has_pick (net_after p old) 0) _ pick (r.passes 0 (omega (arith, p.setup.geometry.some_node))))
+some_entry : (p : Program) (clock round : ℕ) (old new : List Entry) → has_pick p (net_after p old) 0 0 ≡ true → AreOfOneRound p clock round old new → 0 < length new
+some_entry p clock round old [] pick r = absurd (no_acts (nodes_of p) (processors_of p) p.setup.quantum (λ vp. has_pick p (net_after p old) 0 vp) _ p.setup.some_processor pick (r.passes 0 (omega (arith, p.setup.geometry.some_node))))
 some_entry p clock round old (x ∷ xs) pick r = omega arith
 
 -- ## The beginning
@@ -112,7 +112,7 @@ module _ (turns : ℕ) (old : ClusterView) (written : Option (List ℕ)) (done :
         by (inl g) = d.goes_on (subst (λ ls. GoesOn c.program ls) (sym (append-nil trace)) (subst (λ q. GoesOn q trace) (sym u.come.program) g))
         by (inr none) =
             let legal : Legal p first = subst (λ rs. Legal p (entries_in rs ++ first)) none (legal_so_far old trace c u.come) in
-            let pick : has_pick (net_after p trace) 0 ≡ true = subst (λ rs. has_pick (net_after p (entries_in rs ++ first)) 0 ≡ true) (sym none) (main_listed p legal) in
+            let pick : has_pick p (net_after p trace) 0 0 ≡ true = subst (λ rs. has_pick p (net_after p (entries_in rs ++ first)) 0 0 ≡ true) (sym none) (main_listed p legal) in
             some_entry p (last_stamp 1 (entries_in u.rounds)) (suc (length u.rounds)) trace d.entries pick round_is
 
     count_now : length (entries_in later) ≡ length d.entries + length (entries_in u.rounds)

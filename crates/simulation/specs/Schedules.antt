@@ -36,7 +36,7 @@ StopsAt p schedule done trace Done = (done ≡ length schedule) × IsDoneAt p tr
 StopsAt p schedule done trace Stalled = (done ≡ length schedule) × IsStuckAt p trace
 StopsAt p schedule done trace OutOfTurns = (done ≡ length schedule) × (IsDoneAt p trace → ⊥) × (IsStuckAt p trace → ⊥)
 StopsAt p schedule done trace (NotPossible line) =
-    (s : Scheduled) × (slice_get schedule done ≡ Some s) × (s.line ≡ line) × (is_possible (net_after p trace) s.node s.act ≡ false)
+    (s : Scheduled) × (slice_get schedule done ≡ Some s) × (s.line ≡ line) × (is_possible p (net_after p trace) s.node s.act ≡ false)
 StopsAt p schedule done trace WriteFault = 0 < done
 StopsAt p schedule done trace NoMemory = ⊤
 

@@ -1,24 +1,29 @@
 -- Lemmas of legal traces. Other crates cite these alone, in lemmas of their own; a function calls the law instead.
-use Rattle.std.proofs.Common.{List, Some, [], false, map, true, ℕ, ◌++◌, ◌+◌, ◌<◌, ◌∷◌, ◌≡◌}
+use Rattle.std.proofs.Common.{List, Some, [], cond, false, map, true, ℕ, ◌++◌, ◌+◌, ◌<◌, ◌∷◌, ◌≡◌}
+use Rattle.levels.specs.Choice.{has_ready}
+use Rattle.bubbles.specs.declared.bubble.Shift.{Shift}
+use Rattle.bubbles.specs.Changes.{PicksEnd}
+use Rattle.bubbles.specs.Forests.{ForestView}
+use Rattle.bubbles.specs.Picking.{Picks}
+use Rattle.bubbles.specs.Standing.{seats}
+use Rattle.run_trace.specs.Bubbles.{is_listed}
 use Rattle.run_trace.specs.Cluster.{Event, Merges, Net, Runs, fresh_net, net_of, own, received, sent, state}
 use Rattle.run_trace.specs.Console.{console_of, printed}
 use Rattle.run_trace.specs.Guests.{Thread, is_unwaiting}
+use Rattle.run_trace.specs.Local.{EventSoFar, nothing}
+use Rattle.run_trace.specs.Machine.{choice_limit, chooses}
 use Rattle.run_trace.specs.Histories.{IsInOrder, Turn, sent_to, taken_from, turn_state}
 use Rattle.run_trace.specs.Holding.{IsOn}
-use Rattle.run_trace.specs.Keyed.{item_of}
 use Rattle.run_trace.specs.Legality.{AreRising, Begins, IsTold, Legal, boot_entries}
-use Rattle.run_trace.specs.Names.{is_tid}
 use Rattle.run_trace.specs.Outcome.{AllLinksEmpty, IsStuck, Lives}
-use Rattle.run_trace.specs.RunLists.{best_on, is_listed}
-use Rattle.run_trace.specs.Program.{Program, nodes_of, tree_of}
+use Rattle.run_trace.specs.Program.{Program, nodes_of, processors_of, tree_of}
 use Rattle.run_trace.specs.Rules.{spots_of}
-use Rattle.run_trace.specs.Spots.{Spots, at_first}
-use Rattle.run_trace.specs.Stands.{Stands, listed, listed_name}
+use Rattle.run_trace.specs.Spots.{Ready, On, Spots, at_first}
+use Rattle.run_trace.specs.Stands.{Stands}
 use Rattle.run_trace.specs.Trace.{Fits, IsRun, entry_of, events_of, net_after_trace}
 use Rattle.run_trace.specs.declared.entry.Entry.{Entry}
-use Rattle.run_trace.specs.declared.node.ReadyRow.{ReadyRow}
 use Rattle.slot_space.specs.declared.names.Tid.{Tid}
-use Rattle.std.specs.Prelude.{is_some, length, ◌↔◌}
+use Rattle.std.specs.Prelude.{length, ◌↔◌}
 use Rattle.trace_laws.specs.Beginnings.{BeginsSo}
 use Rattle.trace_laws.specs.Gathers.{Gathers, events_in, own_turns}
 use Rattle.trace_laws.specs.Obeys.{world_at}
@@ -31,9 +36,10 @@ use Rattle.trace_laws.proofs.Merging.Determined
 use Rattle.trace_laws.proofs.Outcomes.Legals
 use Rattle.trace_laws.proofs.Merging.Merge
 use Rattle.trace_laws.proofs.Outcomes.NothingOutside
-use Rattle.trace_laws.proofs.Lists.Parts
 use Rattle.trace_laws.proofs.Outcomes.RunLists
 use Rattle.trace_laws.proofs.Outcomes.Stillness
+use Rattle.trace_laws.proofs.Rules.Entries
+use Rattle.trace_laws.proofs.Underway.Events
 use Rattle.trace_laws.proofs.Outcomes.Wholes
 pub use Rattle.trace_laws.proofs.Outcomes.NothingOutside.{Inside}
 pub use Rattle.trace_laws.proofs.Outcomes.Wholes.{Whole}
@@ -86,30 +92,54 @@ link_is = Merge.link_is
 pub run_inside : (p : Program) (trace : List Entry) → IsRun p (fresh_net p) trace → Inside p (spots_of p (at_first p) trace) (net_after_trace p (fresh_net p) trace)
 run_inside = NothingOutside.run_inside
 
--- ## Rows and their parts
+-- ## Run lists, bubbles and threads
 
--- a thread is on a run list exactly where the list has an item of its name
-pub listed_found : (rows : List ReadyRow) (t : Tid) → is_listed t rows ≡ is_some (item_of is_tid listed_name (map listed rows) t)
-listed_found = Parts.listed_found
+-- a thread on a node has a place on its lists or in its bubbles exactly where it waits for nothing (the law `ready`)
+pub seats_are : (p : Program) (w : Spots) (net : Net) (s : Stands p w net) → (n : ℕ) (t : Tid) (x : Thread) → IsOn net n t x → seats t (net.nodes n).forest ≡ cond (is_unwaiting x) 1 0
+seats_are = RunLists.seats_are
 
--- ## Run lists and threads
+-- one that isn't there, or waits, has none (the law `seated`)
+pub no_seats : (p : Program) (w : Spots) (net : Net) (s : Stands p w net) → (n : ℕ) (t : Tid) → ((x : Thread) → IsOn net n t x → is_unwaiting x ≡ false) → seats t (net.nodes n).forest ≡ 0
+no_seats = RunLists.no_seats
 
--- a thread on a node stands on its run list exactly where it waits for nothing (the law `ready`)
-pub listed_is : (p : Program) (w : Spots) (net : Net) → Stands p w net → (n : ℕ) (t : Tid) (x : Thread) → IsOn net n t x → is_listed t (net.nodes n).run_lists.rows ≡ is_unwaiting x
-listed_is = RunLists.listed_is
-
--- a thread on the run list of a node is on that node (the law `ready`)
-pub listed_there : (p : Program) (w : Spots) (net : Net) → Stands p w net → (n : ℕ) (t : Tid) → is_listed t (net.nodes n).run_lists.rows ≡ true → (x : Thread) × IsOn net n t x
+-- a thread on a run list of a node is on that node, and waits for nothing (the law `ready`)
+pub listed_there : (p : Program) (w : Spots) (net : Net) (s : Stands p w net) → (n : ℕ) (t : Tid) → is_listed t (net.nodes n).forest ≡ true → (x : Thread) × IsOn net n t x × (is_unwaiting x ≡ true)
 listed_there = RunLists.listed_there
 
--- where the run list has a row, each processor has a pick (the law `picked`)
-pub some_pick : (p : Program) (w : Spots) (net : Net) → Stands p w net → (n vp : ℕ) → ((net.nodes n).run_lists.rows ≡ [] → ⊥) → (r : ReadyRow) × (best_on (tree_of p) vp (net.nodes n).run_lists.rows ≡ Some r)
-some_pick = RunLists.some_pick
+-- and is ready by what is told
+pub listed_ready : (p : Program) (w : Spots) (net : Net) (s : Stands p w net) → (n : ℕ) (t : Tid) → is_listed t (w.forests n) ≡ true → (w.threads t).life ≡ On n Ready
+listed_ready = RunLists.listed_ready
+
+-- where a list of a processor has an entity, its choices end with a thread, within three moves for each bubble (the law `picked`)
+pub pick_ends : (p : Program) (w : Spots) (net : Net) (s : Stands p w net) → (n vp : ℕ) → vp < processors_of p → has_ready (tree_of p) vp (net.nodes n).forest.lists.rows ≡ true → PicksEnd vp (net.nodes n).forest
+pick_ends = RunLists.pick_ends
+
+-- where a list of a node has an entity it is the list of some processor (the law `picked`)
+pub some_processor : (p : Program) (w : Spots) (net : Net) (s : Stands p w net) → (n : ℕ) → ((net.nodes n).forest.lists.rows ≡ [] → ⊥) → (vp : ℕ) × (vp < processors_of p) × (has_ready (tree_of p) vp (net.nodes n).forest.lists.rows ≡ true)
+some_processor = RunLists.some_processor
+
+-- each node's forest has the setup's tree
+pub tree_there : (p : Program) (w : Spots) (net : Net) (s : Stands p w net) → (n : ℕ) → (net.nodes n).forest.lists.tree ≡ tree_of p
+tree_there = RunLists.tree_there
+
+-- a processor runs a thread only where one of its lists has an entity
+pub choice_ready : (p : Program) (n vp q k : ℕ) (d after : EventSoFar) → chooses p n vp q k d ≡ Some after → has_ready d.node.forest.lists.tree vp d.node.forest.lists.rows ≡ true
+choice_ready = Events.choice_ready
+
+-- a processor of whose lists one has an entity runs a thread
+pub run_there : (p : Program) (w : Spots) (net : Net) (s : Stands p w net) → (n vp q : ℕ) → vp < processors_of p → has_ready (tree_of p) vp (net.nodes n).forest.lists.rows ≡ true
+    → (d : EventSoFar) × (chooses p n vp q (choice_limit (net.nodes n).forest) (nothing (net.nodes n)) ≡ Some d)
+run_there = Entries.run_there
+
+-- the thread to which they come is on the node, and waits for nothing (the law `picked`)
+pub picked_there : (p : Program) (w : Spots) (net : Net) (s : Stands p w net) → (n vp : ℕ) (moves : List Shift) (t : Tid) (after : ForestView) → Picks vp (net.nodes n).forest moves (Some t) after
+    → (x : Thread) × IsOn net n t x × (is_unwaiting x ≡ true)
+picked_there = RunLists.picked_there
 
 -- ## Where nothing goes on
 
--- where no run list has a row, nothing is under way and no node has halted, a thread that lives makes the trace stuck (the law `quiet`)
-pub stuck : (p : Program) (w : Spots) (net : Net) (s : Stands p w net) → ((n : ℕ) → (net.nodes n).run_lists.rows ≡ []) → AllLinksEmpty net → ((n : ℕ) → (net.nodes n).halted ≡ false) → (t : Tid) → Lives (w.threads t).life → IsStuck w net
+-- where no run list has an entity, nothing is under way and no node has halted, a thread that lives makes the trace stuck (the law `quiet`)
+pub stuck : (p : Program) (w : Spots) (net : Net) (s : Stands p w net) → ((n : ℕ) → (net.nodes n).forest.lists.rows ≡ []) → AllLinksEmpty net → ((n : ℕ) → (net.nodes n).halted ≡ false) → (t : Tid) → Lives (w.threads t).life → IsStuck w net
 stuck = Stillness.stuck
 
 -- where nothing is under way a thread that lives is on some node (the law `quiet`)
@@ -119,10 +149,6 @@ is_somewhere = Stillness.is_somewhere
 -- a thread that is on a node lives (the law `quiet`)
 pub lives_there : (p : Program) (w : Spots) (net : Net) (s : Stands p w net) → (t : Tid) (n : ℕ) (x : Thread) → IsOn net n t x → Lives (w.threads t).life
 lives_there = Stillness.lives_there
-
--- a processor's pick is on the node (the law `picked`)
-pub picked_there : (p : Program) (w : Spots) (net : Net) (s : Stands p w net) → (n vp : ℕ) (r : ReadyRow) → best_on (tree_of p) vp (net.nodes n).run_lists.rows ≡ Some r → (x : Thread) × IsOn net n r.tid x
-picked_there = Stillness.picked_there
 
 -- a node has halted exactly where the labels say so
 pub halts_are : (p : Program) (w : Spots) (net : Net) (s : Stands p w net) → (n : ℕ) → (net.nodes n).halted ≡ w.halts n

@@ -12,12 +12,13 @@
 --   merged              Merging.Merge, Merging.Determined
 --   one_holder          Outcomes.Consequences, Outcomes.Wholes
 --   one_trace           Rules.OneTrace
---   picked              Outcomes.RunLists, Outcomes.Stillness
+--   picked              Outcomes.RunLists, Outcomes.Arrivals
 --   quiet               Outcomes.Stillness, over Lists.InTurn
 --   ran                 Lives.RunLemmas
 --   ready               Outcomes.RunLists, Outcomes.Legals
 --   rules_and_machine   Outcomes.Legals, over Rules.Entries
 --   same_wherever       Lives.SameLives
+--   seated              Outcomes.Legals, over Outcomes.RunLists
 --   started             Outcomes.Wholes
 --   told                Outcomes.Legals, over Underway.Simulate
 --   unforged            Strays.Strangers

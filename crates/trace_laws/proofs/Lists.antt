@@ -3,9 +3,9 @@ pub mod KeyedLemmas
 pub mod Births
 pub mod Queues
 pub mod Subjects
+pub mod Seats
+pub mod SeatedLabels
 pub mod Stages
 pub mod Parts
-pub mod Picking
-pub mod Arriving
 pub mod ListTrees
 pub mod InTurn

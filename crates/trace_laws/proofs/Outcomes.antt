@@ -4,5 +4,6 @@ pub mod Wholes
 pub mod Stillness
 pub mod NothingOutside
 pub mod RunLists
+pub mod Arrivals
 pub mod Beginnings
 pub mod Legals

@@ -19,5 +19,6 @@ pub mod SemaphoreSteps
 pub mod SemaphoreCalls
 pub mod SemaphoreTakes
 pub mod Sendings
+pub mod BubbleCalls
 pub mod Events
 pub mod Simulate

@@ -1,54 +1,21 @@
--- Consequences of a run, said of the machine's nets: who was picked, what was sent, that nothing is left open.
-use Rattle.std.specs.Prelude.{◌≡◌, ℕ, List, [], ◌∷◌, ◌++◌, Bool, true, false, if◌then◌else◌, ⊤, map}
+-- Consequences of a run, said of the machine's nets: what was sent, that nothing is left open.
+use Rattle.std.specs.Prelude.{◌≡◌, ℕ, List, [], ◌∷◌, ◌++◌, Bool, true, false, if◌then◌else◌, ⊤}
 use Rattle.run_trace.specs.declared.packet.Body.{Body}
 use Rattle.run_trace.specs.declared.packet.Body.TheVariants.{Want, Turn, Over}
 use Rattle.run_trace.specs.declared.packet.Send.{Send}
 use Rattle.slot_space.specs.declared.names.Tid.{Tid}
-use Rattle.rv_step.specs.declared.hart.Stop.{Stop}
-use Rattle.run_trace.specs.declared.entry.Act.{Act}
-use Rattle.run_trace.specs.declared.entry.Act.TheVariants.{Boot, Run, Take, Move}
 use Rattle.run_trace.specs.declared.entry.Entry.{Entry}
 use Rattle.run_trace.specs.declared.label.Label.{Label}
-use Rattle.run_trace.specs.declared.label.Label.TheVariants.{Ran, Left, Down, Burst}
-use Rattle.run_trace.specs.declared.node.ReadyRow.{ReadyRow}
-use Rattle.run_trace.specs.Program.{Program, tree_of}
-use Rattle.run_trace.specs.RunLists.{IsBest, is_listed}
+use Rattle.run_trace.specs.Program.{Program}
 use Rattle.run_trace.specs.Cluster.{Net}
 use Rattle.run_trace.specs.Trace.{net_after_trace, sends_or, done_for}
 use Rattle.run_trace.specs.Spots.{Life, Spots, after_label}
 use Rattle.run_trace.specs.Items.{is_busy}
-use Rattle.run_trace.specs.Stands.{Agrees, listed}
+use Rattle.run_trace.specs.Stands.{Agrees, AreSeated}
 use Rattle.run_trace.specs.World.{World, world_after}
 use Rattle.run_trace.specs.Causes.{causes}
 use Rattle.run_trace.specs.Obeying.{occasion}
 use Rattle.run_trace.specs.Rules.{Rule, Occasion, saying, SoloRule, HoldersRule, LifeRule, RepliesRule, GrantsRule, spots_of}
-
--- ## Picks: the best of the lists that cover the processor runs; a thread that is sent away is on it
-
--- a label that says what was shifted on the run lists
-abbrev pub is_shift : Label → Bool
-is_shift (Down bubble list) = true
-is_shift (Burst bubble list) = true
-is_shift _ = false
-
-abbrev pub AllShift : List Label → Type 0
-AllShift [] = ⊤
-AllShift (l ∷ ls) = (is_shift l ≡ true) × AllShift ls
-
--- the thread runs; before that is said nothing but what was shifted
-abbrev pub RunsNext : Tid → ℕ → List Label → Type 0
-RunsNext t vp labels =
-    (shifts : List Label) × AllShift shifts × (count : ℕ) × (stop : Stop) × (more : List Label) × (labels ≡ shifts ++ Ran t vp count stop ∷ more)
-
-abbrev pub PicksBest : Program → Act → List ReadyRow → List Label → Type 0
-PicksBest p (Run vp quantum) rows labels = (r : ReadyRow) × IsBest (tree_of p) vp r rows × RunsNext r.tid vp labels
-PicksBest p Boot rows labels = ⊤
-PicksBest p (Take from) rows labels = ⊤
-PicksBest p (Move t to) rows labels = (is_listed t rows ≡ true) × (labels ≡ Left t to ∷ [])
-
-abbrev pub Picks : Program → Net → List Entry → Type 0
-Picks p base [] = ⊤
-Picks p base (x ∷ xs) = Picks p base xs × PicksBest p x.act ((net_after_trace p base xs).nodes x.node).run_lists.rows x.labels
 
 -- ## Carried: but for turns, an entry sends what its labels cause, and nothing else
 
@@ -80,20 +47,19 @@ abbrev pub EachSettled : Program → Spots → List Entry → Type 0
 EachSettled p old [] = ⊤
 EachSettled p old (x ∷ xs) = EachSettled p old xs × ((t : Tid) → IsSettled ((spots_of p old (x ∷ xs)).threads t).life)
 
--- before each label homes, births, joiners, semaphores, halts, slots and blocks agree
+-- before each label homes, births, joiners, semaphores, halts, slots and blocks agree, and each thread that waits for nothing has one place
 abbrev pub AgreesRule : Rule
-AgreesRule p o n l w = Agrees p w.spots
+AgreesRule p o n l w = Agrees p w.spots × ((k : ℕ) → AreSeated p k w.spots)
 
 -- each label obeys the rule
 abbrev pub ObeyEach : Rule → Program → Occasion → (n : ℕ) → List Label → World → Type 0
 ObeyEach rule p o n [] w = ⊤
 ObeyEach rule p o n (l ∷ ls) w = rule p o n l w × ObeyEach rule p (saying l o) n ls (world_after p n l w)
 
--- these spots, with the run lists and links of the nodes
+-- these spots, with the links of the nodes
 abbrev pub world_at : Spots → Net → World
 world_at w net = record {
   spots = w;
-  lists = λ n. map listed (net.nodes n).run_lists.rows;
   links = net.links;
   begun = λ n. (net.nodes n).booted;
   talks = λ n. (net.nodes n).talk;
@@ -112,6 +78,5 @@ pub record ObeysFrom (p : Program) (old : Spots) (base : Net) (trace : List Entr
   pub life : Obey LifeRule p old base trace
   pub replies : Obey RepliesRule p old base trace
   pub grants : Obey GrantsRule p old base trace
-  pub picks : Picks p base trace
   pub carried : Carried p old base trace
   pub settled : EachSettled p old trace

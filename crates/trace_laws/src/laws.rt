@@ -1,7 +1,14 @@
 //! The laws, each as a contract.
 
-ghost use Rattle.run_trace.specs.Trees.{Tree, processors, covers, depth_of, is_leaf, next_towards};
-ghost use Rattle.std.specs.Prelude.{suc, ◌≡◌, ◌<◌, ◌≤◌, ◌⊎◌, ℕ, List, map, ◌++◌, ◌∷◌, ◌↔◌, Some, [], false, true};
+ghost use Rattle.levels.specs.Trees.{Tree, processors, covers, depth_of, is_leaf, next_towards};
+ghost use Rattle.levels.specs.declared.entity.Entity.{Entity};
+ghost use Rattle.levels.specs.declared.entity.Place.{Place};
+ghost use Rattle.levels.specs.Choice.{choice, has_ready, IsChosen};
+ghost use Rattle.bubbles.specs.declared.bubble.Shift.{Shift};
+ghost use Rattle.bubbles.specs.Forests.{ForestView};
+ghost use Rattle.bubbles.specs.Picking.{Picks};
+ghost use Rattle.bubbles.specs.Standing.{IsForest, seats};
+ghost use Rattle.std.specs.Prelude.{suc, ◌≡◌, ◌<◌, ◌≤◌, ◌⊎◌, ℕ, List, map, ◌++◌, ◌∷◌, ◌↔◌, Some, [], false, true, if◌then◌else◌};
 ghost use Rattle.rv_step.specs.Run.{after, StopsBy};
 ghost use Rattle.rv_step.specs.Step.{HartState};
 ghost use Rattle.rv_step.specs.declared.hart.Stop.{Stop};
@@ -10,8 +17,7 @@ ghost use Rattle.marcel_core.specs.declared.end.End.{End};
 ghost use Rattle.run_trace.specs.declared.entry.Act.{Act};
 ghost use Rattle.run_trace.specs.declared.entry.Entry.{Entry};
 ghost use Rattle.run_trace.specs.declared.label.Label.{Label};
-ghost use Rattle.run_trace.specs.declared.node.ReadyRow.{ReadyRow};
-ghost use Rattle.run_trace.specs.Program.{Program, code_of, nodes_of, tree_of};
+ghost use Rattle.run_trace.specs.Program.{Program, code_of, nodes_of, tree_of, processors_of};
 ghost use Rattle.trace_laws.specs.Beginnings.{BeginsSo};
 ghost use Rattle.trace_laws.specs.Gathers.{events_in, Gathers};
 ghost use Rattle.trace_laws.specs.Strays.{AllExpected, IsHeldOnce};
@@ -29,12 +35,12 @@ ghost use Rattle.run_trace.specs.declared.packet.Packet.{Packet};
 ghost use Rattle.run_trace.specs.declared.packet.Body.{Body};
 ghost use Rattle.run_trace.specs.declared.entry.Act.TheVariants.{Take};
 ghost use Rattle.run_trace.specs.Outcome.{AllLinksEmpty, IsStuck, Lives};
-ghost use Rattle.run_trace.specs.RunLists.{best_on, is_listed};
+ghost use Rattle.run_trace.specs.Bubbles.{is_listed};
 ghost use Rattle.run_trace.specs.Rules.{spots_of};
 ghost use Rattle.run_trace.specs.Same.{HasEnded, HasLivedLike, HasWritten, lived};
-ghost use Rattle.run_trace.specs.Spots.{On, Ready, Spots, Stage, at_first};
-ghost use Rattle.run_trace.specs.Obeying.{IsEntry, KeepsRules, is_on_list, may_act, Starts};
-ghost use Rattle.run_trace.specs.Stands.{Stands};
+ghost use Rattle.run_trace.specs.Spots.{On, Ready, Spots, Stage, after_labels, at_first};
+ghost use Rattle.run_trace.specs.Obeying.{IsEntry, KeepsRules, may_act, Starts};
+ghost use Rattle.run_trace.specs.Stands.{AreSeated, Stands};
 ghost use Rattle.run_trace.specs.Trace.{IsRun, entry_of, events_of, Fits, net_after_trace};
 ghost use Rattle.run_trace.specs.World.{World};
 ghost use Rattle.trace_laws.specs.Headings.{heading};
@@ -155,12 +161,12 @@ pub fn unforged()
     ensures { (p : Program) (me from : ℕ) (s : Local) (body : Body) → IsHeldOnce s → IsHeldOnce (takes p me from body s).node }
 {}
 
-/// Where no thread is on a run list, nothing is under way and no node has halted, a thread that lives makes the trace stuck:
-/// each that lives joins one that hasn't ended, or waits for a semaphore of value 0. A thread that is on a node lives, and where
+/// Where no thread and no bubble is on a run list, nothing is under way and no node has halted, a thread that lives makes the trace
+/// stuck: each that lives is held back in a bubble, joins one that hasn't ended, or waits for a semaphore of value 0. A thread that is on a node lives, and where
 /// nothing is under way each that lives is on one. And where nothing is under way no thread waits for slots, and no node wants a turn
 /// or has one.
 pub fn quiet()
-    ensures stuck { (p : Program) (w : Spots) (net : Net) → Stands p w net → ((n : ℕ) → (net.nodes n).run_lists.rows ≡ []) → AllLinksEmpty net → ((n : ℕ) → (net.nodes n).halted ≡ false) → (t : Tid) → Lives (w.threads t).life → IsStuck w net }
+    ensures stuck { (p : Program) (w : Spots) (net : Net) → Stands p w net → ((n : ℕ) → (net.nodes n).forest.lists.rows ≡ []) → AllLinksEmpty net → ((n : ℕ) → (net.nodes n).halted ≡ false) → (t : Tid) → Lives (w.threads t).life → IsStuck w net }
     ensures somewhere { (p : Program) (w : Spots) (net : Net) → Stands p w net → AllLinksEmpty net → (t : Tid) → Lives (w.threads t).life → (n : ℕ) × (x : Thread) × IsOn net n t x }
     ensures lives { (p : Program) (w : Spots) (net : Net) → Stands p w net → (t : Tid) (n : ℕ) (x : Thread) → IsOn net n t x → Lives (w.threads t).life }
     ensures no_claims { (p : Program) (w : Spots) (net : Net) → Stands p w net → AllLinksEmpty net → (n : ℕ) → ((net.nodes n).talk.claims ≡ []) × ((net.nodes n).talk.wants ≡ false) × ((net.nodes 0).talk.wanting ≡ []) }
@@ -176,21 +182,36 @@ pub fn inside()
 
 /// Of the lists that cover a processor each but a leaf has the next one below it, and a leaf covers no other processor.
 pub fn levels()
-    ensures next { (tree : Tree) (vp list : ℕ) → vp < processors tree → covers tree vp list ≡ true → is_leaf tree list ≡ false → (covers tree vp (next_towards tree vp list) ≡ true) × (depth_of tree (next_towards tree vp list) ≡ suc (depth_of tree list)) }
+    ensures next { (tree : Tree) (vp list : ℕ) → vp < processors tree → covers tree vp list ≡ true → is_leaf tree list ≡ false → (covers tree vp (next_towards tree list vp) ≡ true) × (depth_of tree (next_towards tree list vp) ≡ suc (depth_of tree list)) }
     ensures leaf { (tree : Tree) (vp other list : ℕ) → vp < processors tree → other < processors tree → covers tree vp list ≡ true → covers tree other list ≡ true → is_leaf tree list ≡ true → vp ≡ other }
 {}
 
-/// The thread that a processor picks from its node's run lists is on that node; and there is one wherever somebody can run, since
-/// as yet all stand on the root list.
+/// Wherever a list that covers a processor has a thread or a bubble, the processor's choices end with a thread; and each list that has one
+/// covers some processor. The thread that they take is on the node, and waits for nothing. After any labels, what a processor chooses has the
+/// greatest priority of all on lists that cover it, of those it is on the deepest list, and of those it came first.
 pub fn picked()
-    ensures some { (p : Program) (w : Spots) (net : Net) → Stands p w net → (n vp : ℕ) → ((net.nodes n).run_lists.rows ≡ [] → ⊥) → (r : ReadyRow) × (best_on (tree_of p) vp (net.nodes n).run_lists.rows ≡ Some r) }
-    ensures there { (p : Program) (w : Spots) (net : Net) → Stands p w net → (n vp : ℕ) (r : ReadyRow) → best_on (tree_of p) vp (net.nodes n).run_lists.rows ≡ Some r → (x : Thread) × IsOn net n r.tid x }
+    ensures all { (p : Program) (w : Spots) (net : Net) → Stands p w net → (n : ℕ) → ((net.nodes n).forest.lists.rows ≡ [] → ⊥) → (vp : ℕ) × (vp < processors_of p) × (has_ready (tree_of p) vp (net.nodes n).forest.lists.rows ≡ true) }
+    ensures some { (p : Program) (w : Spots) (net : Net) → Stands p w net → (n vp : ℕ) → vp < processors_of p → has_ready (tree_of p) vp (net.nodes n).forest.lists.rows ≡ true → (moves : List Shift) × (t : Tid) × (after : ForestView) × Picks vp (net.nodes n).forest moves (Some t) after }
+    ensures there { (p : Program) (w : Spots) (net : Net) → Stands p w net → (n vp : ℕ) (moves : List Shift) (t : Tid) (after : ForestView) → Picks vp (net.nodes n).forest moves (Some t) after → (x : Thread) × IsOn net n t x × (is_unwaiting x ≡ true) }
+    ensures best { (p : Program) (trace : List Entry) (n : ℕ) (ls : List Label) (k vp : ℕ) (r : Place × Entity) → let f : ForestView = (after_labels p n ls (spots_of p (at_first p) trace)).forests k in choice f.lists.tree vp f.lists.rows ≡ Some r → IsChosen f.lists.tree vp r f.lists.rows }
 {}
 
-/// A thread that is on a node is on its run list exactly where it waits for nothing, and each on the run list is on the node.
-/// By the labels alone: a thread is on a node's run list exactly where it is ready there.
+/// A thread that is on a node and waits for nothing has one place there: on a run list, or in a bubble that isn't burst. One that waits
+/// has none. Each on a run list is on the node and waits for nothing. By the labels alone: a thread has its place on a node exactly
+/// where it is ready there, and each on a run list of the node is.
 pub fn ready()
-    ensures unwaiting { (p : Program) (w : Spots) (net : Net) → Stands p w net → (n : ℕ) (t : Tid) (x : Thread) → IsOn net n t x → is_listed t (net.nodes n).run_lists.rows ≡ is_unwaiting x }
-    ensures there { (p : Program) (w : Spots) (net : Net) → Stands p w net → (n : ℕ) (t : Tid) → is_listed t (net.nodes n).run_lists.rows ≡ true → (x : Thread) × IsOn net n t x }
-    ensures told { (p : Program) (old : Spots) (base : Net) → Stands p old base → (trace : List Entry) → KeepsRules p (world_at old base) trace → (n : ℕ) (t : Tid) → (is_on_list t ((world_of p (world_at old base) trace).lists n) ≡ true) ↔ (((world_of p (world_at old base) trace).spots.threads t).life ≡ On n Ready) }
+    ensures unwaiting { (p : Program) (w : Spots) (net : Net) → Stands p w net → (n : ℕ) (t : Tid) (x : Thread) → IsOn net n t x → seats t (net.nodes n).forest ≡ (if is_unwaiting x then 1 else 0) }
+    ensures there { (p : Program) (w : Spots) (net : Net) → Stands p w net → (n : ℕ) (t : Tid) → is_listed t (net.nodes n).forest ≡ true → (x : Thread) × IsOn net n t x × (is_unwaiting x ≡ true) }
+    ensures told { (p : Program) (old : Spots) (base : Net) → Stands p old base → (trace : List Entry) → KeepsRules p (world_at old base) trace → (n : ℕ) (t : Tid) → (seats t ((world_of p (world_at old base) trace).spots.forests n) ≡ 1) ↔ (((world_of p (world_at old base) trace).spots.threads t).life ≡ On n Ready) }
+    ensures listed { (p : Program) (old : Spots) (base : Net) → Stands p old base → (trace : List Entry) → KeepsRules p (world_at old base) trace → (n : ℕ) (t : Tid) → is_listed t ((world_of p (world_at old base) trace).spots.forests n) ≡ true → ((world_of p (world_at old base) trace).spots.threads t).life ≡ On n Ready }
+{}
+
+/// After a legal trace each node's run lists and bubbles are a forest: a bubble on a list has members, and each that is held is in one
+/// other bubble. A thread that is on the node and waits for nothing has exactly one place in it, and no other thread has one. The forest
+/// that the labels tell knows exactly the threads of its node, with their priorities.
+pub fn seated()
+    ensures forest { (p : Program) (trace : List Entry) → Legal p trace → (n : ℕ) → IsForest ((net_after_trace p (fresh_net p) trace).nodes n).forest }
+    ensures once { (p : Program) (trace : List Entry) → Legal p trace → (n : ℕ) (t : Tid) (x : Thread) → IsOn (net_after_trace p (fresh_net p) trace) n t x → is_unwaiting x ≡ true → seats t ((net_after_trace p (fresh_net p) trace).nodes n).forest ≡ 1 }
+    ensures others { (p : Program) (trace : List Entry) → Legal p trace → (n : ℕ) (t : Tid) → ((x : Thread) → IsOn (net_after_trace p (fresh_net p) trace) n t x → is_unwaiting x ≡ false) → seats t ((net_after_trace p (fresh_net p) trace).nodes n).forest ≡ 0 }
+    ensures told { (p : Program) (trace : List Entry) → Legal p trace → (n : ℕ) → AreSeated p n (spots_of p (at_first p) trace) }
 {}

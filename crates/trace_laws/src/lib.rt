@@ -6,6 +6,6 @@ mod laws;
 
 pub use laws::{
     alone, begun, expected, gathered, ignored, inside, joined, judged, legal, levels, merged,
-    one_holder, one_trace, picked, quiet, ran, ready, rules_and_machine, same_wherever, started,
-    told, unforged, whole,
+    one_holder, one_trace, picked, quiet, ran, ready, rules_and_machine, same_wherever, seated,
+    started, told, unforged, whole,
 };

@@ -36,6 +36,11 @@ calls =
     ∷ row (codes "migrate_self") 14 1 false
     ∷ row (codes "migrate") 15 2 false
     ∷ row (codes "print") 16 2 true
+    ∷ row (codes "bubble_new") 17 2 false
+    ∷ row (codes "bubble_insert") 18 2 false
+    ∷ row (codes "bubble_wake") 19 1 false
+    ∷ row (codes "bubble_gather") 20 1 false
+    ∷ row (codes "create_in") 21 4 false
     ∷ row (codes "halt") 25 0 false
     ∷ []
 

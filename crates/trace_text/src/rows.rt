@@ -24,7 +24,7 @@ macro_rules! row {
     };
 }
 
-static ROWS: [Row; 17] = [
+static ROWS: [Row; 22] = [
     row!(b"exit", 1, 1, false),
     row!(b"self", 2, 0, false),
     row!(b"node", 3, 0, false),
@@ -41,6 +41,11 @@ static ROWS: [Row; 17] = [
     row!(b"migrate_self", 14, 1, false),
     row!(b"migrate", 15, 2, false),
     row!(b"print", 16, 2, true),
+    row!(b"bubble_new", 17, 2, false),
+    row!(b"bubble_insert", 18, 2, false),
+    row!(b"bubble_wake", 19, 1, false),
+    row!(b"bubble_gather", 20, 1, false),
+    row!(b"create_in", 21, 4, false),
     row!(b"halt", 25, 0, false),
 ];
 

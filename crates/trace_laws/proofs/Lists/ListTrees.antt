@@ -5,7 +5,7 @@ use Rattle.std.proofs.lemmas.Bool.{eqb-true, eq-eqb}
 use Rattle.std.proofs.lemmas.Bool.Decides.{nat_tests}
 use Rattle.std.proofs.Math.Nat.{div-lt_iff_lt-mul}
 use Rattle.slot_space.specs.Sets.{has}
-use Rattle.run_trace.specs.Trees.{Tree, processors_below, processors, depth_of, path_below, path, covers, is_leaf, next_towards}
+use Rattle.levels.specs.Trees.{Tree, processors_below, processors, depth_of, path_below, path, covers, is_leaf, next_towards}
 
 abbrev tree_with : ℕ → Option ℕ → Tree
 tree_with first second = record { first = first; second = second }
@@ -34,7 +34,7 @@ group_below first zero vp h = absurd (omega (arith, h))
 group_below first (suc second) vp h = (div-lt_iff_lt-mul (omega arith)).1 h
 
 abbrev IsNext : Tree → ℕ → ℕ → Type 0
-IsNext tree vp list = (covers tree vp (next_towards tree vp list) ≡ true) × (depth_of tree (next_towards tree vp list) ≡ suc (depth_of tree list))
+IsNext tree vp list = (covers tree vp (next_towards tree list vp) ≡ true) × (depth_of tree (next_towards tree list vp) ≡ suc (depth_of tree list))
 
 -- what the lists of a processor are
 below_root : (first : ℕ) (second : Option ℕ) (vp : ℕ) → vp < processors_below first second → is_leaf (tree_with first second) 0 ≡ false → IsNext (tree_with first second) vp 0
@@ -55,7 +55,7 @@ down_in first (Some second) vp list h c l = elim (in_list list (1 + vp / second)
       let g : vp / second < first = group_below first second vp h in
       let tree : Tree = tree_with first (Some second) in
       let one : depth_of tree list ≡ 1 = subst (λ z. depth_of tree z ≡ 1) (sym e) (depth_one tree (1 + vp / second) (omega arith) (omega (arith, g))) in
-      let next : next_towards tree vp list ≡ 1 + first + vp = ap (λ d. unwrap_or (slice_get (path tree vp) (suc d)) 0) one in (
+      let next : next_towards tree list vp ≡ 1 + first + vp = ap (λ d. unwrap_or (slice_get (path tree vp) (suc d)) 0) one in (
         ap (covers tree vp) next ∙ has_later (1 + first + vp) 0 ((1 + vp / second) ∷ (1 + first + vp) ∷ []) (has_later (1 + first + vp) (1 + vp / second) ((1 + first + vp) ∷ []) (has_first (1 + first + vp) [])),
         ap (depth_of tree) next ∙ depth_two tree (1 + first + vp) (omega arith) (omega arith) ∙ ap suc (sym one),
       )
@@ -69,7 +69,7 @@ down_in first (Some second) vp list h c l = elim (in_list list (1 + vp / second)
 ]
 
 pub down : (tree : Tree) (vp list : ℕ) → vp < processors tree → covers tree vp list ≡ true → is_leaf tree list ≡ false
-    → (covers tree vp (next_towards tree vp list) ≡ true) × (depth_of tree (next_towards tree vp list) ≡ suc (depth_of tree list))
+    → (covers tree vp (next_towards tree list vp) ≡ true) × (depth_of tree (next_towards tree list vp) ≡ suc (depth_of tree list))
 down tree vp list h c l = elim (in_list list 0 (path_below tree.first tree.second vp) c) as (λ v. IsNext tree vp list) [
   | inl e ↦ subst (λ z. IsNext tree vp z) (sym e) (below_root tree.first tree.second vp h (subst (λ z. is_leaf tree z ≡ false) e l))
   | inr d ↦ down_in tree.first tree.second vp list h d l

@@ -1,91 +1,16 @@
--- What the lists and links have of a life: rows, holders, hands, packets, and how it shows on its own node and on others.
-use Rattle.std.proofs.Common.{arith, ◌≡◌, ℕ, List, [], ◌∷◌, ◌++◌, Option, Some, None, Bool, true, false, eqb, cond, refl, sym, ap, ◌∙◌, subst, map, inl, inr}
-use Rattle.std.specs.Prelude.{is_some}
+-- What the lists and links have of a life: holders, hands, packets, and how it shows on its own node and on others.
+use Rattle.std.proofs.Common.{arith, ◌≡◌, ℕ, Option, Some, None, Bool, true, false, eqb, cond, refl, sym, ap, ◌∙◌, subst, inl, inr}
 use Rattle.std.proofs.lemmas.Bool.{eq-eqb, eqb-true}
-use Rattle.std.proofs.lemmas.List.{map-append}
 use Rattle.slot_space.specs.declared.names.Tid.{Tid}
 use Rattle.marcel_sync.specs.Semaphores.{node_in}
-use Rattle.run_trace.specs.declared.node.ReadyRow.{ReadyRow}
-use Rattle.run_trace.specs.Names.{is_tid}
 use Rattle.run_trace.specs.Guests.{Guest, packed}
-use Rattle.run_trace.specs.RunLists.{RunLists, arrived, without_row, is_listed, IsIn}
-use Rattle.run_trace.specs.Keyed.{AreApart, StandsFor, item_of}
-use Rattle.run_trace.specs.Spots.{Stage, Ready, Departs, Shows, Shown_there, Asks, Detaches, Signals, Answered, Life, Unborn, On, Moving, Noting, Gone, Response, Spot, update, Holder, Of_node, Of_thread, is_free, Seeks}
-use Rattle.run_trace.specs.Stands.{listed, listed_name, Busy, busy, busy_part, thread_part, thread_in_life, thread_in_stage, row_part, row_in_life, row_in_stage, Word, Travels, Line, Line_shown, Joins, Detaching, Signalling, Reply, Ended_word, A_want, A_turn, An_over, Way, ways_of, is_thread, seeker_part}
-use Rattle.run_trace.proofs.Lemmas.{is-true, is-refl}
-use Rattle.trace_laws.proofs.Lists.KeyedLemmas.{without, added, removed}
+use Rattle.run_trace.specs.Spots.{Stage, Shows, Shown_there, Asks, Detaches, Signals, Answered, Life, On, Moving, Noting, Response, Spot, Holder, Of_node, Of_thread, is_free, Seeks}
+use Rattle.run_trace.specs.Stands.{Busy, busy, busy_part, thread_part, thread_in_life, thread_in_stage, Word, Travels, Line, Line_shown, Joins, Detaching, Signalling, Reply, Ended_word, A_want, A_turn, An_over, Way, ways_of, is_thread, seeker_part}
+use Rattle.run_trace.proofs.Lemmas.{is-true}
 use Rattle.trace_laws.proofs.Lists.Subjects.{IsOneOf}
 use Rattle.trace_laws.proofs.Underway.Midst.{Frame, no_seeker}
-use Rattle.run_trace.specs.World.{Listed}
 use Rattle.run_trace.specs.Items.{is_busy, is_seeking}
 use Rattle.trace_laws.proofs.Lists.Stages.{is_home, home_busy}
-
--- ## Rows
-
-row_ready : (n : ℕ) (t : Tid) (stage : Stage) (priority : ℕ) (y : Listed) → is_busy n (On n stage) ≡ false → row_in_stage t stage priority ≡ Some y → (stage ≡ Ready) × (priority ≡ y.priority)
-row_ready n t Ready priority y i h = let e : record { tid = t; list = 0; priority = priority } ≡ y = cc h in (refl, ap (λ (x : Listed). x.priority) e)
-row_ready n t (Departs to) priority y i h = absurd (cc (i, eq-eqb n n refl))
-row_ready n t stage priority y i h = grind (arith, h)
-
--- a thread on the run list is ready, but for one that leaves in this event
-pub at_row : (n : ℕ) (t : Tid) (life : Life) (priority : ℕ) (y : Listed) → is_busy n life ≡ false → row_in_life n t life priority ≡ Some y → (life ≡ On n Ready) × (priority ≡ y.priority)
-at_row n t Unborn priority y i h = absurd (cc h)
-at_row n t (Moving m to) priority y i h = absurd (cc h)
-at_row n t (Noting m end) priority y i h = absurd (cc h)
-at_row n t (Gone end) priority y i h = absurd (cc h)
-at_row n t (On m stage) priority y i h = by (eqb m n) refl h
-  where
-    by : (v : Bool) → eqb m n ≡ v → cond v (row_in_stage t stage priority) None ≡ Some y → (On m stage ≡ On n Ready) × (priority ≡ y.priority)
-    by true e g =
-        let same : m ≡ n = eqb-true m n e in
-        let r = row_ready n t stage priority y (subst (λ k. is_busy n (On k stage) ≡ false) same i) g in
-        (cc (same, r.0), r.1)
-    by false e g = absurd (cc g)
-
--- node n is busy with no thread that shows on its list of those
-pub not_busy : (n : ℕ) (t : Tid) (s : Spot) → None ≡ busy_part n t s → is_busy n s.life ≡ false
-not_busy n t s h = by (is_busy n s.life) refl h
-  where
-    by : (v : Bool) → is_busy n s.life ≡ v → None ≡ cond v (Some (busy t s.life)) None → v ≡ false
-    by true e g = absurd (cc g)
-    by false e g = refl
-
-pub row_found : (rows : List ReadyRow) (r : ReadyRow) → AreApart is_tid listed_name (map listed rows) → IsIn r rows → item_of is_tid listed_name (map listed rows) r.tid ≡ Some (listed r)
-row_found [] r a i = absurd i
-row_found (x ∷ xs) r a i = elim i as (λ v. item_of is_tid listed_name (map listed (x ∷ xs)) r.tid ≡ Some (listed r)) [
-  | inl e ↦ rw e (rw (is-refl x.tid) refl)
-  | inr j ↦ by (is_tid r.tid x.tid) refl (row_found xs r a.1 j)
-]
-  where
-    by : (v : Bool) → is_tid r.tid x.tid ≡ v → item_of is_tid listed_name (map listed xs) r.tid ≡ Some (listed r) → cond v (Some (listed x)) (item_of is_tid listed_name (map listed xs) r.tid) ≡ Some (listed r)
-    by true e g = let same : r.tid ≡ x.tid = is-true r.tid x.tid e in let n : item_of is_tid listed_name (map listed xs) x.tid ≡ None = a.0 in absurd (cc (g, n, ap (λ u. item_of is_tid listed_name (map listed xs) u) same))
-    by false e g = g
-
--- whether a thread is on the list, by its item
-pub listed_found : (rows : List ReadyRow) (t : Tid) → is_listed t rows ≡ is_some (item_of is_tid listed_name (map listed rows) t)
-listed_found [] t = refl
-listed_found (r ∷ rs) t = elim (is_tid t r.tid) as (λ v. cond v true (is_listed t rs) ≡ is_some (cond v (Some (listed r)) (item_of is_tid listed_name (map listed rs) t))) [ true ↦ refl | false ↦ listed_found rs t ]
-
-pub listed_without : (t : Tid) (rows : List ReadyRow) → map listed (without_row t rows) ≡ without is_tid is-true is-refl listed_name (map listed rows) t
-listed_without t [] = refl
-listed_without t (r ∷ rs) = elim (is_tid t r.tid) as (λ v. map listed (cond v rs (r ∷ without_row t rs)) ≡ cond v (map listed rs) (listed r ∷ without is_tid is-true is-refl listed_name (map listed rs) t))
-    [ true ↦ refl | false ↦ ap (λ xs. listed r ∷ xs) (listed_without t rs) ]
-
-pub listed_arrived : (t : Tid) (priority : ℕ) (s : RunLists) → map listed (arrived t priority s).rows ≡ map listed s.rows ++ (record { tid = t; list = 0; priority = priority }) ∷ []
-listed_arrived t priority s = map-append listed s.rows _
-
--- the rows, once a thread that had none has arrived
-pub rows_arrived : (n : ℕ) (w : Tid → Spot) (t : Tid) (r : Spot) (s : RunLists) → StandsFor is_tid listed_name (row_part n) (map listed s.rows) w
-    → row_part n t (w t) ≡ None → row_part n t r ≡ Some (record { tid = t; list = 0; priority = r.guest.priority })
-    → StandsFor is_tid listed_name (row_part n) (map listed (arrived t r.guest.priority s).rows) (update w t r)
-rows_arrived n w t r s rows none some = subst (λ xs. StandsFor is_tid listed_name (row_part n) xs (update w t r)) (sym (listed_arrived t r.guest.priority s))
-    (added is_tid is-true is-refl listed_name (row_part n) w t r (map listed s.rows) _ rows refl none some)
-
--- and once one is taken off
-pub rows_without : (n : ℕ) (w : Tid → Spot) (t : Tid) (r : Spot) (rows : List ReadyRow) → StandsFor is_tid listed_name (row_part n) (map listed rows) w → row_part n t r ≡ None
-    → StandsFor is_tid listed_name (row_part n) (map listed (without_row t rows)) (update w t r)
-rows_without n w t r rows stands none = subst (λ xs. StandsFor is_tid listed_name (row_part n) xs (update w t r)) (sym (listed_without t rows))
-    (removed is_tid is-true is-refl listed_name (row_part n) w t r (map listed rows) stands none)
 
 -- ## Holders
 
@@ -147,18 +72,12 @@ at_way t life v g x h = grind (arith, h)
 pub thread_was : (n : ℕ) (t : Tid) (s : Spot) (stage : Stage) → s.life ≡ On n stage → thread_part n t s ≡ thread_in_stage n stage s.guest
 thread_was n t s stage p = ap (λ l. thread_in_life n l s.guest) p ∙ (rw (eq-eqb n n refl) refl)
 
-pub row_was : (n : ℕ) (t : Tid) (s : Spot) (stage : Stage) → s.life ≡ On n stage → row_part n t s ≡ row_in_stage t stage s.guest.priority
-row_was n t s stage p = ap (λ l. row_in_life n t l s.guest.priority) p ∙ (rw (eq-eqb n n refl) refl)
-
 pub busy_was : (n : ℕ) (t : Tid) (s : Spot) (life : Life) → s.life ≡ life → is_busy n life ≡ true → busy_part n t s ≡ Some (busy t life)
 busy_was n t s life p e = ap (λ l. cond (is_busy n l) (Some (busy t l)) None) p ∙ (rw e refl)
 
 -- a life on node n shows on no list of threads of another node
 pub away_thread : (n k : ℕ) (t : Tid) (s : Spot) (stage : Stage) → s.life ≡ On n stage → eqb n k ≡ false → thread_part k t s ≡ None
 away_thread n k t s stage p e = ap (λ l. thread_in_life k l s.guest) p ∙ (rw e refl)
-
-pub away_row : (n k : ℕ) (t : Tid) (s : Spot) (stage : Stage) → s.life ≡ On n stage → eqb n k ≡ false → row_part k t s ≡ None
-away_row n k t s stage p e = ap (λ l. row_in_life k t l s.guest.priority) p ∙ (rw e refl)
 
 pub busy_none : (k : ℕ) (t : Tid) (s : Spot) (life : Life) → s.life ≡ life → is_busy k life ≡ false → busy_part k t s ≡ None
 busy_none k t s life p e = ap (λ l. cond (is_busy k l) (Some (busy t l)) None) p ∙ (rw e refl)
@@ -182,7 +101,6 @@ both_idle k t r s old new = no_seeker k t s new ∙ sym (no_seeker k t r old)
 pub frame_home : (n k : ℕ) (t : Tid) (r s : Spot) (a b : Stage) → r.life ≡ On n a → s.life ≡ On n b → is_home a ≡ true → is_home b ≡ true → eqb n k ≡ false → Frame k t r s
 frame_home n k t r s a b p q g h e = record {
   thread = away_thread n k t s b q e ∙ sym (away_thread n k t r a p e);
-  row = away_row n k t s b q e ∙ sym (away_row n k t r a p e);
   busy = busy_none k t s (On n b) q (home_busy n k b h e) ∙ sym (busy_none k t r (On n a) p (home_busy n k a g e));
   seeker = away_seeker n k t s b q e ∙ sym (away_seeker n k t r a p e);
 }

@@ -1,5 +1,5 @@
 -- The semaphores of a node and the threads that wait for them, once one was lowered or raised, or once one more was made.
-use Rattle.std.proofs.Common.{arith, ◌≡◌, ℕ, ◌<◌, ◌≤◌, ◌-◌, ◌+◌, ◌⊎◌, inl, inr, List, [], ◌∷◌, ◌++◌, length, Option, Some, None, Bool, true, false, eqb, cond, refl, sym, ap, ◌∙◌, subst}
+use Rattle.std.proofs.Common.{arith, ◌≡◌, ℕ, ◌<◌, ◌≤◌, ◌-◌, ◌+◌, ◌⊎◌, inl, inr, List, [], ◌∷◌, ◌++◌, length, Option, Some, None, Bool, true, false, eqb, cond, ◌&&◌, refl, sym, ap, ◌∙◌, subst}
 use Rattle.std.specs.Prelude.{slice_get, slice_index_or, option_map, unwrap_or, All, ◌^◌}
 use Rattle.std.proofs.lemmas.Bool.{eq-eqb, eqb-true, eqb-false}
 use Rattle.std.proofs.lemmas.Option.{slice_get_cases}
@@ -9,7 +9,12 @@ use Rattle.marcel_sync.specs.declared.sem.SemRow.{SemRow}
 use Rattle.marcel_sync.specs.declared.sem.Pgot.TheVariants as lowering
 use Rattle.marcel_sync.specs.declared.sem.Vgot.TheVariants as raising
 use Rattle.marcel_sync.specs.Rows.{row_of}
-use Rattle.marcel_sync.specs.Semaphores.{IsSemaphore, p_answer, after_p, v_of, v_answer, left_by_v, after_v, with_sem, sem_changed, lowered_answer, lowered, raised_answer, raised, with_one_more, waiters_of, waiters_at}
+use Rattle.marcel_sync.specs.Semaphores.{IsSemaphore, node_in, number_in, p_answer, after_p, v_of, v_answer, left_by_v, after_v, with_sem, sem_changed, lowered_answer, lowered, raised_answer, raised, with_one_more, waiters_of, waiters_at}
+use Rattle.run_trace.specs.Names.{is_tid}
+use Rattle.run_trace.specs.Keyed.{StandsFor, item_of}
+use Rattle.run_trace.specs.Spots.{Queues, Life, On, Spot}
+use Rattle.run_trace.specs.Stands.{waiter_name, waiter_in_life, waiter_part}
+use Rattle.run_trace.proofs.Lemmas.{is-refl}
 use Rattle.trace_laws.proofs.Lists.Births.{get-push, get-past, get-set}
 
 -- ## All rows are semaphores
@@ -152,3 +157,25 @@ raised_less k sems u at woke = by (slice_get sems k) refl
     by : (o : Option SemRow) → slice_get sems k ≡ o → IsShortened k (u, at) sems (raised k sems)
     by None e = let none : raised_answer k sems ≡ raising.NoSuch = ap (λ o. unwrap_or (option_map v_answer o) raising.NoSuch) e in absurd (cc (none, woke))
     by (Some sem) e = by_waiters sem e sem.waiters refl
+
+-- ## Who is the first that waits
+
+-- a life that waits for semaphore k of node n
+pub record IsWaiting (n k at : ℕ) (waiting : Life) : Type 0 where
+  pub id : ℕ
+  pub life : waiting ≡ On at (Queues id)
+  pub node : node_in id ≡ n
+  pub number : number_in id ≡ k
+
+waiting_as : (n k : ℕ) (u : Tid) (at : ℕ) (life : Life) → waiter_in_life n k u life ≡ Some (u, at) → IsWaiting n k at life
+waiting_as n k u at (On m (Queues id)) h = by (eqb (node_in id) n) (eqb (number_in id) k) refl refl h
+  where
+    by : (a b : Bool) → eqb (node_in id) n ≡ a → eqb (number_in id) k ≡ b → cond {A = Option (Tid × ℕ)} (a && b) (Some (u, m)) None ≡ Some (u, at) → IsWaiting n k at (On m (Queues id))
+    by true true e f g = let pair : (u, m) ≡ (u, at) = cc g in let same : m ≡ at = ap (λ (x : Tid × ℕ). x.1) pair in record { id = id; life = ap (λ i. On i (Queues id)) same; node = eqb-true (node_in id) n e; number = eqb-true (number_in id) k f }
+    by true false e f g = absurd (cc g)
+    by false b e f g = absurd (cc g)
+waiting_as n k u at life h = absurd (cc h)
+
+-- a thread that a queue shows first waits for that semaphore
+pub first_waits : (n k : ℕ) (u : Tid) (at : ℕ) (rest xs : List (Tid × ℕ)) (w : Tid → Spot) → StandsFor is_tid waiter_name (waiter_part n k) xs w → xs ≡ (u, at) ∷ rest → IsWaiting n k at (w u).life
+first_waits n k u at rest xs w stands first = waiting_as n k u at (w u).life (sym (stands.shows u) ∙ ap (λ ys. item_of is_tid waiter_name ys u) first ∙ (rw (is-refl u) refl))

@@ -1,16 +1,14 @@
 -- Stages, by what the lists have of a thread in them: at home, at rest between events, in hand, waiting, leaving, and after a reply.
-use Rattle.std.proofs.Common.{arith, ◌≡◌, ℕ, [], Some, None, Bool, true, false, eqb, cond, refl}
-use Rattle.std.specs.Prelude.{is_some}
+use Rattle.std.proofs.Common.{arith, ◌≡◌, ℕ, [], Some, Bool, true, false, eqb, refl}
 use Rattle.std.proofs.lemmas.Bool.{eq-eqb}
 use Rattle.slot_space.specs.declared.names.Tid.{Tid}
-use Rattle.marcel_sync.specs.Semaphores.{node_in}
 use Rattle.run_trace.specs.declared.node.Wait.{Wait}
 use Rattle.run_trace.specs.declared.node.Wait.TheVariants as wait
 use Rattle.run_trace.specs.Rules.{MayLeave}
 use Rattle.trace_laws.specs.Obeys.{IsSettled}
-use Rattle.run_trace.specs.Guests.{Guest, waits, is_unwaiting}
+use Rattle.run_trace.specs.Guests.{Guest, waits}
 use Rattle.run_trace.specs.Spots.{Stage, Ready, Running, Due, Served, Seeks, Told_next, Told_then, Departs, Ends, Leaves, Halts, Stays, Shows, Shown_there, Asks, Awaits, Answered, Detaches, Signals, Queues, Life, On, Response, told_stage, Showing, Answers}
-use Rattle.run_trace.specs.Stands.{thread_in_stage, row_in_stage, ways_of, held_in_stage, holding_of, wait_of}
+use Rattle.run_trace.specs.Stands.{thread_in_stage, ways_of, held_in_stage, holding_of, wait_of}
 use Rattle.trace_laws.proofs.Underway.Midst.{Quiet, quiet, Plain, plain, is_plain}
 use Rattle.run_trace.specs.Items.{is_busy}
 
@@ -77,10 +75,6 @@ resting n stage k = absurd (cc (k n, eq-eqb n n refl))
 pub rest_thread : (n : ℕ) (stage : Stage) (g : Guest) → is_resting stage ≡ true → thread_in_stage n stage g ≡ Some (waits (wait_of n stage) g)
 rest_thread n stage g h = grind (arith, h)
 
-pub rest_row : (n : ℕ) (t : Tid) (stage : Stage) (g : Guest) → is_resting stage ≡ true → is_some (row_in_stage t stage g.priority) ≡ is_unwaiting (waits (wait_of n stage) g)
-rest_row n t (Queues id) g h = elim (eqb (node_in id) n) as (λ v. false ≡ is_unwaiting (waits (cond v wait.ForSemaphore wait.ForAnswer) g)) [ true ↦ refl | false ↦ refl ]
-rest_row n t stage g h = grind (arith, h)
-
 -- ## Stages in which an event has its thread in hand: it is on its node alone, off the run list, and waits for nothing
 
 abbrev pub is_in_hand : Stage → Bool
@@ -102,14 +96,10 @@ hand_busy n stage h = grind (arith, h, eq-eqb n n refl)
 pub hand_thread : (n : ℕ) (stage : Stage) (g : Guest) → is_in_hand stage ≡ true → thread_in_stage n stage g ≡ Some (waits wait.No g)
 hand_thread n stage g h = grind (arith, h)
 
-pub hand_row : (t : Tid) (stage : Stage) (priority : ℕ) → is_in_hand stage ≡ true → row_in_stage t stage priority ≡ None
-hand_row t stage priority h = grind (arith, h)
-
 -- ## A stage in which a thread waits on its node: it shows there, off the run list, and no event is busy with it
 
 pub record StandsWaiting (n : ℕ) (t : Tid) (stage : Stage) (waiting : Wait) (g : Guest) : Type 0 where
   pub thread : thread_in_stage n stage g ≡ Some (waits waiting g)
-  pub row : row_in_stage t stage g.priority ≡ None
   pub idle : (k : ℕ) → is_busy k (On n stage) ≡ false
   pub held : held_in_stage stage g ≡ Some (holding_of g)
   pub plain : is_plain (On n stage) ≡ true
@@ -135,10 +125,6 @@ told_home life = grind arith
 pub told_thread : (n : ℕ) (life : Life) (g : Guest) → thread_in_stage n (told_stage life) g ≡ Some (waits wait.No g)
 told_thread n (On m (Told_then to)) g = refl
 told_thread n life g = grind arith
-
-pub told_row : (t : Tid) (life : Life) (priority : ℕ) → row_in_stage t (told_stage life) priority ≡ Some (record { tid = t; list = 0; priority = priority })
-told_row t (On m (Told_then to)) priority = refl
-told_row t life priority = grind arith
 
 pub told_held : (life : Life) (g : Guest) → held_in_stage (told_stage life) g ≡ Some (holding_of g)
 told_held (On m (Told_then to)) g = refl

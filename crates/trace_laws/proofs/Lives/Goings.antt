@@ -1,6 +1,6 @@
--- What other thread a label sets going, and where that one was: it waited for a semaphore or for an end, or was ready. Whoever waits for
+-- What other thread a label sets going, and where that one was: it waited for a semaphore or for an end, or was on a run list. Whoever waits for
 -- slots goes by the decision about it, which is its own label.
-use Rattle.std.proofs.Common.{◌≡◌, ℕ, List, [], ◌∷◌, Option, Some, None, Bool, true, false, eqb, cond, refl, sym, ap, ◌∙◌, arith}
+use Rattle.std.proofs.Common.{◌≡◌, ℕ, List, [], ◌∷◌, Option, Some, None, Bool, true, false, eqb, cond, refl, sym, ap, ◌∙◌, arith, ◌⊎◌, inl, inr}
 use Rattle.std.specs.Prelude.{◌-◌, ◌^◌, slice_get, option_map, unwrap_or, ◌&&◌, not, ⊤}
 use Rattle.std.proofs.lemmas.Bool.{eqb-true}
 use Rattle.slot_space.specs.declared.names.Tid.{Tid}
@@ -20,14 +20,18 @@ use Rattle.run_trace.specs.declared.label.Label.TheVariants.{Known}
 use Rattle.run_trace.specs.Names.{is_tid, tid_of}
 use Rattle.run_trace.specs.Program.{Program}
 use Rattle.run_trace.specs.Keyed.{item_of}
-use Rattle.run_trace.specs.Spots.{Ready, Departs, Awaits, Answers, Signals, Queues, Life, On, Spot, Spots, Going, answered_stage, woken, signal_wakes, is_ready, sent_away, passed_going, asked_going, going_by_call, its_call, its_refusal, wakes_heard, end_in, joiner_going, sets_going}
-use Rattle.run_trace.specs.Stands.{Agrees, waiter_name, waiter_in_life}
+use Rattle.run_trace.specs.Spots.{Ready, Departs, Awaits, Answers, Signals, Queues, Life, On, Spot, Spots, Going, answered_stage, woken, signal_wakes, sent_away, passed_going, asked_going, going_by_call, its_call, its_refusal, wakes_heard, end_in, joiner_going, sets_going}
+use Rattle.run_trace.specs.Bubbles.{is_listed}
+use Rattle.run_trace.specs.Stands.{Agrees, AreSeated, waiter_name, waiter_in_life}
 use Rattle.run_trace.proofs.Lemmas.{is-refl}
+use Rattle.trace_laws.proofs.Lists.SeatedLabels.{listed_life}
 
--- from the one life to the other a thread may be set going: woken, sent away, or since the end that it awaits is known
+-- from the one life to the other a thread may be set going: woken, sent away, perhaps to another node than before, or since the end that it
+-- awaits is known
 pub data MayGo (old new : Life) : Type 0 where
   Wakes : (h m id : ℕ) → old ≡ On m (Queues id) → new ≡ On m (answered_stage h m (replies.Value 0)) → MayGo old new
   IsSent : (m to : ℕ) → old ≡ On m Ready → new ≡ On m (Departs to) → MayGo old new
+  IsSentOn : (m other to : ℕ) → old ≡ On m (Departs other) → new ≡ On m (Departs to) → MayGo old new
   Joins : (m : ℕ) (u : Tid) (reply : Reply) (second : Option ℕ) → old ≡ On m (Awaits u) → new ≡ On m (Answers u.home reply second) → MayGo old new
 
 abbrev pub GoesRightly : Going → (Tid → Spot) → Type 0
@@ -51,12 +55,12 @@ queued h k t (On m (Queues id)) x e = by (eqb (node_in id) h) (eqb (number_in id
     by false b f g i = absurd (cc i)
 queued h k t life x e = grind (arith, e)
 
-module _ (p : Program) (w : Spots) (a : Agrees p w) where
+module _ (p : Program) (w : Spots) (a : Agrees p w × ((k : ℕ) → AreSeated p k w)) where
   -- the first of those that wait for a semaphore
   first_queued : (h k : ℕ) (first : Tid × ℕ) (rest : List (Tid × ℕ)) → waiters_at k (w.sems h) ≡ first ∷ rest → IsQueued h k (w.threads first.0).life first.1
   first_queued h k first rest e =
       let found : item_of is_tid waiter_name (waiters_at k (w.sems h)) first.0 ≡ Some first = ap (λ xs. item_of is_tid waiter_name xs first.0) e ∙ (rw (is-refl first.0) refl) in
-      queued h k first.0 (w.threads first.0).life first (sym ((a.queues h k).shows first.0) ∙ found)
+      queued h k first.0 (w.threads first.0).life first (sym ((a.0.queues h k).shows first.0) ∙ found)
 
   woken_goes : (h id : ℕ) (up : Bool) → GoesRightly (signal_wakes h id up (w.sems h)) w.threads
   woken_goes h id false = tt
@@ -72,16 +76,16 @@ module _ (p : Program) (w : Spots) (a : Agrees p w) where
       by None e = tt
       by (Some sem) e = by_queue sem.value sem.waiters (ap waiters_of e)
 
-  ready_at : (n : ℕ) (life : Life) → is_ready n life ≡ true → life ≡ On n Ready
-  ready_at n (On m Ready) e = ap (λ z. On z Ready) (eqb-true m n e)
-  ready_at n life e = grind (arith, e)
-
-  sent_goes : (n : ℕ) (itself : Bool) (u : Tid) (to : ℕ) → GoesRightly (sent_away n itself u to (w.threads u).life) w.threads
+  sent_goes : (n : ℕ) (itself : Bool) (u : Tid) (to : ℕ) → GoesRightly (sent_away n itself u to (is_listed u (w.forests n))) w.threads
   sent_goes n true u to = tt
-  sent_goes n false u to = by (is_ready n (w.threads u).life) (not (eqb to n)) refl
+  sent_goes n false u to = by (is_listed u (w.forests n)) (not (eqb to n)) refl
     where
-      by : (b c : Bool) → is_ready n (w.threads u).life ≡ b → GoesRightly (cond (b && c) (Some (u, On n (Departs to))) None) w.threads
-      by true true e = IsSent n to (ready_at n (w.threads u).life e) refl
+      by_life : ((w.threads u).life ≡ On n Ready) ⊎ ((other : ℕ) × ((w.threads u).life ≡ On n (Departs other))) → MayGo (w.threads u).life (On n (Departs to))
+      by_life (inl e) = IsSent n to e refl
+      by_life (inr e) = IsSentOn n e.0 to e.1 refl
+
+      by : (b c : Bool) → is_listed u (w.forests n) ≡ b → GoesRightly (cond (b && c) (Some (u, On n (Departs to))) None) w.threads
+      by true true e = by_life (listed_life p n u w (a.1 n) e)
       by true false e = tt
       by false c e = tt
 
@@ -95,7 +99,7 @@ module _ (p : Program) (w : Spots) (a : Agrees p w) where
   asked_goes n t c (Some reply) = tt
 
   joiner_goes : (t : Tid) (end : End) (o : Option Birth) → slice_get (w.births t.home) t.seq ≡ o → GoesRightly (joiner_going t end (joiner o)) w.threads
-  joiner_goes t end (Some (Awaited by at)) e = Joins at t _ _ (a.awaits t by at e) refl
+  joiner_goes t end (Some (Awaited by at)) e = Joins at t _ _ (a.0.awaits t by at e) refl
   joiner_goes t end (Some Lives) e = tt
   joiner_goes t end (Some Detached) e = tt
   joiner_goes t end (Some (Ended how)) e = tt

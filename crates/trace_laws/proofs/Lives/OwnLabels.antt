@@ -19,30 +19,31 @@ use Rattle.slot_space.specs.declared.names.Reply.{Reply}
 use Rattle.slot_space.specs.declared.names.Reply.TheVariants as replies
 use Rattle.iso_blocks.specs.Heap.{rounded, place, emptied}
 use Rattle.run_trace.specs.declared.call.Call.{Call}
-use Rattle.run_trace.specs.declared.call.Call.TheVariants.{Exit, Name, Node, Nodes, Yield, Create, Join, Detach, SemNew, SemP, SemV, Isomalloc, Isofree, MigrateSelf, Migrate, Print, Halt, Unknown}
+use Rattle.run_trace.specs.declared.call.Call.TheVariants.{Exit, Name, Node, Nodes, Yield, Create, Join, Detach, SemNew, SemP, SemV, Isomalloc, Isofree, MigrateSelf, Migrate, Print, BubbleNew, BubbleInsert, BubbleWake, BubbleGather, CreateIn, Halt, Unknown}
 use Rattle.run_trace.specs.declared.label.Label.{Label}
-use Rattle.run_trace.specs.declared.label.Label.TheVariants.{Born, Ran, Asked, Heard, Judged, Told, Took, Gave, Ended, Known, Left, Came, Decided, Shown, Halted}
+use Rattle.run_trace.specs.declared.label.Label.TheVariants.{Born, Ran, Asked, Heard, Judged, Told, Took, Gave, Ended, Known, Left, Came, Decided, Down, Burst, Gathered, Shown, Halted}
 use Rattle.run_trace.specs.declared.label.Why.{Why}
 use Rattle.run_trace.specs.declared.label.Why.TheVariants as why
 use Rattle.run_trace.specs.Names.{is_tid, tid_of}
 use Rattle.run_trace.specs.Program.{Program, code_of}
 use Rattle.run_trace.specs.Guests.{Solo, Guest, newborn, stack_start, with_bytes, takes_slots, gives_slots, heap_of}
 use Rattle.run_trace.specs.Calls.{call_of, refusal}
+use Rattle.run_trace.specs.Bubbles.{is_listed, not_filling}
 use Rattle.run_trace.specs.Console.{asked_bytes}
 use Rattle.run_trace.specs.Same.{Start, Lived, unlived, lived_then, written_then}
 use Rattle.run_trace.specs.Items.{subject}
 use Rattle.run_trace.specs.Alone.{is_about}
 use Rattle.run_trace.specs.World.{World}
 use Rattle.run_trace.specs.Rules.{IsBorn, IsForBlock, MayHear, MayTake, MayGive, MayLeave, MayCome, MayShow, MayKnow, SoloRule, LifeRule, RepliesRule, GrantsRule, Occasion, quantum_in}
-use Rattle.run_trace.specs.Spots.{Ready, Running, Due, Served, Seeks, Departs, Ends, Shows, Asks, Detaches, Signals, Life, Unborn, On, Moving, Noting, Gone, Response, Spot, Spots, stack_bytes, creator_served, priority_by, born_spot, ran_spot, ran_stage, stepped, signal_asked, sent_stage, placing_stage, passed_stage, asked_stage, stage_of_call, Going, going_by_call, wakes_heard, sets_going, set_going, heard_life, heard_at, took_life, decided_going, gave_life, shown_life, end_in, after_label}
-use Rattle.run_trace.specs.Stands.{Agrees}
+use Rattle.run_trace.specs.Spots.{Ready, Running, Due, Served, Seeks, Departs, Ends, Shows, Asks, Detaches, Signals, Life, Unborn, On, Moving, Noting, Gone, Response, Spot, Spots, update, its_call, stack_bytes, creator_served, priority_by, born_spot, ran_spot, ran_stage, stepped, signal_asked, sent_stage, placing_stage, entering_stage, passed_stage, asked_stage, stage_of_call, Going, going_by_call, wakes_heard, sets_going, set_going, heard_life, heard_at, took_life, decided_going, gave_life, shown_life, end_in, after_label}
 use Rattle.run_trace.proofs.Lemmas.{is-true}
+use Rattle.trace_laws.specs.Obeys.{AgreesRule}
 use Rattle.trace_laws.proofs.Lives.Heaps.{gave_all}
 use Rattle.trace_laws.proofs.Lives.OwnLives.{exit_value, ends_as, began, with_slots, free_of, given_to, solo_after, printed_by}
 use Rattle.trace_laws.proofs.Lives.Tales.{after_sum, after_nothing, Reached, IsReady, IsWaiting, IsAsking, IsDue, InService, ServesAs, IsServed, StageTale, LifeTale, Tale, with_life}
 use Rattle.trace_laws.proofs.Lives.OwnReplies.{own_judged, own_told}
 use Rattle.trace_laws.proofs.Lives.Signals.{OfSignals, answered_by, signal_by, signal_asked_by}
-use Rattle.trace_laws.proofs.Lives.Goings.{MayGo, Wakes, IsSent, Joins, GoesRightly, call_goes, heard_goes, known_goes}
+use Rattle.trace_laws.proofs.Lives.Goings.{MayGo, Wakes, IsSent, IsSentOn, Joins, GoesRightly, call_goes, heard_goes, known_goes}
 
 -- ## Each of its labels
 
@@ -138,8 +139,8 @@ own_asked p n t w lines a e k = record { calls = k.calls; life = by (refusal p t
     signals : (id : ℕ) (up : Bool) → IsAsking (code_of p) a x lines → StageTale (code_of p) (signal_asked n id up (w.sems n)) x s.verdict lines a
     signals id up k = signal_asked_by (λ stage. StageTale (code_of p) stage x s.verdict lines a) n id up (w.sems n) (asking_tale (code_of p) n id x s.verdict lines a k) k
 
-    sends : (name to : ℕ) (life : Life) → call_of x.state ≡ Migrate name to → StageTale (code_of p) (sent_stage n (eqb name (tid_value t)) to life) x s.verdict lines a
-    sends name to life f = elim (eqb name (tid_value t)) as (λ b. StageTale (code_of p) (sent_stage n b to life) x s.verdict lines a) [
+    sends : (name to : ℕ) (listed : Bool) → call_of x.state ≡ Migrate name to → StageTale (code_of p) (sent_stage (eqb name (tid_value t)) to listed) x s.verdict lines a
+    sends name to listed f = elim (eqb name (tid_value t)) as (λ b. StageTale (code_of p) (sent_stage b to listed) x s.verdict lines a) [
       | true ↦ record { was = x; at = was.at; serves = as_called (code_of p) x (Migrate name to) (MigrateSelf to) f (λ slots code. refl) (λ code. refl); midst = (was.empty, refl); lines_are = was.lines_are }
       | false ↦ due (Migrate name to) _ f refl refl
     ]
@@ -147,6 +148,10 @@ own_asked p n t w lines a e k = record { calls = k.calls; life = by (refusal p t
     placing : (len : ℕ) (o : Option ℕ) → call_of x.state ≡ Isomalloc len → StageTale (code_of p) (placing_stage (Isomalloc len) o) x s.verdict lines a
     placing len None f = was
     placing len (Some address) f = serves (Isomalloc len) f (ap (λ z. with_slots z x) (sym was.empty))
+
+    entering : (c : Call) (o : Option Reply) → call_of x.state ≡ c → ((code : ℕ) → given_to c [] code x ≡ x) → ((code : ℕ) → printed_by (code_of p) c code x.state ≡ []) → StageTale (code_of p) (entering_stage o) x s.verdict lines a
+    entering c (Some reply) f same silent = due c (reply_code reply) f (same (reply_code reply)) (silent (reply_code reply))
+    entering c None f same silent = was
 
     passed : (c : Call) → call_of x.state ≡ c → StageTale (code_of p) (passed_stage p n t w c) x s.verdict lines a
     passed (Exit value) f = record {
@@ -165,11 +170,16 @@ own_asked p n t w lines a e k = record { calls = k.calls; life = by (refusal p t
     passed (SemNew value) f = due (SemNew value) _ f refl refl
     passed (SemP id) f = signals id false (asks (SemP id) f (λ code. refl) (λ code. refl))
     passed (SemV id) f = signals id true (asks (SemV id) f (λ code. refl) (λ code. refl))
-    passed (Migrate name to) f = sends name to (w.threads (tid_of name)).life f
+    passed (Migrate name to) f = sends name to (is_listed (tid_of name) (w.forests n)) f
     passed (Isomalloc len) f = placing len (place (heap_of x) (rounded len)) f
     passed (Isofree address) f = serves (Isofree address) f (was.empty, inl refl)
     passed (MigrateSelf to) f = serves (MigrateSelf to) f (was.empty, refl)
     passed (Print address len) f = (record { at = was.at; empty = was.empty; address = address; len = len; is = f; bytes_are = refl }, was.lines_are)
+    passed (BubbleNew priority depth) f = due (BubbleNew priority depth) _ f refl refl
+    passed (BubbleInsert bubble member) f = due (BubbleInsert bubble member) _ f refl refl
+    passed (BubbleWake bubble) f = due (BubbleWake bubble) _ f refl refl
+    passed (BubbleGather bubble) f = due (BubbleGather bubble) _ f refl refl
+    passed (CreateIn bubble entry argument priority) f = entering (CreateIn bubble entry argument priority) (not_filling p n bubble (w.forests n)) f (λ code. refl) (λ code. refl)
     passed Halt f = was
     passed (Unknown number) f = due (Unknown number) _ f refl refl
 
@@ -248,11 +258,12 @@ own_shown : (image : List ℕ) (n : ℕ) (life : Life) (x : Solo) (v : Response)
 own_shown image n (On m (Shows bytes)) x v lines a may k = (bytes, k.0, ap (λ z. z ++ bytes ∷ []) k.1)
 own_shown image n life x v lines a may k = grind (arith, may)
 
--- whoever is set going waited for the reply of a call that gives nothing, or was ready
+-- whoever is set going waited for the reply of a call that gives nothing, or was on a run list
 going_tale : (image : List ℕ) (life new : Life) (x : Solo) (v : Response) (lines : List (List ℕ)) (a : Lived) → MayGo life new → LifeTale image life x v lines a → LifeTale image new x v lines a
 going_tale image life new x v lines a (Wakes h m id e f) k = subst (λ z. LifeTale image z x v lines a) (sym f)
     (answered_by (λ stage. StageTale image stage x v lines a) h m id (replies.Value 0) (asking_tale image h id x v lines a (subst (λ z. LifeTale image z x v lines a) e k)))
 going_tale image life new x v lines a (IsSent m to e f) k = subst (λ z. LifeTale image z x v lines a) (sym f) (subst (λ z. LifeTale image z x v lines a) e k)
+going_tale image life new x v lines a (IsSentOn m other to e f) k = subst (λ z. LifeTale image z x v lines a) (sym f) (subst (λ z. LifeTale image z x v lines a) e k)
 going_tale image life new x v lines a (Joins m u reply second e f) k = subst (λ z. LifeTale image z x v lines a) (sym f) (subst (λ z. LifeTale image z x v lines a) e k)
 
 -- whatever call it has come to, the reply that there are no slots gives nothing and writes nothing
@@ -301,20 +312,26 @@ module _ (p : Program) (t : Tid) where
     | false ↦ λ e. k
   ] refl
 
+  -- one whose call gives nothing is due its reply
+  served : (n : ℕ) (by : Tid) (code : ℕ) (c : Call) (w : Spots) (lines : List (List ℕ)) (a : Lived) → (w.threads by).life ≡ On n Seeks → its_call by w ≡ c
+      → given_to c [] code (w.threads by).guest.solo ≡ (w.threads by).guest.solo → printed_by (code_of p) c code (w.threads by).guest.solo.state ≡ [] → Told_of (w.threads t) lines a
+      → Told_of (update w.threads by (record (w.threads by) { life = On n (Due code) }) t) lines a
+  served n by code c w lines a e call same silent k =
+      let x : Solo = (w.threads by).guest.solo in
+      beside w.threads by _ lines a (λ z. record {
+        calls = z.calls;
+        life = record {
+          waits = subst (λ life. LifeTale (code_of p) life x (w.threads by).verdict lines a) e z.life;
+          same = ap (λ d. given_to d [] code x) call ∙ same;
+          silent = ap (λ d. printed_by (code_of p) d code x.state) call ∙ silent;
+        };
+      }) k
+
   -- a creator is due its reply
   creator : (n : ℕ) (u : Tid) (why : Why) (entry a0 : ℕ) (w : Spots) (lines : List (List ℕ)) (a : Lived) → IsBorn p n why entry a0 w → Told_of (w.threads t) lines a → Told_of (creator_served n u why w.threads t) lines a
   creator n u why.Main entry a0 w lines a h k = k
-  creator n u (why.Create by) entry a0 w lines a h k = beside w.threads by _ lines a (λ z. record { calls = z.calls; life = due (subst (λ life. LifeTale (code_of p) life (w.threads by).guest.solo (w.threads by).verdict lines a) h.0 z.life) }) k
-    where
-      due : IsWaiting (code_of p) a (w.threads by).guest.solo lines → IsDue (code_of p) (tid_value u) a (w.threads by).guest.solo lines
-      due z =
-          let x : Solo = (w.threads by).guest.solo in
-          record {
-            waits = z;
-            same = ap (λ c. given_to c [] (tid_value u) x) h.2;
-            silent = ap (λ c. printed_by (code_of p) c (tid_value u) x.state) h.2;
-          }
-  creator n u (why.Inside by bubble) entry a0 w lines a h k = k
+  creator n u (why.Create by) entry a0 w lines a h k = served n by (tid_value u) (Create entry a0 h.1) w lines a h.0 h.2 refl refl k
+  creator n u (why.Inside by bubble) entry a0 w lines a h k = served n by (tid_value u) (CreateIn h.1 entry a0 h.2) w lines a h.0 h.3 refl refl k
   creator n u (why.Service by count) entry a0 w lines a h k = k
 
   -- whoever is set going
@@ -338,7 +355,7 @@ module _ (p : Program) (t : Tid) where
   decided n u (Some first) w lines a e k = k
 
   -- each label keeps it
-  pub label_tale : (on : Occasion) (n : ℕ) (l : Label) (w : World) (lines : List (List ℕ)) (a : Lived) → SoloRule p on n l w → LifeRule p on n l w → RepliesRule p on n l w → GrantsRule p on n l w → Agrees p w.spots
+  pub label_tale : (on : Occasion) (n : ℕ) (l : Label) (w : World) (lines : List (List ℕ)) (a : Lived) → SoloRule p on n l w → LifeRule p on n l w → RepliesRule p on n l w → GrantsRule p on n l w → AgreesRule p on n l w
       → Told_of (w.spots.threads t) lines a
       → Told_of ((after_label p n l w.spots).threads t) (written_then t l w.spots lines) (cond (is_about t (subject l)) (lived_then w.spots.remote l a) a)
   label_tale on n (Born u why entry a0 a1 sp slot) w lines a solo life replies grants agrees k =
@@ -346,7 +363,7 @@ module _ (p : Program) (t : Tid) where
         | true ↦ λ e. own_born (code_of p) n (record { entry = entry; argument = a0; stack = slot; bytes = stack_bytes why w.spots.remote }) a1 sp (priority_by w.spots.threads why) (w.spots.threads t) lines a (subst (λ z. (w.spots.threads z).life ≡ Unborn) (is-true u t e) life.0) solo.1 solo.2 k
         | false ↦ λ e. creator n u why entry a0 w.spots lines a solo.0 k
       ] refl
-  label_tale on n (Ran u vp count stop) w lines a solo life replies grants agrees k = quietly w.spots.threads u _ lines a _ (λ z. own_ran p n count (quantum_in on.act) stop (w.spots.threads u) lines a life solo.0 solo.1 z) k
+  label_tale on n (Ran u vp count stop) w lines a solo life replies grants agrees k = quietly w.spots.threads u _ lines a _ (λ z. own_ran p n count (quantum_in on.act) stop (w.spots.threads u) lines a life.0 solo.0 solo.1 z) k
   label_tale on n (Asked u call args bytes) w lines a solo life replies grants agrees k = setting (going_by_call p n u w.spots) w.spots.threads u _ lines a (call_goes p w.spots agrees n u) (λ z. own_asked p n u w.spots lines a life z) k
   label_tale on n (Heard u) w lines a solo life replies grants agrees k =
       setting (wakes_heard w.spots.sems (w.spots.threads u).life) w.spots.threads u _ lines a (heard_goes p w.spots agrees (w.spots.threads u).life)
@@ -376,4 +393,7 @@ module _ (p : Program) (t : Tid) where
         | true ↦ decided n u first w.spots.threads lines a life k
         | false ↦ decided n u first w.spots.threads lines a life k
       ]
+  label_tale on n (Down bubble list) w lines a solo life replies grants agrees k = k
+  label_tale on n (Burst bubble list) w lines a solo life replies grants agrees k = k
+  label_tale on n (Gathered bubble count) w lines a solo life replies grants agrees k = k
   label_tale on n l w lines a solo life replies grants agrees k = absurd life

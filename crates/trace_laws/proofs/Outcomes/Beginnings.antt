@@ -10,7 +10,7 @@ use Rattle.run_trace.specs.declared.packet.Packet.{Packet}
 use Rattle.run_trace.specs.declared.packet.Send.{Send}
 use Rattle.run_trace.specs.Program.{Program, nodes_of, slots_in}
 use Rattle.run_trace.specs.Local.{nothing, fresh, with_booted}
-use Rattle.run_trace.specs.Steps.{birth, arrive, thread_in, birth_in, slots_out, say}
+use Rattle.run_trace.specs.Steps.{birth, enter, thread_in, birth_in, slots_out, say}
 use Rattle.run_trace.specs.Machine.{local_event, is_range, boots, boots_in, free_slot}
 use Rattle.run_trace.specs.Cluster.{Net, fresh_net}
 use Rattle.run_trace.specs.Trace.{IsRun, net_after_trace, sends_or, prints_or}
@@ -50,7 +50,7 @@ record Boots (p : Program) (n : ℕ) : Type 0 where
   prints : (boots p n (nothing (fresh p n))).prints ≡ []
 
 main_boots : (p : Program) → Boots p 0
-unfolding birth arrive thread_in birth_in slots_out say
+unfolding birth enter thread_in birth_in slots_out say
 main_boots p = record {
   labels = ap (λ (o : Option ℕ). (boots_in p 0 o (with_booted (nothing (fresh p 0)))).labels) (sym (slot_zero p));
   sends = ap (λ (o : Option ℕ). (boots_in p 0 o (with_booted (nothing (fresh p 0)))).sends) (slot_zero p);

@@ -13,7 +13,7 @@ use Rattle.slot_space.specs.declared.names.Reply.TheVariants as replies
 use Rattle.slot_space.specs.Replies.{tid_value}
 use Rattle.marcel_core.specs.declared.birth.Birth.{Birth}
 use Rattle.run_trace.specs.declared.call.Call.{Call}
-use Rattle.run_trace.specs.declared.call.Call.TheVariants.{Create, SemP, SemV, Isomalloc, Migrate}
+use Rattle.run_trace.specs.declared.call.Call.TheVariants.{Create, CreateIn, SemP, SemV, Isomalloc, Migrate}
 use Rattle.iso_blocks.specs.Heap.{rounded, place}
 use Rattle.run_trace.specs.declared.entry.Entry.{Entry}
 use Rattle.run_trace.specs.declared.label.Label.{Label}
@@ -23,6 +23,7 @@ use Rattle.run_trace.specs.declared.label.Why.TheVariants as why
 use Rattle.run_trace.specs.Names.{is_tid, tid_of}
 use Rattle.run_trace.specs.Program.{Program, code_of}
 use Rattle.run_trace.specs.Calls.{call_of, refusal}
+use Rattle.run_trace.specs.Bubbles.{is_listed, not_filling}
 use Rattle.run_trace.specs.Guests.{Solo, Guest, Thread, waits, guest_slots, heap_of, told, takes_slots, gives_slots, packed, unpacked}
 use Rattle.run_trace.specs.declared.packet.Body.{Body}
 use Rattle.run_trace.specs.declared.packet.Body.TheVariants.{Mover}
@@ -33,13 +34,13 @@ use Rattle.run_trace.specs.Trace.{net_after_trace}
 use Rattle.trace_laws.specs.Obeys.{Obey, world_at, ObeyEach, AgreesRule}
 use Rattle.run_trace.specs.Rules.{Occasion, saying, spots_of, IsBorn, MayHear, MayJudge, MayTell, MayTake, MayGive, MayKnow, MayLeave, MayCome, MayShow, SoloRule, LifeRule}
 use Rattle.run_trace.specs.Obeying.{occasion}
-use Rattle.run_trace.specs.Spots.{Remote, Stage, Signals, Life, Unborn, On, Moving, Noting, Gone, Response, Spot, Spots, Holder, Of_node, Of_thread, update, creator_served, at_first, after_label, after_labels, stepped, ran_stage, ran_spot, Going, sent_stage, placing_stage, passed_stage, solo_of, its_call, going_by_call, wakes_heard, sets_going, set_going, asked_stage, heard_at, judged_life, judged_guest, told_stage, took_life, decided_going, gave_life, shown_life, second_of, remote_after}
+use Rattle.run_trace.specs.Spots.{Remote, Stage, Signals, Life, Unborn, On, Moving, Noting, Gone, Response, Spot, Spots, Holder, Of_node, Of_thread, update, creator_served, at_first, after_label, after_labels, stepped, ran_stage, ran_spot, Going, sent_stage, placing_stage, entering_stage, passed_stage, solo_of, its_call, going_by_call, wakes_heard, sets_going, set_going, asked_stage, heard_at, judged_life, judged_guest, told_stage, took_life, decided_going, gave_life, shown_life, second_of, remote_after}
 use Rattle.run_trace.specs.Stands.{Stands, thread_part, thread_in_life, thread_in_stage, held, slots_held, Word, Travels, word_subject, word_of, words_of, words_about, ways_of, on_link}
 use Rattle.run_trace.specs.Alone.{Alone, alone_then, alone_after, alone_in, alone_of, asked_in, heap_call, unless_refused, answered, is_about, EachRunsAlone, remote_in, remote_of}
 use Rattle.run_trace.specs.Holding.{Location, On_node, On_link, IsAmong, IsAt, Has, EachHeldOnce}
 use Rattle.run_trace.proofs.Lemmas.{is-true, is-refl}
 use Rattle.trace_laws.proofs.Lives.Signals.{OfSignals, answered_by, signal_by, signal_asked_by}
-use Rattle.trace_laws.proofs.Lives.Goings.{MayGo, Wakes, IsSent, Joins, GoesRightly, call_goes, heard_goes, known_goes}
+use Rattle.trace_laws.proofs.Lives.Goings.{MayGo, Wakes, IsSent, IsSentOn, Joins, GoesRightly, call_goes, heard_goes, known_goes}
 use Rattle.trace_laws.proofs.Lists.Parts.{Tells, at_way, thread_holds, node_holds}
 use Rattle.trace_laws.proofs.Lists.Subjects.{IsOneOf, on_way}
 use Rattle.run_trace.specs.Items.{subject, same_subject, Thread as Subject_of}
@@ -149,7 +150,9 @@ served_creator p n u why.Main entry a0 w t h = refl
 served_creator p n u (why.Create by) entry a0 w t h =
     let x : Solo = (w.threads by).guest.solo in
     other_life w.threads by t _ (sym (ap (λ life. asked_in life x) h.0 ∙ ap heap_call h.2))
-served_creator p n u (why.Inside by bubble) entry a0 w t h = refl
+served_creator p n u (why.Inside by bubble) entry a0 w t h =
+    let x : Solo = (w.threads by).guest.solo in
+    other_life w.threads by t _ (sym (ap (λ life. asked_in life x) h.0 ∙ ap heap_call h.3))
 served_creator p n u (why.Service by count) entry a0 w t h = refl
 
 -- neither does one that calls a semaphore, nor whoever is set going
@@ -160,6 +163,7 @@ going_asks : (old new : Life) (x : Solo) → MayGo old new → asked_in new x �
 going_asks old new x (Wakes h m id e f) =
     ap (λ z. asked_in z x) f ∙ answered_by (λ stage. asked_in (On m stage) x ≡ None) h m id (replies.Value 0) (signals_ask h m id x) ∙ sym (ap (λ z. asked_in z x) e)
 going_asks old new x (IsSent m to e f) = ap (λ z. asked_in z x) f ∙ sym (ap (λ z. asked_in z x) e)
+going_asks old new x (IsSentOn m other to e f) = ap (λ z. asked_in z x) f ∙ sym (ap (λ z. asked_in z x) e)
 going_asks old new x (Joins m u reply second e f) = ap (λ z. asked_in z x) f ∙ sym (ap (λ z. asked_in z x) e)
 
 set_alone : (going : Going) (w : Tid → Spot) (t : Tid) → GoesRightly going w → alone_in (set_going going w t) ≡ alone_in (w t)
@@ -193,9 +197,13 @@ ran_asks n stops.Quantum s x = refl
 ran_asks n stops.Call s x = refl
 ran_asks n (stops.Fault kind) s x = refl
 
-sent_asks : (n : ℕ) (itself : Bool) (to : ℕ) (life : Life) (x : Solo) → asked_in (On n (sent_stage n itself to life)) x ≡ None
-sent_asks n true to life x = refl
-sent_asks n false to life x = refl
+sent_asks : (n : ℕ) (itself : Bool) (to : ℕ) (listed : Bool) (x : Solo) → asked_in (On n (sent_stage itself to listed)) x ≡ None
+sent_asks n true to listed x = refl
+sent_asks n false to listed x = refl
+
+entering_asks : (n : ℕ) (o : Option Reply) (c : Call) (x : Solo) → call_of x.state ≡ c → heap_call c ≡ None → asked_in (On n (entering_stage o)) x ≡ None
+entering_asks n None c x e f = ap heap_call e ∙ f
+entering_asks n (Some reply) c x e f = refl
 
 placing_asks : (n len : ℕ) (o : Option ℕ) (x : Solo) → call_of x.state ≡ Isomalloc len → asked_in (On n (placing_stage (Isomalloc len) o)) x ≡ Some (Isomalloc len)
 placing_asks n len None x e = ap heap_call e
@@ -206,7 +214,8 @@ passed_asks p n t w (Create entry argument priority) e = ap heap_call e
 passed_asks p n t w (Isomalloc len) e = placing_asks n len (place (heap_of (solo_of t w)) (rounded len)) (solo_of t w) e
 passed_asks p n t w (SemP id) e = signal_asked_by (λ stage. asked_in (On n stage) (solo_of t w) ≡ None) n id false (w.sems n) (signals_ask n n id (solo_of t w)) refl
 passed_asks p n t w (SemV id) e = signal_asked_by (λ stage. asked_in (On n stage) (solo_of t w) ≡ None) n id true (w.sems n) (signals_ask n n id (solo_of t w)) refl
-passed_asks p n t w (Migrate name to) e = sent_asks n (eqb name (tid_value t)) to (w.threads (tid_of name)).life (solo_of t w)
+passed_asks p n t w (Migrate name to) e = sent_asks n (eqb name (tid_value t)) to (is_listed (tid_of name) (w.forests n)) (solo_of t w)
+passed_asks p n t w (CreateIn bubble entry argument priority) e = entering_asks n (not_filling p n bubble (w.forests n)) (CreateIn bubble entry argument priority) (solo_of t w) e refl
 passed_asks p n t w c e = grind arith
 
 call_asks : (p : Program) (n : ℕ) (t : Tid) (w : Spots) (c : Call) (r : Option Reply) → its_call t w ≡ c → asked_in (On n (asked_stage p n t w c r)) (solo_of t w) ≡ unless_refused r (heap_call c)
@@ -256,7 +265,7 @@ label_alone p q n (Born u why entry a0 a1 sp slot) w t solo life agrees =
     ∙ ap (λ a. cond (is_tid u t) (alone_then p w.spots.remote t (Born u why entry a0 a1 sp slot) a) a) (served_creator p n u why entry a0 w.spots t solo.0)
 label_alone p q n (Ran u vp count stop) w t solo life agrees =
     let next : HartState = stepped (code_of p) count (w.spots.threads u).guest.solo.state in
-    seen w.spots.threads u t _ (λ z a. alone_then p w.spots.remote z (Ran u vp count stop) a) (ap (asking (ran_spot p n count stop (w.spots.threads u))) (ran_asks n stop next _ ∙ sym (ap (λ z. asked_in z (w.spots.threads u).guest.solo) life)))
+    seen w.spots.threads u t _ (λ z a. alone_then p w.spots.remote z (Ran u vp count stop) a) (ap (asking (ran_spot p n count stop (w.spots.threads u))) (ran_asks n stop next _ ∙ sym (ap (λ z. asked_in z (w.spots.threads u).guest.solo) life.0)))
 label_alone p q n (Asked u call args bytes) w t solo life agrees =
     let x : Solo = (w.spots.threads u).guest.solo in
     seen_going (going_by_call p n u w.spots) w.spots.threads u t _ (λ z a. alone_then p w.spots.remote z (Asked u call args bytes) a) (call_goes p w.spots agrees n u)
@@ -297,9 +306,9 @@ label_alone p q n (Lent to slots) w t solo life agrees = absurd life
 label_alone p q n (InHand lender slots) w t solo life agrees = absurd life
 label_alone p q n (Returned to slots) w t solo life agrees = absurd life
 label_alone p q n (Home slots) w t solo life agrees = absurd life
-label_alone p q n (Down bubble list) w t solo life agrees = absurd life
-label_alone p q n (Burst bubble list) w t solo life agrees = absurd life
-label_alone p q n (Gathered bubble count) w t solo life agrees = absurd life
+label_alone p q n (Down bubble list) w t solo life agrees = refl
+label_alone p q n (Burst bubble list) w t solo life agrees = refl
+label_alone p q n (Gathered bubble count) w t solo life agrees = refl
 
 labels_alone : (p : Program) (q : Occasion) (n : ℕ) (ls : List Label) (w : World) (t : Tid) → ObeyEach SoloRule p q n ls w → ObeyEach LifeRule p q n ls w → ObeyEach AgreesRule p q n ls w
     → alone_in ((after_labels p n ls w.spots).threads t) ≡ alone_after p w.spots.remote t ls (alone_in (w.spots.threads t))

@@ -1,11 +1,11 @@
 -- A legal trace, from a run or from its labels alone.
-use Rattle.std.proofs.Common.{ℕ, List, None, ap, refl, subst, ◌≡◌, ◌∷◌, ◌∙◌, true, sym}
-use Rattle.std.specs.Prelude.{◌↔◌, is_some}
-use Rattle.std.proofs.lemmas.Bool.{eq-eqb}
+use Rattle.std.proofs.Common.{ℕ, List, ap, cond, false, subst, ◌≡◌, ◌∷◌, ◌∙◌, true, sym}
+use Rattle.std.specs.Prelude.{◌↔◌}
 use Rattle.slot_space.specs.declared.names.Tid.{Tid}
-use Rattle.run_trace.specs.declared.entry.Act.TheVariants.{Boot}
-use Rattle.run_trace.specs.declared.node.ReadyRow.{ReadyRow}
-use Rattle.run_trace.specs.RunLists.{is_listed}
+use Rattle.bubbles.specs.Standing.{IsForest, seats}
+use Rattle.run_trace.specs.Bubbles.{is_listed}
+use Rattle.run_trace.specs.Guests.{Thread, is_unwaiting}
+use Rattle.run_trace.specs.Holding.{IsOn}
 use Rattle.run_trace.specs.declared.entry.Act.{Act}
 use Rattle.run_trace.specs.declared.entry.Entry.{Entry}
 use Rattle.run_trace.specs.declared.label.Label.{Label}
@@ -15,20 +15,18 @@ use Rattle.run_trace.specs.Trace.{Fits, IsRun, net_after_trace}
 use Rattle.run_trace.specs.Histories.{IsInOrder, Joins}
 use Rattle.run_trace.specs.Spots.{Ready, On, Spots, at_first}
 use Rattle.run_trace.specs.Rules.{spots_of}
-use Rattle.run_trace.specs.Stands.{Stands, row_in_life}
+use Rattle.run_trace.specs.Stands.{AreSeated, Stands}
 use Rattle.run_trace.specs.World.{World}
 use Rattle.run_trace.specs.Items.{Progress}
-use Rattle.run_trace.specs.Obeying.{may_act, is_on_list, Starts, IsEntry, KeepsRules}
+use Rattle.run_trace.specs.Obeying.{may_act, Starts, IsEntry, KeepsRules}
 use Rattle.run_trace.specs.Holding.{EachHeldOnce}
 use Rattle.run_trace.specs.Alone.{EachRunsAlone}
 use Rattle.run_trace.specs.Legality.{Begins, AreRising, IsTold, Legal}
 use Rattle.trace_laws.specs.Obeys.{world_at}
-use Rattle.trace_laws.proofs.Lists.Arriving.{on_list_is}
-use Rattle.trace_laws.proofs.Lists.Parts.{listed_found}
-use Rattle.trace_laws.proofs.Underway.Simulate.{asked_of, listed_ready}
 use Rattle.trace_laws.proofs.Merging.Determined.{fits_exactly}
 use Rattle.trace_laws.proofs.Merging.Weave.{joined}
-use Rattle.trace_laws.proofs.Outcomes.Wholes.{starts, run_whole, after_each, alone_after_run, held_once_after_run}
+use Rattle.trace_laws.proofs.Outcomes.Wholes.{starts, run_whole, after_each, stands_after, alone_after_run, held_once_after_run}
+use Rattle.trace_laws.proofs.Outcomes.RunLists.{seat_told, listed_ready, seats_are, no_seats}
 use Rattle.trace_laws.proofs.Rules.Entries.{has_entry, Tells, run_keeps, rules_run}
 use Rattle.run_trace.specs.Telling.{world_of, first_world}
 
@@ -59,7 +57,6 @@ told_after p old base s trace r =
     let t : Tells p old base trace = run_keeps p old base s trace r in
     record {
       stands = subst (λ (z : World). Stands p z.spots (net_after_trace p base trace)) t.same (run_whole p old base s trace r).stands;
-      lists = λ n. ap (λ (z : World). z.lists n) t.same;
       links = λ i j. ap (λ (z : World). z.links i j) t.same;
       begun = λ n. ap (λ (z : World). z.begun n) t.same;
       talks = λ n. ap (λ (z : World). z.talks n) t.same;
@@ -84,25 +81,38 @@ whole_by_rules p trace order begins rounds tale = whole p trace order begins rou
 pub joined_whole : (p : Program) (trace : List Entry) (h : ℕ → List Event) → Begins p trace → AreRising trace → Joins p (fresh_net p) trace h → Legal p trace
 joined_whole p trace h begins rounds j = whole p trace j.order begins rounds (joined p (fresh_net p) trace h j).legal
 
--- by what is told: on the run list are those that are ready there
-pub listed_told : (p : Program) (old : Spots) (base : Net) → Stands p old base → (trace : List Entry) → KeepsRules p (world_at old base) trace → (n : ℕ) (t : Tid)
-    → (is_on_list t ((world_of p (world_at old base) trace).lists n) ≡ true) ↔ (((world_of p (world_at old base) trace).spots.threads t).life ≡ On n Ready)
-listed_told p old base s trace rules n t = (
-  λ h. listed_ready p w.spots net told.stands (asked_of Boot None) n t (same ∙ h),
-  λ e. sym same ∙ listed_found rows t ∙ ap is_some ((told.stands.nodes n).rows.shows t) ∙ ap (λ z. is_some (row_in_life n t z (w.spots.threads t).guest.priority)) e ∙ (rw (eq-eqb n n refl) refl),
-)
-  where
-    net : Net
-    net = net_after_trace p base trace
+-- ## Places, by what is told
 
-    w : World
-    w = world_of p (world_at old base) trace
+module _ (p : Program) (old : Spots) (base : Net) (s : Stands p old base) (trace : List Entry) (rules : KeepsRules p (world_at old base) trace) where
+  told : IsTold p (world_of p (world_at old base) trace) (net_after_trace p base trace)
+  told = told_after p old base s trace ((rules_are_runs p old base s trace).0 rules)
 
-    rows : List ReadyRow
-    rows = (net.nodes n).run_lists.rows
+  pub place_told : (n : ℕ) (t : Tid) → (seats t ((world_of p (world_at old base) trace).spots.forests n) ≡ 1) ↔ (((world_of p (world_at old base) trace).spots.threads t).life ≡ On n Ready)
+  place_told n t = seat_told p (world_of p (world_at old base) trace).spots (net_after_trace p base trace) told.stands n t
 
-    told : IsTold p w net
-    told = told_after p old base s trace ((rules_are_runs p old base s trace).0 rules)
+  pub listed_told : (n : ℕ) (t : Tid) → is_listed t ((world_of p (world_at old base) trace).spots.forests n) ≡ true → ((world_of p (world_at old base) trace).spots.threads t).life ≡ On n Ready
+  listed_told n t h = listed_ready p (world_of p (world_at old base) trace).spots (net_after_trace p base trace) told.stands n t h
 
-    same : is_listed t rows ≡ is_on_list t (w.lists n)
-    same = on_list_is t rows ∙ ap (is_on_list t) (told.lists n)
+-- ## Places after a legal trace
+
+module _ (p : Program) (trace : List Entry) (l : Legal p trace) where
+  abbrev net : Net
+  net = net_after_trace p (fresh_net p) trace
+
+  abbrev spots : Spots
+  spots = spots_of p (at_first p) trace
+
+  stands : Stands p spots net
+  stands = stands_after p trace l.runs
+
+  pub forest_after : (n : ℕ) → IsForest (net.nodes n).forest
+  forest_after n = subst (λ f. IsForest f) (sym (stands.nodes n).forest) (stands.seated n).forest
+
+  pub once_after : (n : ℕ) (t : Tid) (x : Thread) → IsOn net n t x → is_unwaiting x ≡ true → seats t (net.nodes n).forest ≡ 1
+  once_after n t x on waits = seats_are p spots net stands n t x on ∙ ap (λ v. cond v 1 0) waits
+
+  pub none_after : (n : ℕ) (t : Tid) → ((x : Thread) → IsOn net n t x → is_unwaiting x ≡ false) → seats t (net.nodes n).forest ≡ 0
+  none_after n t none = no_seats p spots net stands n t none
+
+  pub seated_after : (n : ℕ) → AreSeated p n spots
+  seated_after n = stands.seated n

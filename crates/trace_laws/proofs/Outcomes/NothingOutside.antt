@@ -14,7 +14,7 @@ use Rattle.marcel_core.specs.declared.birth.Birth.{Birth}
 use Rattle.marcel_sync.specs.declared.sem.SemRow.{SemRow}
 use Rattle.marcel_sync.specs.Semaphores.{node_in}
 use Rattle.run_trace.specs.declared.call.Call.{Call}
-use Rattle.run_trace.specs.declared.call.Call.TheVariants.{Join, Detach, SemP, SemV, Isomalloc, Migrate}
+use Rattle.run_trace.specs.declared.call.Call.TheVariants.{Join, Detach, SemP, SemV, Isomalloc, Migrate, CreateIn}
 use Rattle.iso_blocks.specs.Heap.{rounded, place}
 use Rattle.run_trace.specs.declared.entry.Act.{Act}
 use Rattle.run_trace.specs.declared.entry.Act.TheVariants.{Boot, Run, Take, Move}
@@ -28,11 +28,12 @@ use Rattle.run_trace.specs.Names.{is_tid, tid_of}
 use Rattle.run_trace.specs.Program.{Program, nodes_of}
 use Rattle.run_trace.specs.Guests.{Solo, Thread, heap_of}
 use Rattle.run_trace.specs.Calls.{refusal}
+use Rattle.run_trace.specs.Bubbles.{is_listed, not_filling}
 use Rattle.run_trace.specs.Local.{Local, fresh}
 use Rattle.run_trace.specs.Cluster.{Net, fresh_net}
 use Rattle.run_trace.specs.Trace.{IsRun, net_after_trace}
 use Rattle.run_trace.specs.Holding.{IsOn}
-use Rattle.run_trace.specs.Spots.{Stage, Asks, Detaches, Signals, Life, On, Moving, Spot, Spots, update, creator_served, Going, signal_asked, sent_stage, placing_stage, solo_of, its_call, its_refusal, going_by_call, wakes_heard, sets_going, set_going, heard_at, judged_life, told_stage, took_life, decided_going, gave_life, shown_life, ran_stage, stage_of_call, asked_stage, passed_stage, at_first, after_label, after_labels}
+use Rattle.run_trace.specs.Spots.{Stage, Asks, Detaches, Signals, Life, On, Moving, Spot, Spots, update, creator_served, Going, signal_asked, sent_stage, placing_stage, entering_stage, solo_of, its_call, its_refusal, going_by_call, wakes_heard, sets_going, set_going, heard_at, judged_life, told_stage, took_life, decided_going, gave_life, shown_life, ran_stage, stage_of_call, asked_stage, passed_stage, at_first, after_label, after_labels}
 use Rattle.run_trace.specs.World.{World, world_after}
 use Rattle.trace_laws.specs.Obeys.{Obey, world_at, ObeyEach, AgreesRule}
 use Rattle.run_trace.specs.Rules.{Occasion, saying, LifeRule, spots_of}
@@ -42,7 +43,7 @@ use Rattle.run_trace.specs.Talks.{is_first}
 use Rattle.run_trace.specs.Stands.{Stands, word_subject, word_of, words_of, words_about, Word, A_want, A_turn, An_over, count_by, one_want, one_turn, one_over, one_if, times_in, Travels, Line, Line_shown, Joins as Joins_word, Detaching, Signalling, Reply as Reply_word, Ended_word}
 use Rattle.trace_laws.proofs.Lists.Parts.{Tells}
 use Rattle.trace_laws.proofs.Lives.Signals.{OfSignals, answered_by, signal_by, signal_asked_by}
-use Rattle.trace_laws.proofs.Lives.Goings.{MayGo, Wakes, IsSent, Joins, GoesRightly, call_goes, heard_goes, known_goes}
+use Rattle.trace_laws.proofs.Lives.Goings.{MayGo, Wakes, IsSent, IsSentOn, Joins, GoesRightly, call_goes, heard_goes, known_goes}
 use Rattle.trace_laws.proofs.Underway.Simulate.{event_below, first_tells}
 use Rattle.trace_laws.proofs.Outcomes.Wholes.{Whole, run_whole, starts}
 use Rattle.trace_laws.proofs.Outcomes.Stillness.{is_there}
@@ -85,9 +86,13 @@ asked_within n id up sems =
     signal_asked_by (λ stage. asked_home (On n stage) ≤ node_in id) n id up sems
     (record { due = λ code. omega arith; answers = λ reply. omega arith; queues = omega arith }) (omega arith)
 
-sent_asks : (n : ℕ) (itself : Bool) (to : ℕ) (life : Life) → asked_home (On n (sent_stage n itself to life)) ≡ 0
-sent_asks n true to life = refl
-sent_asks n false to life = refl
+sent_asks : (n : ℕ) (itself : Bool) (to : ℕ) (listed : Bool) → asked_home (On n (sent_stage itself to listed)) ≡ 0
+sent_asks n true to listed = refl
+sent_asks n false to listed = refl
+
+entering_asks : (n : ℕ) (o : Option Reply) → asked_home (On n (entering_stage o)) ≡ 0
+entering_asks n None = refl
+entering_asks n (Some reply) = refl
 
 placing_asks : (n : ℕ) (c : Call) (o : Option ℕ) → asked_home (On n (placing_stage c o)) ≡ 0
 placing_asks n c None = refl
@@ -97,7 +102,8 @@ passed_asks : (p : Program) (n : ℕ) (t : Tid) (w : Spots) (c : Call) → asked
 passed_asks p n t w (Isomalloc len) = none_within _ 0 (placing_asks n (Isomalloc len) (place (heap_of (solo_of t w)) (rounded len)))
 passed_asks p n t w (SemP id) = asked_within n id false (w.sems n)
 passed_asks p n t w (SemV id) = asked_within n id true (w.sems n)
-passed_asks p n t w (Migrate name to) = none_within _ 0 (sent_asks n (eqb name (tid_value t)) to (w.threads (tid_of name)).life)
+passed_asks p n t w (Migrate name to) = none_within _ 0 (sent_asks n (eqb name (tid_value t)) to (is_listed (tid_of name) (w.forests n)))
+passed_asks p n t w (CreateIn bubble entry argument priority) = none_within _ 0 (entering_asks n (not_filling p n bubble (w.forests n)))
 passed_asks p n t w c = grind arith
 
 -- the checks of a call refuse a home, and a semaphore's node, that is no node
@@ -148,13 +154,14 @@ asks_on p w u s h k = asks_with p w u s h (omega (arith, k, h u))
 creator_asks : (p : Program) (n : ℕ) (t : Tid) (why : Why) (w : Tid → Spot) → AllAsk p w → AllAsk p (creator_served n t why w)
 creator_asks p n t why.Main w h = h
 creator_asks p n t (why.Create by) w h = asks_with p w by _ h (first_node p)
-creator_asks p n t (why.Inside by bubble) w h = h
+creator_asks p n t (why.Inside by bubble) w h = asks_with p w by _ h (first_node p)
 creator_asks p n t (why.Service by count) w h = h
 
 -- whoever is set going asks for no home
 going_asks : (old new : Life) → MayGo old new → asked_home new ≡ 0
 going_asks old new (Wakes h m id e f) = ap asked_home f ∙ answered_by (λ stage. asked_home (On m stage) ≡ 0) h m id (replies.Value 0) (signals_ask h m id)
 going_asks old new (IsSent m to e f) = ap asked_home f
+going_asks old new (IsSentOn m other to e f) = ap asked_home f
 going_asks old new (Joins m u reply second e f) = ap asked_home f
 
 set_asks : (p : Program) (going : Going) (w : Tid → Spot) → GoesRightly going w → AllAsk p w → AllAsk p (set_going going w)
@@ -184,7 +191,7 @@ label_asks p q n (Known t) w ok agrees h =
     asks_with p (set_going going w.spots.threads) t _ (set_asks p going w.spots.threads (known_goes p w.spots agrees n t) h) (first_node p)
 label_asks p q n (Shown t) w ok agrees h = asks_on p w.spots.threads t _ h (shown_asks (w.spots.threads t).life)
 label_asks p q n (Halted t) w ok agrees h = asks_with p w.spots.threads t _ h (first_node p)
-label_asks p q n (Left t to) w ok agrees h = asks_with p w.spots.threads t _ h ok.1
+label_asks p q n (Left t to) w ok agrees h = asks_with p w.spots.threads t _ h ok.2
 label_asks p q n (Came t) w ok agrees h = asks_with p w.spots.threads t _ h (first_node p)
 label_asks p q n (Decided t count first) w ok agrees h = decided_asks p n t first w.spots.threads h
 label_asks p q n (Dropped t count reply) w ok agrees h = h

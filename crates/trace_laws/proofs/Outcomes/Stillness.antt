@@ -1,28 +1,27 @@
--- Where nothing is ready and nothing is under way: each thread that lives waits by its rule.
-use Rattle.std.proofs.Common.{◌≡◌, ℕ, zero, suc, List, [], ◌∷◌, Option, Some, None, false, refl, sym, ap, ◌∙◌, subst, map, inl, inr, arith}
+-- Where no list has an entity and nothing is under way: each thread that lives waits by its rule.
+use Rattle.std.proofs.Common.{◌≡◌, ℕ, zero, suc, List, [], ◌∷◌, Option, Some, None, false, refl, sym, ap, ◌∙◌, subst, inl, inr, arith}
 use Rattle.std.specs.Prelude.{slice_get, All}
 use Rattle.std.proofs.lemmas.Option.{slice_get_within, get_or_from_slice_get}
 use Rattle.std.proofs.lemmas.Bool.{eq-eqb}
 use Rattle.slot_space.specs.declared.names.Tid.{Tid}
 use Rattle.marcel_sync.specs.declared.sem.SemRow.{SemRow}
 use Rattle.marcel_sync.specs.Semaphores.{IsSemaphore, node_in, number_in, waiters_of, waiters_at}
-use Rattle.run_trace.specs.declared.node.ReadyRow.{ReadyRow}
+use Rattle.bubbles.specs.Forests.{ForestView}
+use Rattle.bubbles.specs.Standing.{IsHeldBack}
 use Rattle.run_trace.specs.Names.{is_tid}
-use Rattle.run_trace.specs.Program.{Program, tree_of}
+use Rattle.run_trace.specs.Program.{Program}
 use Rattle.run_trace.specs.Guests.{Guest, Thread, waits}
 use Rattle.run_trace.specs.Cluster.{Net}
 use Rattle.run_trace.specs.Holding.{IsOn}
 use Rattle.run_trace.specs.Keyed.{item_of}
-use Rattle.run_trace.specs.RunLists.{best_on}
 use Rattle.run_trace.specs.Outcome.{Lives, AllLinksEmpty, IsDown, WaitsByItsRule, IsStuck}
 use Rattle.run_trace.specs.Spots.{Stage, Ready, Seeks, Stays, Shows, Shown_there, Asks, Awaits, Answered, Detaches, Signals, Queues, Life, Unborn, On, Moving, Noting, Gone, Response, Spots}
-use Rattle.run_trace.specs.Stands.{Stands, listed, listed_name, row_part, row_in_life, link_part, on_link, ways_of, Way, words_of, words_about, phase_of, phase_at, During, thread_in_life, wait_of, waiter_name, waiter_in_life, itself}
+use Rattle.run_trace.specs.Stands.{Stands, link_part, on_link, ways_of, Way, words_of, words_about, phase_of, phase_at, During, wait_of, waiter_name, waiter_in_life, itself}
 use Rattle.run_trace.specs.Items.{Thread as Subject_of, Turns}
-use Rattle.run_trace.specs.declared.entry.Act.TheVariants.{Boot}
 use Rattle.trace_laws.proofs.Lists.InTurn.{none_claims, none_wants, none_listed}
 use Rattle.trace_laws.proofs.Lists.Parts.{thread_was, seeker_was}
+use Rattle.trace_laws.proofs.Lists.SeatedLabels.{held_back}
 use Rattle.trace_laws.proofs.Lists.Stages.{resting, rest_thread}
-use Rattle.trace_laws.proofs.Underway.Simulate.{asked_of, picked_ready}
 use Rattle.trace_laws.proofs.Outcomes.Wholes.{settled_at}
 use Rattle.trace_laws.proofs.Outcomes.Consequences.{OnNode, on_node_is}
 use Rattle.trace_laws.specs.Obeys.{IsSettled}
@@ -59,13 +58,13 @@ module _ (p : Program) (w : Spots) (net : Net) (s : Stands p w net) where
       let none : (i j : ℕ) → words_about (words_of j (net.links i j)) Turns ≡ [] = λ i j. ap (λ ps. words_about (words_of j ps) Turns) (empty i j) in
       (none_claims s.turns none (λ i. refl) n, none_wants s.turns none (λ i. refl) n, none_listed s.turns none (λ i. refl))
 
-  quiet : ((n : ℕ) → (net.nodes n).run_lists.rows ≡ []) → AllLinksEmpty net → ((n : ℕ) → w.halts n ≡ false) → (t : Tid) → WaitsByItsRule w (w.threads t).life
+  quiet : ((n : ℕ) → (net.nodes n).forest.lists.rows ≡ []) → AllLinksEmpty net → ((n : ℕ) → w.halts n ≡ false) → (t : Tid) → WaitsByItsRule w t (w.threads t).life
   quiet rows empty going t = by (w.threads t).life refl (settled_at p w net s t)
     where
       v : Response
       v = (w.threads t).verdict
 
-      sent : (life : Life) (x : Way) → (w.threads t).life ≡ life → ways_of t life v (w.threads t).guest ≡ x ∷ [] → WaitsByItsRule w life
+      sent : (life : Life) (x : Way) → (w.threads t).life ≡ life → ways_of t life v (w.threads t).guest ≡ x ∷ [] → WaitsByItsRule w t life
       sent life x e h = absurd (no_way empty t x [] (ap (λ z. ways_of t z v (w.threads t).guest) e ∙ h))
 
       awaited : (m : ℕ) (u : Tid) → (w.threads t).life ≡ On m (Awaits u) → Lives (w.threads u).life
@@ -86,25 +85,25 @@ module _ (p : Program) (w : Spots) (net : Net) (s : Stands p w net) where
           let queued : waiter_in_life h k t (w.threads t).life ≡ Some (t, m) = ap (waiter_in_life h k t) e ∙ (rw (eq-eqb h h refl, eq-eqb k k refl) refl) in
           down_row (w.sems h) k t (t, m) (s.agrees.sems h) ((s.agrees.queues h k).shows t ∙ queued)
 
-      ready : (m : ℕ) → (w.threads t).life ≡ On m Ready → ⊥
+      -- where no list has an entity, the one place of a thread is in a bubble
+      ready : (m : ℕ) → (w.threads t).life ≡ On m Ready → IsHeldBack t (w.forests m)
       ready m e =
-          let none : item_of is_tid listed_name (map listed (net.nodes m).run_lists.rows) t ≡ None = ap (λ (rs : List ReadyRow). item_of is_tid listed_name (map listed rs) t) (rows m) in
-          let some : row_part m t (w.threads t) ≡ Some (record { tid = t; list = 0; priority = (w.threads t).guest.priority }) = ap (λ z. row_in_life m t z (w.threads t).guest.priority) e ∙ (rw (eq-eqb m m refl) refl) in
-          absurd (cc (none, (s.nodes m).rows.shows t, some))
+          let none : (w.forests m).lists.rows ≡ [] = ap (λ (f : ForestView). f.lists.rows) (sym (s.nodes m).forest) ∙ rows m in
+          held_back p m t w (s.seated m) none e
 
       seeks : (m : ℕ) → (w.threads t).life ≡ On m Seeks → ⊥
       seeks m e =
           let none : item_of is_tid itself (net.nodes m).talk.claims t ≡ None = ap (λ ts. item_of is_tid itself ts t) (no_claims empty m).0 in
           cc (none, (s.nodes m).seekers.shows t, seeker_was m t (w.threads t) e)
 
-      by : (life : Life) → (w.threads t).life ≡ life → IsSettled (w.threads t).life → WaitsByItsRule w life
+      by : (life : Life) → (w.threads t).life ≡ life → IsSettled (w.threads t).life → WaitsByItsRule w t life
       by Unborn e k = tt
       by (Moving m to) e k = sent (Moving m to) _ e refl
       by (Noting m end) e k = tt
       by (Gone end) e k = tt
       by (On m (Awaits u)) e k = awaited m u e
       by (On m (Queues id)) e k = queued_down m id e
-      by (On m Ready) e k = absurd (ready m e)
+      by (On m Ready) e k = ready m e
       by (On m Seeks) e k = absurd (seeks m e)
       by (On m Stays) e k = absurd (cc (s.agrees.stays t m e, going m))
       by (On m (Shows bytes)) e k = sent (On m (Shows bytes)) _ e refl
@@ -116,7 +115,7 @@ module _ (p : Program) (w : Spots) (net : Net) (s : Stands p w net) where
       by (On m stage) e k = absurd (cc (resting m stage (subst (λ z. IsSettled z) e k)))
 
   -- nothing is ready, nothing is under way, none has halted, and a thread lives
-  pub stuck : ((n : ℕ) → (net.nodes n).run_lists.rows ≡ []) → AllLinksEmpty net → ((n : ℕ) → (net.nodes n).halted ≡ false) → (t : Tid) → Lives (w.threads t).life → IsStuck w net
+  pub stuck : ((n : ℕ) → (net.nodes n).forest.lists.rows ≡ []) → AllLinksEmpty net → ((n : ℕ) → (net.nodes n).halted ≡ false) → (t : Tid) → Lives (w.threads t).life → IsStuck w net
   stuck rows empty going t lives =
       let still : (n : ℕ) → w.halts n ≡ false = λ n. sym (s.nodes n).halted ∙ going n in
       record {
@@ -150,10 +149,6 @@ module _ (p : Program) (w : Spots) (net : Net) (s : Stands p w net) where
   lives_there t n x h =
       let on : OnNode n (w.threads t) x = on_node_is n t (w.threads t) x (sym ((s.nodes n).threads.shows t) ∙ h) in
       subst (λ z. Lives z) (sym on.life) tt
-
-  pub picked_there : (n vp : ℕ) (r : ReadyRow) → best_on (tree_of p) vp (net.nodes n).run_lists.rows ≡ Some r → (x : Thread) × IsOn net n r.tid x
-  picked_there n vp r picked =
-      (waits (wait_of n Ready) (w.threads r.tid).guest, (s.nodes n).threads.shows r.tid ∙ ap (λ z. thread_in_life n z (w.threads r.tid).guest) (picked_ready p w net s (asked_of Boot None) n vp r picked) ∙ (rw (eq-eqb n n refl) refl))
 
   -- a thread has called halt exactly where a node says so
   pub halts_are : (n : ℕ) → (net.nodes n).halted ≡ w.halts n

@@ -8,7 +8,8 @@ use Rattle.slot_space.specs.Addresses.{starting_slots}
 use Rattle.slot_space.specs.declared.names.Tid.{Tid}
 use Rattle.slot_space.proofs.Lemmas.{has-filter, has-run}
 use Rattle.run_trace.specs.declared.entry.Entry.{Entry}
-use Rattle.run_trace.specs.Program.{Program, nodes_of, slots_in}
+use Rattle.bubbles.proofs.Lemmas.{covered_empty}
+use Rattle.run_trace.specs.Program.{Program, nodes_of, slots_in, tree_of}
 use Rattle.run_trace.specs.Local.{EventSoFar}
 use Rattle.run_trace.specs.Cluster.{Event, Net, net_after, fresh_net, next_packet}
 use Rattle.run_trace.specs.Trace.{IsRun, event_of, events_of, net_after_trace}
@@ -20,6 +21,7 @@ use Rattle.run_trace.specs.Talks.{silent}
 use Rattle.run_trace.specs.Holding.{EachHeldOnce}
 use Rattle.run_trace.specs.Alone.{EachRunsAlone}
 use Rattle.run_trace.specs.Legality.{AfterEach}
+use Rattle.trace_laws.proofs.Lists.SeatedLabels.{seated_first}
 use Rattle.trace_laws.proofs.Outcomes.Consequences.{one_holder, runs_alone}
 use Rattle.trace_laws.proofs.Underway.Simulate.{Simulates, simulates, event, event_made}
 use Rattle.trace_laws.specs.Obeys.{IsSettled, Obey, AgreesRule, ObeysFrom}
@@ -52,7 +54,7 @@ pub starts : (p : Program) → Stands p (at_first p) (fresh_net p)
 starts p = record {
   nodes = λ n. record {
     threads = record { apart = tt; shows = λ u. refl };
-    rows = record { apart = tt; shows = λ u. refl };
+    forest = refl;
     busy = record { apart = tt; shows = λ u. refl };
     seekers = record { apart = tt; shows = λ u. refl };
     births = refl;
@@ -75,7 +77,8 @@ starts p = record {
     slots = λ t x. elim (ltb x (slots_in p)) as (λ v. false ≡ is_thread t (cond v (Of_node (x % nodes_of p)) Nobody)) [ true ↦ refl | false ↦ refl ];
     blocks = λ t. tt;
   };
-  rising = λ n. (tt, tt);
+  seated = seated_first p;
+  covered = λ n. covered_empty (tree_of p);
 }
 
 -- ## At the end of an entry no thread is in the midst of anything
@@ -94,7 +97,7 @@ pub record Whole (p : Program) (old : Spots) (base : Net) (trace : List Entry) :
 
 pub run_whole : (p : Program) (old : Spots) (base : Net) → Stands p old base → (trace : List Entry) → IsRun p base trace → Whole p old base trace
 run_whole p old base s [] r = record {
-  obeys = record { solo = tt; holders = tt; life = tt; replies = tt; grants = tt; picks = tt; carried = tt; settled = tt };
+  obeys = record { solo = tt; holders = tt; life = tt; replies = tt; grants = tt; carried = tt; settled = tt };
   console = refl;
   stands = s;
   agrees = tt;
@@ -114,7 +117,6 @@ run_whole p old base s (x ∷ xs) r =
         life = (was.obeys.life, now.allowed.life);
         replies = (was.obeys.replies, now.allowed.replies);
         grants = (was.obeys.grants, now.allowed.grants);
-        picks = (was.obeys.picks, now.picks);
         carried = (was.obeys.carried, now.sends);
         settled = (was.obeys.settled, settled_at p (spots_of p old (x ∷ xs)) (net_after p net e) now.stands);
       };

@@ -1,39 +1,45 @@
 -- Each event of the machine is an entry by the rules of the labels alone, and there is no other.
-use Rattle.std.proofs.Common.{◌≡◌, ℕ, List, [], ◌∷◌, ◌++◌, map, Option, Some, None, Bool, true, false, eqb, cond, refl, sym, ap, ◌∙◌, subst}
+use Rattle.std.proofs.Common.{◌≡◌, ℕ, zero, suc, ◌<◌, List, [], ◌∷◌, ◌++◌, length, arith, Option, Some, None, Bool, true, false, eqb, cond, refl, sym, ap, ◌∙◌, subst}
 use Rattle.std.specs.Prelude.{⊤, nat_lt}
 use Rattle.std.specs.Map.{lookup}
 use Rattle.std.proofs.Math.Path.{fun_ext}
-use Rattle.std.proofs.lemmas.Bool.{eqb-true, and_parts}
+use Rattle.std.proofs.lemmas.Bool.{eqb-true, ltb-true, and_parts}
 use Rattle.run_trace.specs.declared.entry.Act.{Act}
 use Rattle.run_trace.specs.declared.entry.Act.TheVariants.{Boot, Run as RunThread, Take, Move}
 use Rattle.run_trace.specs.declared.entry.Entry.{Entry}
 use Rattle.run_trace.specs.declared.label.Label.{Label}
+use Rattle.run_trace.specs.declared.label.Label.TheVariants.{Down, Burst}
 use Rattle.run_trace.specs.declared.packet.Packet.{Packet}
+use Rattle.slot_space.specs.declared.names.Tid.{Tid}
+use Rattle.levels.specs.Choice.{has_ready}
+use Rattle.bubbles.specs.declared.bubble.Shift.{Shift}
+use Rattle.bubbles.specs.Changes.{PicksEnd}
+use Rattle.bubbles.specs.Forests.{ForestView}
+use Rattle.bubbles.specs.Picking.{step, Picks}
 use Rattle.run_trace.specs.Names.{is_tid}
-use Rattle.run_trace.specs.Program.{Program, nodes_of, tree_of}
-use Rattle.run_trace.specs.RunLists.{RunLists, is_listed}
+use Rattle.run_trace.specs.Guests.{Thread}
+use Rattle.run_trace.specs.Program.{Program, nodes_of, tree_of, processors_of}
+use Rattle.run_trace.specs.Bubbles.{is_listed}
 use Rattle.run_trace.specs.Local.{Local, EventSoFar, nothing, with_booted}
-use Rattle.run_trace.specs.Steps.{say, arrive, thread_in, birth_in, slots_out, birth}
-use Rattle.run_trace.specs.Machine.{local_event, acts, is_range, boots, boots_in, free_slot, run_picked, run_found, moves_found}
+use Rattle.run_trace.specs.Steps.{say, enter, thread_in, birth_in, slots_out, birth, thread_at, choose, shifted}
+use Rattle.run_trace.specs.Machine.{local_event, acts, is_range, boots, boots_in, free_slot, run_found, chosen_by, chooses, choice_limit, moves_found}
 use Rattle.run_trace.specs.Cluster.{Net, net_after, next_packet, after_or, IsTaken}
 use Rattle.run_trace.specs.Trace.{IsRun, Fits, net_after_trace, event_of}
 use Rattle.run_trace.specs.Rules.{Occasion, saying, spots_of}
 use Rattle.run_trace.specs.Talks.{Talk}
-use Rattle.run_trace.specs.Spots.{Spots, lowest_free, after_labels}
-use Rattle.run_trace.specs.Stands.{Stands, listed}
-use Rattle.trace_laws.proofs.Lists.Arriving.{picks_it, on_list_is, list_is_all}
-use Rattle.run_trace.specs.World.{World, world_after, list_after_all}
+use Rattle.run_trace.specs.Spots.{Spots, lowest_free, after_label, after_labels}
+use Rattle.run_trace.specs.Stands.{Stands}
+use Rattle.run_trace.specs.World.{World, world_after}
 use Rattle.run_trace.specs.Obeying.{may_act, first_birth, Starts, GoesOn, IsEntry, KeepsRules}
 use Rattle.trace_laws.specs.Obeys.{world_at}
 use Rattle.trace_laws.proofs.Underway.Midst.{NextAll, Obeyed}
 use Rattle.trace_laws.proofs.Underway.Simulate.{asked_of, Simulates, Beyond, simulates, event, event_made, possible}
-use Rattle.trace_laws.proofs.Outcomes.Stillness.{picked_there}
-use Rattle.trace_laws.proofs.Outcomes.RunLists.{listed_there}
+use Rattle.trace_laws.proofs.Outcomes.RunLists.{listed_there, picked_there, pick_ends}
 use Rattle.trace_laws.proofs.Merging.Determined.{fits_exactly}
 use Rattle.trace_laws.proofs.Outcomes.Wholes.{run_whole}
 use Rattle.trace_laws.proofs.Rules.OneTrace.{one_entry}
 use Rattle.run_trace.specs.Links.{left_after, packets_to}
-use Rattle.run_trace.specs.Items.{Item, Says, Runs, Progress, has_to, worked_off, said, said_all, takes_packet, taking}
+use Rattle.run_trace.specs.Items.{Item, Says, Chooses, Progress, has_to, worked_off, said, said_all, takes_packet, taking}
 use Rattle.run_trace.specs.Telling.{entry_end, after_entry, world_of}
 
 -- ## The labels
@@ -48,17 +54,21 @@ goes_on p q n (l ∷ ls) w r o k e = (
 
 -- ## What the entry has sent at its end is told by its packet and its labels alone
 
--- one that begins with a label has to say it, and is past it then
+-- one that begins with a label, or with a choice, has to say it, and is past it then
 abbrev IsSaid : Item → Type 0
 IsSaid (Says l) = ⊤
-IsSaid (Runs t vp) = ⊤
+IsSaid (Chooses vp) = ⊤
 IsSaid _ = ⊥
 
 first_said : (p : Program) (n : ℕ) (ls : List Label) (w v : Spots) (i : Item) (talk : Talk) → IsSaid i → (worked_off n v (said_all p n ls w (has_to (i ∷ []) talk))).to_do ≡ [] → said_all p n ls w (has_to [] talk) ≡ said_all p n ls w (has_to (i ∷ []) talk)
 first_said p n [] w v (Says m) talk k e = absurd (cc e)
-first_said p n [] w v (Runs t vp) talk k e = absurd (cc e)
+first_said p n [] w v (Chooses vp) talk k e = absurd (cc e)
+first_said p n (Down bubble list ∷ ls) w v (Says m) talk k e = first_said p n ls (after_label p n (Down bubble list) w) v (Says m) talk k e
+first_said p n (Down bubble list ∷ ls) w v (Chooses vp) talk k e = first_said p n ls (after_label p n (Down bubble list) w) v (Chooses vp) talk k e
+first_said p n (Burst bubble list ∷ ls) w v (Says m) talk k e = first_said p n ls (after_label p n (Burst bubble list) w) v (Says m) talk k e
+first_said p n (Burst bubble list ∷ ls) w v (Chooses vp) talk k e = first_said p n ls (after_label p n (Burst bubble list) w) v (Chooses vp) talk k e
 first_said p n (l ∷ ls) w v (Says m) talk k e = refl
-first_said p n (l ∷ ls) w v (Runs t vp) talk k e = refl
+first_said p n (l ∷ ls) w v (Chooses vp) talk k e = refl
 first_said p n ls w v i talk k e = absurd k
 
 first_is : (p : Program) (n : ℕ) (ls : List Label) (w v : Spots) (i : Item) (talk : Talk) (r : Progress) → IsSaid i → r ≡ has_to (i ∷ []) talk → (worked_off n v (said_all p n ls w r)).to_do ≡ [] → said_all p n ls w (has_to [] talk) ≡ said_all p n ls w r
@@ -75,7 +85,7 @@ beginning_is p n ls w v false talk r same e = ap (said_all p n ls w) (sym same)
 taking_is : (p : Program) (stamp n : ℕ) (a : Act) (ls : List Label) (w : World) (v : Spots) (r : Progress) → Starts p stamp n a w r → (worked_off n v (said_all p n ls w.spots r)).to_do ≡ []
     → said_all p n ls w.spots (taking n a w.links (w.talks n)) ≡ said_all p n ls w.spots r
 taking_is p stamp n Boot ls w v r k e = beginning_is p n ls w.spots v (eqb n 0) (w.talks n) r k e
-taking_is p stamp n (RunThread vp q) ls w v r k e = first_is p n ls w.spots v _ (w.talks n) r tt k.2 e
+taking_is p stamp n (RunThread vp q) ls w v r k e = first_is p n ls w.spots v _ (w.talks n) r tt k.1 e
 taking_is p stamp n (Take from) ls w v r k e = ap (λ z. said_all p n ls w.spots (takes_packet n from z (w.talks n))) k.1 ∙ ap (said_all p n ls w.spots) (sym k.3)
 taking_is p stamp n (Move t to) ls w v r k e = first_is p n ls w.spots v _ (w.talks n) r tt k.1 e
 
@@ -93,7 +103,7 @@ may_is p n s (Move t to) = refl
 module _ (p : Program) (net : Net) (n : ℕ) (d : EventSoFar) where
   -- the node has begun
   boots_booted : boots p n (nothing (net.nodes n)) ≡ d → d.node.booted ≡ true
-  unfolding birth arrive thread_in birth_in slots_out say
+  unfolding birth enter thread_in birth_in slots_out say
   boots_booted e = by (eqb n 0) e
     where
       by_slot : (o : Option ℕ) → boots_in p n o (with_booted (nothing (net.nodes n))) ≡ d → d.node.booted ≡ true
@@ -139,7 +149,7 @@ each_part part own p net stamp n round a o d is k m = elim (eqb n m) as (λ v. e
 -- what the labels tell after an event is what nodes and links have
 tells_then : (p : Program) (w : Spots) (net : Net) → Stands p w net → (stamp n round : ℕ) (a : Act) (o : Option Packet) (d : EventSoFar) → local_event p n (net.nodes n) a o ≡ Some d → o ≡ next_packet net n a → IsTaken stamp a o
     → world_at (after_labels p n d.labels w) (net_after p net (event stamp n round a o d)) ≡ after_entry p (entry_with stamp n round a d.labels) (world_at w net)
-tells_then p w net st stamp n round a o d is h before = λ i. record { spots = after_labels p n d.labels w; lists = lists i; links = links i; begun = begun i; talks = talks i }
+tells_then p w net st stamp n round a o d is h before = λ i. record { spots = after_labels p n d.labels w; links = links i; begun = begun i; talks = talks i }
   where
     k : Simulates p w net (event stamp n round a o d)
     k = simulates p w net stamp n round a o d st is h
@@ -156,9 +166,6 @@ tells_then p w net st stamp n round a o d is h before = λ i. record { spots = a
 
     told : World
     told = after_entry p (entry_with stamp n round a d.labels) (world_at w net)
-
-    lists : (λ m. map listed (after.nodes m).run_lists.rows) ≡ told.lists
-    lists = fun_ext (each_part (λ s. map listed s.run_lists.rows) (list_after_all p n d.labels w) p net stamp n round a o d is (ap (λ (z : RunLists). map listed z.rows) b.run_lists ∙ list_is_all p n d.labels w (net.nodes n).run_lists))
 
     links : after.links ≡ told.links
     links = fun_ext (λ i. fun_ext (λ j. ap (λ z. cond (eqb n j) (left_after i a (net.links i j)) (net.links i j) ++ cond (eqb n i) (packets_to j stamp z) []) (ap (λ (r : Progress). r.sends) ended)))
@@ -196,6 +203,33 @@ run_keeps p old base s (x ∷ xs) r =
 
 -- ## What keeps the rules is a run
 
+-- a choice changes no thread
+same_thread : (t : Tid) (vp : ℕ) (m : Shift) (d : EventSoFar) → thread_at t (shifted vp m d) ≡ thread_at t d
+unfolding shifted choose say
+same_thread t vp m d = refl
+
+same_forest : (vp : ℕ) (m : Shift) (d : EventSoFar) → (shifted vp m d).node.forest ≡ (step vp d.node.forest).after
+unfolding shifted choose say
+same_forest vp m d = refl
+
+-- where the choices of a processor come to a thread that is there, within so many moves, it runs
+runs_by : (p : Program) (n vp q k : ℕ) (d : EventSoFar) (moves : List Shift) (t : Tid) (x : Thread) (after : ForestView) → Picks vp d.node.forest moves (Some t) after → length moves < k → thread_at t d ≡ Some x
+    → (e : EventSoFar) × (chooses p n vp q k d ≡ Some e)
+runs_by p n vp q zero d moves t x after picks few there = absurd (omega (arith, few))
+runs_by p n vp q (suc k) d [] t x after picks few there =
+    (_, ap (λ z. chosen_by p n vp q (chooses p n vp q k) z d) picks.0 ∙ ap (λ z. run_found p n vp q t z d) there)
+runs_by p n vp q (suc k) d (m ∷ moves) t x after picks few there =
+    let rest : (e : EventSoFar) × (chooses p n vp q k (shifted vp m d) ≡ Some e)
+    = runs_by p n vp q k (shifted vp m d) moves t x after (subst (λ f. Picks vp f moves (Some t) after) (sym (same_forest vp m d)) picks.1) (omega (arith, few)) (same_thread t vp m d ∙ there) in
+    (rest.0, ap (λ z. chosen_by p n vp q (chooses p n vp q k) z d) picks.0 ∙ rest.1)
+
+-- a processor of the node
+range_processor : (p : Program) (n vp q : ℕ) (begun : Bool) → may_act p n begun (RunThread vp q) ≡ true → vp < processors_of p
+range_processor p n vp q begun h =
+    let a = and_parts (nat_lt n (nodes_of p)) _ h in
+    let b = and_parts begun _ a.1 in
+    ltb-true vp (processors_of p) (and_parts (nat_lt vp (processors_of p)) _ b.1).0
+
 module _ (p : Program) (w : Spots) (net : Net) (st : Stands p w net) where
   takes_by : (stamp n : ℕ) (a : Act) (first : Progress) → Starts p stamp n a (world_at w net) first → IsTaken stamp a (next_packet net n a)
   takes_by stamp n Boot first o = refl
@@ -203,15 +237,22 @@ module _ (p : Program) (w : Spots) (net : Net) (st : Stands p w net) where
   takes_by stamp n (Move t to) first o = refl
   takes_by stamp n (Take from) first o = subst (λ z. IsTaken stamp (Take from) z) (sym o.1) o.2
 
-  acts_by : (stamp n : ℕ) (a : Act) (first : Progress) → Starts p stamp n a (world_at w net) first → (d : EventSoFar) × (acts p n (net.nodes n) a (next_packet net n a) ≡ Some d)
-  acts_by stamp n Boot first o = (_, refl)
-  acts_by stamp n (RunThread vp q) first o =
-      let r = picks_it (tree_of p) vp (net.nodes n).run_lists.rows o.0 (st.rising n).0 o.1 in
-      let k = picked_there p w net st n vp r.0 r.1 in
-      (_, ap (λ z. run_picked p n vp q z (net.nodes n)) r.1 ∙ ap (λ z. run_found p n vp q r.0.tid z (net.nodes n)) k.1)
-  acts_by stamp n (Take from) first o = (_, ap (λ z. acts p n (net.nodes n) (Take from) z) o.1)
-  acts_by stamp n (Move t to) first o =
-      let on : is_listed t (net.nodes n).run_lists.rows ≡ true = on_list_is t (net.nodes n).run_lists.rows ∙ o.0 in
+  -- a processor of whose lists one has an entity runs a thread
+  pub run_there : (n vp q : ℕ) → vp < processors_of p → has_ready (tree_of p) vp (net.nodes n).forest.lists.rows ≡ true
+      → (d : EventSoFar) × (chooses p n vp q (choice_limit (net.nodes n).forest) (nothing (net.nodes n)) ≡ Some d)
+  run_there n vp q below ready =
+      let f : ForestView = (net.nodes n).forest in
+      let k : PicksEnd vp f = pick_ends p w net st n vp below ready in
+      let there = picked_there p w net st n vp k.moves k.thread k.after k.picks in
+      runs_by p n vp q (choice_limit f) (nothing (net.nodes n)) k.moves k.thread there.0 k.after k.picks (omega (arith, k.few)) there.1
+
+  acts_by : (stamp n : ℕ) (begun : Bool) (a : Act) (first : Progress) → may_act p n begun a ≡ true → Starts p stamp n a (world_at w net) first → (d : EventSoFar) × (acts p n (net.nodes n) a (next_packet net n a) ≡ Some d)
+  acts_by stamp n begun Boot first may o = (_, refl)
+  acts_by stamp n begun (RunThread vp q) first may o =
+      run_there n vp q (range_processor p n vp q begun may) (ap (λ (z : ForestView). has_ready (tree_of p) vp z.lists.rows) (st.nodes n).forest ∙ o.0)
+  acts_by stamp n begun (Take from) first may o = (_, ap (λ z. acts p n (net.nodes n) (Take from) z) o.1)
+  acts_by stamp n begun (Move t to) first may o =
+      let on : is_listed t (net.nodes n).forest ≡ true = ap (is_listed t) (st.nodes n).forest ∙ o.0 in
       let k = listed_there p w net st n t on in
       (_, ap (λ z. cond z (moves_found p t to (lookup (is_tid t) (net.nodes n).threads) (net.nodes n)) None) on ∙ ap (λ z. moves_found p t to z (net.nodes n)) k.1)
 
@@ -222,7 +263,7 @@ module _ (p : Program) (w : Spots) (net : Net) (st : Stands p w net) where
   -- the machine does exactly what the entry says
   pub fits_by : (x : Entry) → IsEntry p (world_at w net) x → Fits p net x
   fits_by x e =
-      let k = acts_by x.stamp x.node x.act e.first e.starts in
+      let k = acts_by x.stamp x.node (net.nodes x.node).booted x.act e.first e.may e.starts in
       let d : EventSoFar = k.0 in
       let o : Option Packet = next_packet net x.node x.act in
       let is : local_event p x.node (net.nodes x.node) x.act o ≡ Some d = event_by x.node x.act o d (may_is p x.node (net.nodes x.node) x.act ∙ e.may) k.1 in
@@ -235,7 +276,7 @@ module _ (p : Program) (w : Spots) (net : Net) (st : Stands p w net) where
 pub has_entry : (p : Program) (w : Spots) (net : Net) → Stands p w net → (stamp n round : ℕ) (a : Act) (first : Progress) → may_act p n (net.nodes n).booted a ≡ true → Starts p stamp n a (world_at w net) first
     → (ls : List Label) × IsEntry p (world_at w net) (entry_with stamp n round a ls)
 has_entry p w net st stamp n round a first may o =
-    let k = acts_by p w net st stamp n a first o in
+    let k = acts_by p w net st stamp n (net.nodes n).booted a first may o in
     let is : local_event p n (net.nodes n) a (next_packet net n a) ≡ Some k.0 = event_by p w net st n a (next_packet net n a) k.0 (may_is p n (net.nodes n) a ∙ may) k.1 in
     (k.0.labels, entry_is p w net st stamp n round a (next_packet net n a) k.0 is refl (takes_by p w net st stamp n a first o))
 

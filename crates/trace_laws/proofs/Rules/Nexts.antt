@@ -3,8 +3,10 @@ use Rattle.std.proofs.Common.{◌≡◌, ℕ, List, [], ◌∷◌, length, Optio
 use Rattle.slot_space.specs.Replies.{reply_code}
 use Rattle.slot_space.specs.declared.names.Tid.{Tid}
 use Rattle.iso_blocks.specs.Heap.{rounded, place, emptied}
+use Rattle.marcel_sync.specs.Semaphores.{number_in}
 use Rattle.run_trace.specs.declared.label.Label.{Label}
-use Rattle.run_trace.specs.declared.label.Label.TheVariants.{Born, Ran, Asked, Heard, Judged, Told, Took, Gave, Ended, Known, Left, Came, Shown, Halted}
+use Rattle.run_trace.specs.declared.label.Label.TheVariants.{Born, Ran, Asked, Heard, Judged, Told, Took, Gave, Ended, Known, Left, Came, Down, Burst, Gathered, Shown, Halted}
+use Rattle.run_trace.specs.declared.label.Why.{Why}
 use Rattle.run_trace.specs.declared.label.Why.TheVariants as why
 use Rattle.run_trace.specs.declared.label.Extra.{Extra}
 use Rattle.run_trace.specs.declared.label.Extra.TheVariants.{Nothing}
@@ -12,7 +14,7 @@ use Rattle.run_trace.specs.Names.{tid}
 use Rattle.run_trace.specs.Program.{Program}
 use Rattle.run_trace.specs.Guests.{Guest, stack_end, guest_slots, heap_of}
 use Rattle.run_trace.specs.declared.call.Call.{Call}
-use Rattle.run_trace.specs.declared.call.Call.TheVariants.{Create, Isomalloc, Isofree, MigrateSelf}
+use Rattle.run_trace.specs.declared.call.Call.TheVariants.{Create, CreateIn, Isomalloc, Isofree, MigrateSelf}
 use Rattle.run_trace.specs.Calls.{extra_of, place_code, slots_wanted, call_of, number_of, args_of, refusal, said_bytes}
 use Rattle.run_trace.specs.Spots.{Ready, Running, Due, Served, Seeks, Departs, Ends, Leaves, Halts, Showing, Answers, Life, On, Spots, lowest_free}
 use Rattle.run_trace.specs.Rules.{Occasion, MayJudge, MayTell, MayHear, MayTake, MayGive, MayLeave, MayCome, MayShow, MayKnow, IsReply, IsForBlock}
@@ -23,9 +25,9 @@ use Rattle.trace_laws.proofs.Lists.Births.{plain_start}
 
 -- ## The label
 
-abbrev creates_next : ℕ → Tid → (entry argument : ℕ) → Option ℕ → Spots → Label
-creates_next n t entry argument None w = Told t
-creates_next n t entry argument (Some slot) w = Born (tid n (length (w.births n))) (why.Create t) entry argument 0 (stack_end slot) slot
+abbrev creates_next : ℕ → Tid → Why → (entry argument : ℕ) → Option ℕ → Spots → Label
+creates_next n t reason entry argument None w = Told t
+creates_next n t reason entry argument (Some slot) w = Born (tid n (length (w.births n))) reason entry argument 0 (stack_end slot) slot
 
 abbrev takes_next : Tid → ℕ → Option ℕ → Label
 takes_next t count None = Told t
@@ -33,7 +35,8 @@ takes_next t count (Some first) = Took t first count
 
 -- of a thread that is served with slots
 abbrev seeks_next : ℕ → Tid → Call → Spots → Label
-seeks_next n t (Create entry argument priority) w = creates_next n t entry argument (lowest_free n 1 w) w
+seeks_next n t (Create entry argument priority) w = creates_next n t (why.Create t) entry argument (lowest_free n 1 w) w
+seeks_next n t (CreateIn name entry argument priority) w = creates_next n t (why.Inside t (number_in name)) entry argument (lowest_free n 1 w) w
 seeks_next n t (Isomalloc len) w = takes_next t (slots_wanted (Isomalloc len)) (lowest_free n (slots_wanted (Isomalloc len)) w)
 seeks_next n t c w = Told t
 
@@ -151,9 +154,13 @@ module _ (p : Program) (q : Occasion) (n : ℕ) (world : World) where
       let life : (w.threads t).life ≡ On n Seeks = ap (λ z. (w.threads z).life) (sym same) ∙ a.solo.0.0 in
       let call : call_of (w.threads t).guest.solo.state ≡ Create entry a0 a.solo.0.1 = ap (λ z. call_of (w.threads z).guest.solo.state) (sym same) ∙ a.solo.0.2 in
       rw life (rw call (rw a.grants (cc (a.life.1, same, a.solo.1, a.solo.2 ∙ sym (plain_start slot)))))
-  own_next (Born u (why.Inside by number) entry a0 a1 sp slot) t e a b = absurd a.solo.0
+  own_next (Born u (why.Inside by number) entry a0 a1 sp slot) t e a b =
+      let same : by ≡ t = cc e in
+      let life : (w.threads t).life ≡ On n Seeks = ap (λ z. (w.threads z).life) (sym same) ∙ a.solo.0.0 in
+      let call : call_of (w.threads t).guest.solo.state ≡ CreateIn a.solo.0.1 entry a0 a.solo.0.2 = ap (λ z. call_of (w.threads z).guest.solo.state) (sym same) ∙ a.solo.0.3 in
+      rw life (rw call (rw a.grants (cc (a.life.1, same, a.solo.0.4, a.solo.1, a.solo.2 ∙ sym (plain_start slot)))))
   own_next (Born u (why.Service by number) entry a0 a1 sp slot) t e a b = absurd a.solo.0
-  own_next (Ran u vp count stop) t e a b = let same : u ≡ t = cc e in absurd (not_ready n (w.threads t).life (ap (λ z. (w.threads z).life) (sym same) ∙ a.life) b)
+  own_next (Ran u vp count stop) t e a b = let same : u ≡ t = cc e in absurd (not_ready n (w.threads t).life (ap (λ z. (w.threads z).life) (sym same) ∙ a.life.0) b)
   own_next (Asked u call args bytes) t e a b =
       let same : u ≡ t = cc e in
       let one : Asked u call args bytes ≡ asked_next p u (w.threads u).guest = cc (a.solo.0, a.solo.1, a.solo.2) in
@@ -170,6 +177,9 @@ module _ (p : Program) (q : Occasion) (n : ℕ) (world : World) where
   own_next (Came u) t e a b = let same : u ≡ t = cc e in absurd (not_came n (w.threads t).life (subst (λ z. MayCome n (w.threads z).life) same a.life) b)
   own_next (Shown u) t e a b = let same : u ≡ t = cc e in absurd (not_shown n (w.threads t).life (subst (λ z. MayShow n (w.threads z).life) same a.life) b)
   own_next (Halted u) t e a b = let same : u ≡ t = cc e in ap (λ z. next_in p n u z (w.threads u).guest w) (sym a.life) ∙ ap (λ z. next p n z w) same
+  own_next (Down bubble list) t e a b = absurd (cc e)
+  own_next (Burst bubble list) t e a b = absurd (cc e)
+  own_next (Gathered bubble count) t e a b = absurd (cc e)
   own_next l t e a b = grind (arith, a.life)
 
   -- two labels by one such thread are one

@@ -3,21 +3,24 @@ use Rattle.std.proofs.Common.{◌≡◌, ℕ, List, [], ◌∷◌, map, Option, 
 use Rattle.slot_space.specs.declared.names.Tid.{Tid}
 use Rattle.rv_step.specs.declared.hart.Stop.{Stop}
 use Rattle.rv_step.specs.Step.{HartState}
+use Rattle.bubbles.specs.declared.bubble.Shift.TheVariants as shifts
+use Rattle.bubbles.specs.declared.bubble.Step.{Step}
+use Rattle.bubbles.specs.declared.bubble.Step.TheVariants.{Empty, Takes, Shifts}
+use Rattle.bubbles.specs.Picking.{step}
 use Rattle.run_trace.specs.declared.entry.Act.{Act}
 use Rattle.run_trace.specs.declared.entry.Act.TheVariants.{Boot, Run as RunThread, Take, Move}
 use Rattle.run_trace.specs.declared.entry.Entry.{Entry}
 use Rattle.run_trace.specs.declared.label.Label.{Label}
 use Rattle.run_trace.specs.declared.label.Label.TheVariants.{Ran, Decided}
 use Rattle.run_trace.specs.declared.packet.Packet.{Packet}
-use Rattle.run_trace.specs.Program.{Program, code_of, tree_of}
+use Rattle.run_trace.specs.Program.{Program, code_of}
 use Rattle.run_trace.specs.Guests.{Run, run_of}
 use Rattle.run_trace.specs.Rules.{Occasion, quantum_in, saying}
 use Rattle.run_trace.specs.Spots.{Spots, stepped}
-use Rattle.run_trace.specs.World.{Listed, World, world_after}
-use Rattle.run_trace.specs.Items.{Thread, Turns, Item, Says, Runs, Does, Serves, Grants, Decides, Ends_turn, Wants_again, Progress, has_to, worked_off, said, begins_with}
-use Rattle.run_trace.specs.Obeying.{Starts, Allows, IsBy, IsNext, GoesOn, IsEntry, occasion, KeepsRules}
+use Rattle.run_trace.specs.World.{World, world_after}
+use Rattle.run_trace.specs.Items.{Thread, Turns, Item, Says, Chooses, Does, Serves, Grants, Decides, Ends_turn, Wants_again, Progress, worked_off, said, begins_with}
+use Rattle.run_trace.specs.Obeying.{Starts, Allows, IsChoice, IsBy, IsNext, GoesOn, IsEntry, occasion, KeepsRules}
 use Rattle.trace_laws.proofs.Lives.RunLemmas.{run_is}
-use Rattle.trace_laws.proofs.Lists.Arriving.{one_picked}
 use Rattle.trace_laws.proofs.Rules.Nexts.{busy_speaks, seeker_speaks, one_next}
 use Rattle.run_trace.specs.Telling.{world_of}
 use Rattle.trace_laws.specs.Headings.{Heading, heading}
@@ -39,10 +42,17 @@ one_decision p q n count more first other t w x y =
     let none : first ≡ other = x.grants.2 ∙ sym y.grants.2 in
     ap (λ z. Decided t z first) same ∙ ap (Decided t more) none
 
+-- what is chosen says itself
+one_choice : (p : Program) (q : Occasion) (n vp : ℕ) (l m : Label) (w : World) (s : Step) → IsChoice vp s l → IsChoice vp s m → Allows p q n l w → Allows p q n m w → l ≡ m
+one_choice p q n vp l m w Empty x y a b = absurd x
+one_choice p q n vp l m w (Takes t) x y a b =
+    x.2 ∙ one_run p q n vp x.0 y.0 x.1 y.1 t w (subst (λ z. Allows p q n z w) x.2 a) (subst (λ z. Allows p q n z w) y.2 b) ∙ sym y.2
+one_choice p q n vp l m w (Shifts (shifts.Down bubble list)) x y a b = x ∙ sym y
+one_choice p q n vp l m w (Shifts (shifts.Burst bubble list)) x y a b = x ∙ sym y
+
 one_label : (p : Program) (q : Occasion) (n : ℕ) (l m : Label) (w : World) (i : Item) → IsBy n l w.spots i → IsBy n m w.spots i → Allows p q n l w → Allows p q n m w → l ≡ m
 one_label p q n l m w (Says k) x y a b = x ∙ sym y
-one_label p q n l m w (Runs t vp) x y a b =
-    x.2 ∙ one_run p q n vp x.0 y.0 x.1 y.1 t w (subst (λ z. Allows p q n z w) x.2 a) (subst (λ z. Allows p q n z w) y.2 b) ∙ sym y.2
+one_label p q n l m w (Chooses vp) x y a b = one_choice p q n vp l m w (step vp (w.spots.forests n)).what x y a b
 one_label p q n l m w (Does (Thread t)) x y a b = one_next p q n w l m t x.0 y.0 (busy_speaks n (w.spots.threads t).life x.1) a b
 one_label p q n l m w (Does Turns) x y a b = absurd (cc x.1)
 one_label p q n l m w (Serves t) x y a b = one_next p q n w l m t x.0 y.0 (seeker_speaks n (w.spots.threads t).life x.1) a b
@@ -75,7 +85,7 @@ one_way_on p q n (l ∷ ls) (m ∷ ms) w r x y =
 
 one_start : (p : Program) (stamp n : ℕ) (a : Act) (w : World) (h k : Progress) → Starts p stamp n a w h → Starts p stamp n a w k → h ≡ k
 one_start p stamp n Boot w h k x y = x ∙ sym y
-one_start p stamp n (RunThread vp q) w h k x y = x.2 ∙ ap (λ (z : Listed). has_to (Runs z.tid vp ∷ []) (w.talks n)) (one_picked (tree_of p) vp x.0 y.0 (w.lists n) x.1 y.1) ∙ sym y.2
+one_start p stamp n (RunThread vp q) w h k x y = x.1 ∙ sym y.1
 one_start p stamp n (Take from) w h k x y =
     let packet : x.0 ≡ y.0 = cc (x.1, y.1) in
     x.3 ∙ ap (λ (z : Packet). begins_with n from z.body (w.talks n)) packet ∙ sym y.3

@@ -8,8 +8,10 @@ use Rattle.slot_space.proofs.Lemmas.{found, has-minus}
 use Rattle.slot_space.specs.declared.names.Tid.{Tid}
 use Rattle.slot_space.specs.declared.names.Reply.TheVariants as replies
 use Rattle.iso_blocks.specs.Heap.{rounded, place}
+use Rattle.marcel_sync.specs.Semaphores.{number_in}
 use Rattle.run_trace.specs.declared.call.Call.{Call}
-use Rattle.run_trace.specs.declared.call.Call.TheVariants.{Create, Isomalloc}
+use Rattle.run_trace.specs.declared.call.Call.TheVariants.{Create, CreateIn, Isomalloc}
+use Rattle.run_trace.specs.declared.label.Why.{Why}
 use Rattle.run_trace.specs.declared.label.Why.TheVariants as why
 use Rattle.run_trace.specs.declared.node.Wait.TheVariants as wait
 use Rattle.run_trace.specs.declared.packet.Send.{Send}
@@ -18,7 +20,7 @@ use Rattle.run_trace.specs.Calls.{place_code, slots_wanted, call_of}
 use Rattle.run_trace.specs.Guests.{Guest, Thread, waits, newborn, stack_end, takes_slots, guest_slots, heap_of, with_placed, slots_for}
 use Rattle.run_trace.specs.Talks.{Talk}
 use Rattle.run_trace.specs.Local.{EventSoFar}
-use Rattle.run_trace.specs.Steps.{thread_at, at_thread, birth, arrive, thread_in, birth_in, slots_out, say, keep, judge_as, takes_run, decides, speaks, next_name}
+use Rattle.run_trace.specs.Steps.{thread_at, at_thread, birth, enter, thread_in, birth_in, slots_out, say, keep, judge_as, takes_run, decides, speaks, next_name}
 use Rattle.run_trace.specs.Machine.{free_slot, run_for, creates_in, creates, places, allocates_in, serves_call, serves_thread, serves, has_run_for, refuses, ends_turn, wants_again, leaves_claims, grants}
 use Rattle.trace_laws.specs.Strays.{IsHeldOnce, slots_here}
 use Rattle.run_trace.proofs.Lemmas.{is-true, is-refl, is-same, has_takes}
@@ -37,21 +39,21 @@ unfolding run
 one_slot x slot k = k
 
 -- whoever had that name here has lost what it had
-born_held : (me : ℕ) (by : Tid) (entry argument priority slot : ℕ) (d : EventSoFar) → free_slot d.node.slots.free ≡ Some slot → IsHeldOnce d.node → IsHeldOnce (birth me (why.Create by) entry argument priority slot d).node
-unfolding birth arrive thread_in birth_in slots_out say
-born_held me by entry argument priority slot d e h =
+born_held : (me : ℕ) (reason : Why) (entry argument priority slot : ℕ) (d : EventSoFar) → free_slot d.node.slots.free ≡ Some slot → IsHeldOnce d.node → IsHeldOnce (birth me reason entry argument priority slot d).node
+unfolding birth enter thread_in birth_in slots_out say
+born_held me reason entry argument priority slot d e h =
     let t : Tid = next_name me d in
     let y : Thread = waits wait.No (newborn entry argument 0 (stack_end slot) slot priority) in
     given_held t y (slot ∷ []) d.node _ refl (λ x k. found (λ s. has s d.node.slots.free) 1 slot_limit slot x e (one_slot x slot k))
     (λ u. lookup-insert is_tid is-true is-refl tid_cmp (λ a b. refl) d.node.threads t u y ∙ ap (λ v. cond v (Some y) (lookup (is_tid u) d.node.threads)) (is-same u t))
     (λ x k. inr k) h
 
-creates_held : (me : ℕ) (t : Tid) (entry argument priority : ℕ) (d : EventSoFar) → IsHeldOnce d.node → IsHeldOnce (creates me t entry argument priority d).node
-creates_held me t entry argument priority d h = by (free_slot d.node.slots.free) refl
+creates_held : (me : ℕ) (t : Tid) (reason : Why) (entry argument priority : ℕ) (d : EventSoFar) → IsHeldOnce d.node → IsHeldOnce (creates me t reason entry argument priority d).node
+creates_held me t reason entry argument priority d h = by (free_slot d.node.slots.free) refl
   where
-    by : (o : Option ℕ) → free_slot d.node.slots.free ≡ o → IsHeldOnce (creates_in me t entry argument priority o d).node
+    by : (o : Option ℕ) → free_slot d.node.slots.free ≡ o → IsHeldOnce (creates_in me t reason entry argument priority o d).node
     by None e = spoke_held _ _ d h
-    by (Some slot) e = answered_held t (tid_value (next_name me d)) _ (born_held me t entry argument priority slot d e h)
+    by (Some slot) e = answered_held t (tid_value (next_name me d)) _ (born_held me reason entry argument priority slot d e h)
 
 -- ## Blocks
 
@@ -84,7 +86,8 @@ allocates_held t size x d e (Some first) f h =
 -- ## Claims
 
 called_held : (me : ℕ) (t : Tid) (c : Call) (x : Thread) (d : EventSoFar) → lookup (is_tid t) d.node.threads ≡ Some x → IsHeldOnce d.node → IsHeldOnce (serves_call me t c x d).node
-called_held me t (Create entry argument priority) x d e h = creates_held me t entry argument priority d h
+called_held me t (Create entry argument priority) x d e h = creates_held me t (why.Create t) entry argument priority d h
+called_held me t (CreateIn bubble entry argument priority) x d e h = creates_held me t (why.Inside t (number_in bubble)) entry argument priority d h
 called_held me t (Isomalloc len) x d e h = allocates_held t (rounded len) x d e (run_for (rounded len) x.guest d.node.slots.free) refl h
 called_held me t c x d e h = h
 

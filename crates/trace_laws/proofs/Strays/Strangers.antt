@@ -28,7 +28,7 @@ use Rattle.run_trace.specs.Names.{is_tid, tid_cmp}
 use Rattle.run_trace.specs.Program.{Program, nodes_of}
 use Rattle.run_trace.specs.Guests.{Thread, waits, unpacked, guest_slots}
 use Rattle.run_trace.specs.Local.{Local, EventSoFar, nothing}
-use Rattle.run_trace.specs.Steps.{comes, arrive, thread_in, say, put, print, shows, acknowledges, hears, hears_detach, hears_signal, knows, change_birth, reply_by_link}
+use Rattle.run_trace.specs.Steps.{comes, enter, thread_in, say, put, print, shows, acknowledges, hears, hears_detach, hears_signal, knows, change_birth, reply_by_link}
 use Rattle.run_trace.specs.Machine.{takes, accepts, is_stray, may_come, is_unserving, lives_yet, are_away, answer, judges_join, replies_to, answers_p, answers_v, hears_call, tells_joiner}
 use Rattle.trace_laws.specs.Strays.{slots_with, slots_here, IsHeldOnce}
 use Rattle.run_trace.proofs.Lemmas.{is-true, is-refl, is-same}
@@ -108,7 +108,7 @@ away_here slots s a y t h k = by (lookup (is_tid t) s.threads) refl k
         cc (meets-common y slots (guest_slots x.guest) h g, not_both (meets slots (guest_slots x.guest)) f.1)
 
 came_held : (p : Program) (me : ℕ) (x : Packed) (s : Local) → may_come p me s x ≡ true → IsHeldOnce s → IsHeldOnce (comes x (nothing s)).node
-unfolding comes arrive thread_in say
+unfolding comes enter thread_in say
 came_held p me x s may h = gained_held x.tid mine s _ (record {
   fewer = λ y k. k;
   taken = λ y k. away_own mine s away y k;

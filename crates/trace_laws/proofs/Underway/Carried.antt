@@ -84,7 +84,7 @@ all_apart p n (l ∷ ls) w r =
     ∙ append_assoc (apart_from_turns r.sends) (causes p n l w) rest
 
 -- at the end of an event
-pub carried : {p : Program} {n : ℕ} {opening : Progress} {w : Spots} {before : Local} {d : EventSoFar} → Aside p n opening [] w before d [] → apart_from_turns opening.sends ≡ []
+pub carried : {p : Program} {n : ℕ} {opening : Progress} {w : Spots} {before : Local} {d : EventSoFar} → Aside p n opening w before d [] → apart_from_turns opening.sends ≡ []
     → apart_from_turns d.sends ≡ all_causes p n d.labels w
 carried {p} {n} {opening} {w} {before} {d} a none =
     ap (λ (r : Progress). apart_from_turns r.sends) (sym a.still) ∙ all_apart p n d.labels w opening ∙ ap (λ z. z ++ all_causes p n d.labels w) none

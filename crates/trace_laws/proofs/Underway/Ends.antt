@@ -1,5 +1,5 @@
 -- An end that the home comes to know.
-use Rattle.std.proofs.Common.{◌++◌, ◌≡◌, ℕ, List, [], ◌∷◌, Option, Some, None, Bool, true, false, eqb, cond, refl, sym, ap, ◌∙◌, subst, map}
+use Rattle.std.proofs.Common.{◌++◌, ◌≡◌, ℕ, List, [], ◌∷◌, Option, Some, None, Bool, true, false, eqb, cond, refl, sym, ap, ◌∙◌, subst}
 use Rattle.std.specs.Prelude.{slice_get}
 use Rattle.std.proofs.lemmas.Bool.{eq-eqb}
 use Rattle.slot_space.specs.Sets.{has}
@@ -19,7 +19,7 @@ use Rattle.run_trace.specs.Spots.{Seeks, Stays, Awaits, Answers, Signals, Life, 
 use Rattle.run_trace.specs.Calls.{call_of}
 use Rattle.run_trace.specs.Guests.{Guest}
 use Rattle.run_trace.specs.Rules.{JoinerAwaits}
-use Rattle.run_trace.specs.Stands.{WantsSlots, Agrees, busy, busy_name, busy_part, thread_part, thread_in_life, row_part, row_in_life, listed, listed_name, Ended_word, waiter_in_life, ways_of, phase_of, phase_at, During, After, held, slots_held, IsWellHeld, is_thread}
+use Rattle.run_trace.specs.Stands.{WantsSlots, Agrees, busy, busy_name, busy_part, thread_part, thread_in_life, Ended_word, waiter_in_life, ways_of, phase_of, phase_at, During, After, held, slots_held, IsWellHeld, is_thread}
 use Rattle.run_trace.proofs.Lemmas.{is-true, is-refl, is-false, is-other, is-flip}
 use Rattle.trace_laws.proofs.Lists.KeyedLemmas.{kept, fronted, map_kept}
 use Rattle.trace_laws.proofs.Lists.Births.{get-with}
@@ -52,7 +52,7 @@ record Serves (t : Tid) (w f : Tid → Spot) : Type 0 where
 ends_agree : {p : Program} {n seq from : ℕ} {end : End} {w : Spots} {births : List Birth} {new : Option Birth} (f : Tid → Spot) (r : Spot) → Renewed n seq w.births births new
     → Agrees p w → (w.threads (tid n seq)).life ≡ Noting from end → r.life ≡ Gone end → Serves (tid n seq) w.threads f
     → phase_at new ≡ After → ((b : Tid) (at : ℕ) → new ≡ Some (Awaited b at) → ⊥) → AreQueued w.sems (update f (tid n seq) r)
-    → Agrees p (spots_with (update f (tid n seq) r) w.slots (at_node w.births n births) w.sems w.halts w.remote)
+    → Agrees p (spots_with (update f (tid n seq) r) w.slots (at_node w.births n births) w.sems w.forests w.halts w.remote)
 ends_agree {n = n} {seq = seq} {w = w} {births = births} f r renewed a x gone serves known nobody queued = record {
   sems = queued.sems;
   queues = queued.queues;
@@ -110,17 +110,17 @@ module _ {outset : Outset} {ahead : List Item} {L : Links} where
       let o : Spot = m.now.spots.threads t in
       let r : Spot = record o { life = Gone end } in
       let births : List Birth = with_birth (m.now.spots.births n) seq (ended end) in
-      let same = ap (λ z. spots_with (update (set_going (joiner_going t (end_in z) (joiner (slice_get (m.now.spots.births n) seq))) m.now.spots.threads) t (record o { life = Gone (end_in z) })) m.now.spots.slots (at_node m.now.spots.births n (with_birth (m.now.spots.births n) seq (ended (end_in z)))) m.now.spots.sems m.now.spots.halts m.now.spots.remote) x
-      ∙ ap (λ z. spots_with (update (set_going (joiner_going t end z) m.now.spots.threads) t r) m.now.spots.slots (at_node m.now.spots.births n births) m.now.spots.sems m.now.spots.halts m.now.spots.remote) (ap joiner e ∙ none) in
-      (labelled (links_less n L from t) [] (Known t) (spots_with (update m.now.spots.threads t r) m.now.spots.slots (at_node m.now.spots.births n births) m.now.spots.sems m.now.spots.halts m.now.spots.remote) _ m
+      let same = ap (λ z. spots_with (update (set_going (joiner_going t (end_in z) (joiner (slice_get (m.now.spots.births n) seq))) m.now.spots.threads) t (record o { life = Gone (end_in z) })) m.now.spots.slots (at_node m.now.spots.births n (with_birth (m.now.spots.births n) seq (ended (end_in z)))) m.now.spots.sems m.now.spots.forests m.now.spots.halts m.now.spots.remote) x
+      ∙ ap (λ z. spots_with (update (set_going (joiner_going t end z) m.now.spots.threads) t r) m.now.spots.slots (at_node m.now.spots.births n births) m.now.spots.sems m.now.spots.forests m.now.spots.halts m.now.spots.remote) (ap joiner e ∙ none) in
+      (labelled (links_less n L from t) [] (Known t) (spots_with (update m.now.spots.threads t r) m.now.spots.slots (at_node m.now.spots.births n births) m.now.spots.sems m.now.spots.forests m.now.spots.halts m.now.spots.remote) _ m
       same
       (record { solo = tt; holders = tt; life = (rw x tt, refl, subst (λ z. JoinerAwaits t z m.now.spots) (sym (ap joiner e ∙ none)) tt); replies = tt; grants = tt }) refl refl
       (record {
         here = record {
           threads = map_kept is_tid is-true is-refl (thread_part n) m.now.spots.threads t r s.threads m.here.threads (sym (ap (λ z. thread_in_life n z o.guest) x));
-          rows = kept is_tid is-true is-refl listed_name (row_part n) m.now.spots.threads t r (map listed s.run_lists.rows) m.here.rows (sym (ap (λ z. row_in_life n t z o.guest.priority) x));
           busy = kept is_tid is-true is-refl busy_name (busy_part n) m.now.spots.threads t r [] m.here.busy (sym (busy_none n t o (Noting from end) x refl));
           seekers = seekers_kept n m.now.spots.threads t r m.here.seekers refl (ap (is_seeking n) x) refl;
+          forest = m.here.forest;
           births = rw (eq-eqb n n refl) (ap (λ bs. with_birth bs seq (ended end)) m.here.births);
           sems = m.here.sems;
           free = m.here.free;
@@ -129,11 +129,10 @@ module _ {outset : Outset} {ahead : List Item} {L : Links} where
         there = λ k f. here_kept k m.now.spots t r (net.nodes k) [] [] (m.there k f)
             (record {
               thread = sym (ap (λ z. thread_in_life k z o.guest) x);
-              row = sym (ap (λ z. row_in_life k t z o.guest.priority) x);
               busy = sym (busy_none k t o (Noting from end) x refl);
               seeker = both_idle k t o r (ap (is_seeking k) x) refl;
             })
-            (rw f refl) refl (λ y. refl) refl;
+            (rw f refl) refl refl (λ y. refl) refl;
         links = λ i j. nothing_sent n (links_less n L from t) i j (update m.now.spots.threads t r) (take_link from n (Ended_word t end) t r L m.now.spots.threads (links_whole m) (ap (λ z. ways_of t z o.verdict o.guest) x) i j);
         turns = still_in_turn (Known t) from t m;
         agrees = ends_agree {new = Some (ended end b)} m.now.spots.threads r (record { gets = λ j. get-with (m.now.spots.births n) seq j (ended end) b e }) m.agrees x refl
@@ -155,13 +154,14 @@ module _ {outset : Outset} {ahead : List Item} {L : Links} where
             })
             (ended_phase end b) nobody (queued_kept m.now.spots.threads t r (queued m.agrees) (λ j k. ap (waiter_in_life j k t) x) (λ j k. refl));
       })
-      (beside (record {
+      (beside {due = Says (Known t) ∷ ahead} {ahead = ahead} {hand = []} {more = []} (record {
         heir = ap (λ z. as_list (one_going (joiner_going t (end_in o.life) z)) ++ Thread t ∷ []) (ap joiner e ∙ none);
+        only = tt;
         front = λ sends talk. refl;
         next = refl;
         still = refl;
       })
-      (life_then p n m.now.spots (Known t) t r _ same refl) refl refl refl)).midst
+      (life_then p n m.now.spots (Known t) t r _ same refl) tt refl refl)).midst
 
   -- an end that a joiner waits for
   knows_awaited : (s : Local) (from seq at : ℕ) (end : End) (by : Tid) → (m : Midst outset (Says (Known (tid n seq)) ∷ ahead) L (nothing s) []) → (m.now.spots.threads (tid n seq)).life ≡ Noting from end
@@ -180,23 +180,22 @@ module _ {outset : Outset} {ahead : List Item} {L : Links} where
       let here : f t ≡ o = rw apart refl in
       let r : Spot = record o { life = Gone end } in
       let births : List Birth = with_birth (m.now.spots.births n) seq (ended end) in
-      let w1 : Spots = spots_with f m.now.spots.slots m.now.spots.births m.now.spots.sems m.now.spots.halts m.now.spots.remote in
+      let w1 : Spots = spots_with f m.now.spots.slots m.now.spots.births m.now.spots.sems m.now.spots.forests m.now.spots.halts m.now.spots.remote in
       let x1 : (f t).life ≡ Noting from end = ap (λ (z : Spot). z.life) here ∙ x in
-      let same = ap (λ z. spots_with (update (set_going (joiner_going t (end_in z) (joiner (slice_get (m.now.spots.births n) seq))) m.now.spots.threads) t (record o { life = Gone (end_in z) })) m.now.spots.slots (at_node m.now.spots.births n (with_birth (m.now.spots.births n) seq (ended (end_in z)))) m.now.spots.sems m.now.spots.halts m.now.spots.remote) x
-      ∙ ap (λ z. spots_with (update (set_going (joiner_going t end z) m.now.spots.threads) t r) m.now.spots.slots (at_node m.now.spots.births n births) m.now.spots.sems m.now.spots.halts m.now.spots.remote) (ap joiner e) in
+      let same = ap (λ z. spots_with (update (set_going (joiner_going t (end_in z) (joiner (slice_get (m.now.spots.births n) seq))) m.now.spots.threads) t (record o { life = Gone (end_in z) })) m.now.spots.slots (at_node m.now.spots.births n (with_birth (m.now.spots.births n) seq (ended (end_in z)))) m.now.spots.sems m.now.spots.forests m.now.spots.halts m.now.spots.remote) x
+      ∙ ap (λ z. spots_with (update (set_going (joiner_going t end z) m.now.spots.threads) t r) m.now.spots.slots (at_node m.now.spots.births n births) m.now.spots.sems m.now.spots.forests m.now.spots.halts m.now.spots.remote) (ap joiner e) in
       let at_by : (update f t r by).life ≡ life = rw (is-flip by t apart) (rw (is-refl by) refl) in
-      (labelled (links_less n L from t) (busy by life ∷ []) (Known t) (spots_with (update f t r) m.now.spots.slots (at_node m.now.spots.births n births) m.now.spots.sems m.now.spots.halts m.now.spots.remote) _ m
+      (labelled (links_less n L from t) (busy by life ∷ []) (Known t) (spots_with (update f t r) m.now.spots.slots (at_node m.now.spots.births n births) m.now.spots.sems m.now.spots.forests m.now.spots.halts m.now.spots.remote) _ m
       same
       (record { solo = tt; holders = tt; life = (rw x tt, refl, subst (λ z. JoinerAwaits t z m.now.spots) (sym (ap joiner e)) y); replies = tt; grants = tt }) refl refl
       (record {
         here = record {
           threads = map_kept is_tid is-true is-refl (thread_part n) f t r s.threads
               (map_kept is_tid is-true is-refl (thread_part n) m.now.spots.threads by r1 s.threads m.here.threads (sym (ap (λ z. thread_in_life n z c.guest) y))) (sym (ap (λ z. thread_in_life n z (f t).guest) x1));
-          rows = kept is_tid is-true is-refl listed_name (row_part n) f t r (map listed s.run_lists.rows)
-              (kept is_tid is-true is-refl listed_name (row_part n) m.now.spots.threads by r1 (map listed s.run_lists.rows) m.here.rows (sym (ap (λ z. row_in_life n by z c.guest.priority) y))) (sym (ap (λ z. row_in_life n t z (f t).guest.priority) x1));
           busy = kept is_tid is-true is-refl busy_name (busy_part n) f t r (busy by life ∷ [])
               (fronted is_tid is-true is-refl busy_name (busy_part n) m.now.spots.threads by r1 [] (busy by life) m.here.busy refl (busy_none n by c (On at (Awaits t)) y refl) (rw (eq-eqb n n refl) refl)) (sym (busy_none n t (f t) (Noting from end) x1 refl));
           seekers = seekers_kept n f t r (seekers_kept n m.now.spots.threads by r1 m.here.seekers refl (ap (is_seeking n) y) refl) refl (ap (is_seeking n) x1) refl;
+          forest = m.here.forest;
           births = rw (eq-eqb n n refl) (ap (λ bs. with_birth bs seq (ended end)) m.here.births);
           sems = m.here.sems;
           free = m.here.free;
@@ -206,18 +205,16 @@ module _ {outset : Outset} {ahead : List Item} {L : Links} where
             (here_kept k m.now.spots by r1 (net.nodes k) [] [] (m.there k g)
             (record {
               thread = sym (ap (λ z. thread_in_life k z c.guest) y);
-              row = sym (ap (λ z. row_in_life k by z c.guest.priority) y);
               busy = busy_none k by r1 life refl g ∙ sym (busy_none k by c (On at (Awaits t)) y refl);
               seeker = both_idle k by c r1 (ap (is_seeking k) y) refl;
             })
-            refl refl (λ z. refl) refl)
+            refl refl refl (λ z. refl) refl)
             (record {
               thread = sym (ap (λ z. thread_in_life k z (f t).guest) x1);
-              row = sym (ap (λ z. row_in_life k t z (f t).guest.priority) x1);
               busy = sym (busy_none k t (f t) (Noting from end) x1 refl);
               seeker = both_idle k t (f t) r (ap (is_seeking k) x1) refl;
             })
-            (rw g refl) refl (λ z. refl) refl;
+            (rw g refl) refl refl (λ z. refl) refl;
         links = λ i j. nothing_sent n (links_less n L from t) i j (update f t r)
             (take_link from n (Ended_word t end) t r L f (λ a b. links_kept by r1 m.now.spots.threads L (links_whole m) (sym (ap (λ z. ways_of by z c.verdict c.guest) y)) a b) (ap (λ z. ways_of t z (f t).verdict (f t).guest) x1) i j);
         turns = still_in_turn (Known t) from t m;
@@ -245,13 +242,14 @@ module _ {outset : Outset} {ahead : List Item} {L : Links} where
             refl (λ b k g. absurd (cc g))
             (queued_kept f t r (queued_kept m.now.spots.threads by r1 (queued m.agrees) (λ i j. ap (waiter_in_life i j by) y) (λ i j. refl)) (λ i j. ap (waiter_in_life i j t) x1) (λ i j. refl));
       })
-      (beside_both {first = life} {second = Gone end} (record {
+      (beside_both {due = Says (Known t) ∷ ahead} {ahead = ahead} {hand = []} {more = busy by life ∷ []} {first = life} {second = Gone end} (record {
         heirs = ap (λ z. as_list (one_going (joiner_going t (end_in o.life) z)) ++ Thread t ∷ []) (ap joiner e);
+        only = tt;
         front = λ sends talk. refl;
         next = refl;
         still = rw (eq-eqb n n refl) refl;
       })
-      (ap (λ (z : Spots). (z.threads by).life) same ∙ at_by) (ap (λ (z : Spots). (z.threads t).life) same ∙ ap (λ (z : Spot). z.life) (updated f t r)) refl refl refl)).midst
+      (ap (λ (z : Spots). (z.threads by).life) same ∙ at_by) (ap (λ (z : Spots). (z.threads t).life) same ∙ ap (λ (z : Spot). z.life) (updated f t r)) tt refl refl)).midst
 
   pub knows_ok : (s : Local) (from seq : ℕ) (end : End) → (m : Midst outset (Says (Known (tid n seq)) ∷ ahead) L (nothing s) []) → (m.now.spots.threads (tid n seq)).life ≡ Noting from end
       → Midst outset ahead (links_less n L from (tid n seq)) (tells_joiner end (joiner (slice_get s.births seq)) (knows n seq end (nothing s))) []

@@ -4,7 +4,9 @@ use Rattle.std.specs.Prelude.{is_some, nat_lt}
 use Rattle.slot_space.specs.declared.names.Tid.{Tid}
 use Rattle.iso_blocks.specs.Heap.{rounded, place}
 use Rattle.run_trace.specs.declared.call.Call.{Call}
-use Rattle.run_trace.specs.declared.call.Call.TheVariants.{Create, Isomalloc}
+use Rattle.run_trace.specs.declared.call.Call.TheVariants.{Create, CreateIn, Isomalloc}
+use Rattle.marcel_sync.specs.Semaphores.{number_in}
+use Rattle.run_trace.specs.declared.label.Why.{Why}
 use Rattle.run_trace.specs.declared.label.Why.TheVariants as why
 use Rattle.run_trace.specs.declared.node.Wait.TheVariants as wait
 use Rattle.run_trace.specs.Program.{Program, nodes_of}
@@ -17,7 +19,7 @@ use Rattle.run_trace.specs.World.{World}
 use Rattle.run_trace.specs.Talks.{Talk}
 use Rattle.run_trace.specs.Items.{Turns, Item, Serves, Grants, Decides, Ends_turn, Wants_again, has_slots}
 use Rattle.run_trace.specs.Local.{EventSoFar, nothing}
-use Rattle.run_trace.specs.Steps.{at_found, at_thread, thread_at, tell, tell_found, judge, judge_as, arrive, say, keep, birth, thread_in, birth_in, slots_out, takes_run, speaks}
+use Rattle.run_trace.specs.Steps.{at_found, at_thread, thread_at, tell, tell_found, judge, judge_as, arrive, say, keep, enter, birth, thread_in, birth_in, slots_out, takes_run, speaks}
 use Rattle.run_trace.specs.Machine.{accepts, answer, free_slot, run_for, creates_in, allocates_in, places, serves, serves_thread, serves_call, refuses, grants, ends_turn, wants_again, leaves_claims}
 use Rattle.run_trace.specs.Spots.{Spots, Seeks, On, its_call, lowest_free}
 use Rattle.run_trace.specs.Stands.{Word, A_turn, WantsSlots, serving}
@@ -39,9 +41,9 @@ answer_talk t code d = by (thread_at t d)
     by None = refl
     by (Some x) = refl
 
-birth_talk : (n : ℕ) (t : Tid) (e a k slot : ℕ) (d : EventSoFar) → (birth n (why.Create t) e a k slot d).node.talk ≡ d.node.talk
-unfolding birth arrive thread_in birth_in slots_out say
-birth_talk n t e a k slot d = refl
+birth_talk : (n : ℕ) (reason : Why) (e a k slot : ℕ) (d : EventSoFar) → (birth n reason e a k slot d).node.talk ≡ d.node.talk
+unfolding birth enter thread_in birth_in slots_out say
+birth_talk n reason e a k slot d = refl
 
 takes_talk : (t : Tid) (first count : ℕ) (g : Guest) (d : EventSoFar) → (takes_run t first count g d).node.talk ≡ d.node.talk
 unfolding takes_run say slots_out keep
@@ -91,16 +93,17 @@ module _ {outset : Outset} {L : Links} where
       g : Guest
       g = (m.now.spots.threads t).guest
 
-      creates_talk : (e a k : ℕ) (o : Option ℕ) → (o ≡ None → ⊥) → (creates_in n t e a k o d).node.talk ≡ d.node.talk
-      creates_talk e a k None h = absurd (h refl)
-      creates_talk e a k (Some slot) h = answer_talk t _ (birth n (why.Create t) e a k slot d) ∙ birth_talk n t e a k slot d
+      creates_talk : (reason : Why) (e a k : ℕ) (o : Option ℕ) → (o ≡ None → ⊥) → (creates_in n t reason e a k o d).node.talk ≡ d.node.talk
+      creates_talk reason e a k None h = absurd (h refl)
+      creates_talk reason e a k (Some slot) h = answer_talk t _ (birth n reason e a k slot d) ∙ birth_talk n reason e a k slot d
 
       allocates_talk : (size : ℕ) (o : Option ℕ) → (o ≡ None → ⊥) → (allocates_in t size o (waits wait.ForSlots g) d).node.talk ≡ d.node.talk
       allocates_talk size None h = absurd (h refl)
       allocates_talk size (Some first) h = at_talk t (places t size) (takes_run t first (slots_for size) g d) (λ y. places_talk t size y (takes_run t first (slots_for size) g d)) ∙ takes_talk t first (slots_for size) g d
 
       by_call : (c : Call) → its_call t m.now.spots ≡ c → WantsSlots c → (serves_call n t c (waits wait.ForSlots g) d).node.talk ≡ d.node.talk
-      by_call (Create e a k) asked wants = creates_talk e a k (free_slot d.node.slots.free) (has_some n t m.now.spots (Create e a k) (free_slot d.node.slots.free) some asked (lowest_is n 1 m.now.spots d.node [] _ m.here))
+      by_call (Create e a k) asked wants = creates_talk (why.Create t) e a k (free_slot d.node.slots.free) (has_some n t m.now.spots (Create e a k) (free_slot d.node.slots.free) some asked (lowest_is n 1 m.now.spots d.node [] _ m.here))
+      by_call (CreateIn b e a k) asked wants = creates_talk (why.Inside t (number_in b)) e a k (free_slot d.node.slots.free) (has_some n t m.now.spots (CreateIn b e a k) (free_slot d.node.slots.free) some asked (lowest_is n 1 m.now.spots d.node [] _ m.here))
       by_call (Isomalloc len) asked wants = allocates_talk (rounded len) (run_for (rounded len) g d.node.slots.free) (has_some n t m.now.spots (Isomalloc len) (run_for (rounded len) g d.node.slots.free) some asked (lowest_apart t (slots_for (rounded len)) m x))
       by_call c asked wants = absurd wants
 

@@ -1,5 +1,5 @@
 -- Slots and blocks of a thread that goes on, on an event in its midst: isomalloc and isofree.
-use Rattle.std.proofs.Common.{◌≡◌, ℕ, ◌<◌, List, [], ◌∷◌, ◌++◌, Option, Some, None, Bool, true, false, cond, refl, sym, ap, ◌∙◌, subst, arith, map}
+use Rattle.std.proofs.Common.{◌≡◌, ℕ, ◌<◌, List, [], ◌∷◌, ◌++◌, Option, Some, None, Bool, true, false, cond, refl, sym, ap, ◌∙◌, subst, arith}
 use Rattle.std.specs.Prelude.{is_some, nat_lt}
 use Rattle.std.proofs.lemmas.Bool.{eq-eqb}
 use Rattle.std.proofs.lemmas.List.{append-nil}
@@ -14,23 +14,24 @@ use Rattle.run_trace.specs.Program.{Program, nodes_of}
 use Rattle.run_trace.specs.Guests.{Guest, waits, guest_slots, takes_slots, gives_slots, heap_of, with_placed, without_block, slots_for}
 use Rattle.std.specs.Map.{set_value}
 use Rattle.run_trace.specs.declared.call.Call.{Call}
-use Rattle.run_trace.specs.declared.call.Call.TheVariants.{Create, Isomalloc, Isofree}
-use Rattle.run_trace.specs.RunLists.{RunLists}
-use Rattle.run_trace.specs.Keyed.{StandsFor, MapStandsFor}
+use Rattle.run_trace.specs.declared.call.Call.TheVariants.{Create, CreateIn, Isomalloc, Isofree}
+use Rattle.run_trace.specs.declared.label.Why.TheVariants as why
+use Rattle.marcel_sync.specs.Semaphores.{number_in}
+use Rattle.run_trace.specs.Keyed.{MapStandsFor}
 use Rattle.run_trace.specs.Local.{Local, EventSoFar}
 use Rattle.run_trace.specs.Steps.{at_found, at_thread, say, keep, slots_out, slots_in, takes_run, returns}
 use Rattle.run_trace.specs.Machine.{free_run, places, allocates_in, allocates, returns_any, frees_block, frees, serves, serves_thread, serves_call, claims, creates_in}
 use Rattle.run_trace.specs.Spots.{Stage, Served, Seeks, its_call, took_life, after_label, On, Spot, Spots, Of_node, Of_thread, update, gave_life, is_free, lowest_free}
 use Rattle.run_trace.specs.Rules.{MayGive, IsServed, IsForBlock}
-use Rattle.run_trace.specs.Stands.{WantsSlots, itself, seeker_part, serving, ways_of, phase_of, waiter_in_life, Busy, busy, busy_name, busy_part, thread_part, row_part, listed, listed_name, held, slots_held, IsWellHeld, is_thread}
+use Rattle.run_trace.specs.Stands.{WantsSlots, itself, seeker_part, serving, ways_of, phase_of, waiter_in_life, Busy, busy, busy_name, busy_part, thread_part, held, slots_held, IsWellHeld, is_thread}
 use Rattle.run_trace.proofs.Lemmas.{is-true, is-refl, has_gives, has_takes}
 use Rattle.trace_laws.proofs.Lists.KeyedLemmas.{kept, fronted, unfronted, map_set}
 use Rattle.run_trace.specs.World.{World, world_after}
 use Rattle.trace_laws.proofs.Underway.Midst.{StandsAmid, under, labelled, beside, here_kept, links_kept, in_turn_kept, agrees_changed, fits, plain, queued, queued_kept, no_seeker, Outset, Links, Midst, keeps, spots_with, Then, updated}
 use Rattle.trace_laws.proofs.Underway.Steps.{on_node, own_stays, life_then, Ties, in_hand, at_ok}
-use Rattle.trace_laws.proofs.Underway.Seeking.{seeks_first, no_run}
+use Rattle.trace_laws.proofs.Underway.Seeking.{seeks_first, no_run, creation, creation_inside}
 use Rattle.trace_laws.proofs.Underway.ReplySteps.{judge_and_tell_ok}
-use Rattle.trace_laws.proofs.Lists.Parts.{thread_holds, thread_was, row_was, busy_was, away_thread, away_row, away_seeker, busy_none}
+use Rattle.trace_laws.proofs.Lists.Parts.{thread_holds, thread_was, busy_was, away_thread, away_seeker, busy_none}
 use Rattle.trace_laws.proofs.Lists.Stages.{home_busy}
 use Rattle.trace_laws.proofs.Underway.Lifetimes.{creates_ok, Changes, slots_step, given, taken, gives_change, takes_change, lowest_held, lowest_is}
 use Rattle.trace_laws.proofs.Lives.Heaps.{empty_held, gave_well, gave_all, placed_well, takes_well, has_place}
@@ -68,17 +69,15 @@ module _ {outset : Outset} {ahead : List Item} {L : Links} where
 
   -- the lists of node n, where only the guest of its thread has changed
   served_ties : (d : EventSoFar) (t : Tid) (c : Call) (g : Guest) (hs : List Busy) (now : Local) → (m : Midst outset ahead L d (busy t (On n (Served c)) ∷ hs)) → (m.now.spots.threads t).life ≡ On n (Served c)
-      → now.threads ≡ set_value (is_tid t) d.node.threads (waits wait.No g) → now.run_lists ≡ d.node.run_lists
+      → now.threads ≡ set_value (is_tid t) d.node.threads (waits wait.No g)
       → Ties n m.now.spots t (record (m.now.spots.threads t) { guest = g }) now (busy t (On n (Served c)) ∷ hs)
-  served_ties d t c g hs now m x threads run_lists =
+  served_ties d t c g hs now m x threads =
       let v : Spots = m.now.spots in
       let s : Spot = m.now.spots.threads t in
       let r : Spot = record s { guest = g } in
       record {
         threads = subst (λ es. MapStandsFor is_tid (thread_part n) es (update v.threads t r)) (sym threads)
             (map_set is_tid is-true is-refl (thread_part n) v.threads t r d.node.threads (waits wait.No s.guest) (waits wait.No g) m.here.threads (thread_was n t s (Served c) x) (thread_was n t r (Served c) x));
-        rows = subst (λ (z : RunLists). StandsFor is_tid listed_name (row_part n) (map listed z.rows) (update v.threads t r)) (sym run_lists)
-            (kept is_tid is-true is-refl listed_name (row_part n) v.threads t r (map listed d.node.run_lists.rows) m.here.rows (row_was n t r (Served c) x ∙ sym (row_was n t s (Served c) x)));
         busy = kept is_tid is-true is-refl busy_name (busy_part n) v.threads t r (busy t (On n (Served c)) ∷ hs) m.here.busy
             (busy_was n t r (On n (Served c)) x (eq-eqb n n refl) ∙ sym (busy_was n t s (On n (Served c)) x (eq-eqb n n refl)));
       }
@@ -100,7 +99,7 @@ module _ {outset : Outset} {ahead : List Item} {L : Links} where
 
   -- nodes and links stand for what is told once the thread has got these slots of the node, for its block
   taken_amid : {d : EventSoFar} (t : Tid) (len : ℕ) (got : List ℕ) → (m : Midst outset (Serves t ∷ ahead) L d []) → (m.now.spots.threads t).life ≡ On n Seeks → ((y : ℕ) → has y got ≡ true → m.now.spots.slots y ≡ Of_node n)
-      → StandsAmid p net n (spots_with (update m.now.spots.threads t (served_spot n len got (m.now.spots.threads t))) (taken t got m.now.spots.slots) m.now.spots.births m.now.spots.sems m.now.spots.halts m.now.spots.remote) (under n L d.sends)
+      → StandsAmid p net n (spots_with (update m.now.spots.threads t (served_spot n len got (m.now.spots.threads t))) (taken t got m.now.spots.slots) m.now.spots.births m.now.spots.sems m.now.spots.forests m.now.spots.halts m.now.spots.remote) (under n L d.sends)
       (record d.node { threads = set_value (is_tid t) d.node.threads (waits wait.No (takes_slots got (m.now.spots.threads t).guest)); slots = record d.node.slots { free = minus d.node.slots.free got } }) (busy t (On n (Served (Isomalloc len))) ∷ []) ahead
   taken_amid {d} t len got m x holder =
       let v : Spots = m.now.spots in
@@ -113,9 +112,9 @@ module _ {outset : Outset} {ahead : List Item} {L : Links} where
       record {
         here = record {
           threads = map_set is_tid is-true is-refl (thread_part n) v.threads t r d.node.threads (waits wait.ForSlots g) (waits wait.No (takes_slots got g)) m.here.threads (thread_was n t s Seeks x) (thread_was n t r b refl);
-          rows = kept is_tid is-true is-refl listed_name (row_part n) v.threads t r (map listed d.node.run_lists.rows) m.here.rows (row_was n t r b refl ∙ sym (row_was n t s Seeks x));
           busy = fronted is_tid is-true is-refl busy_name (busy_part n) v.threads t r [] (busy t (On n b)) m.here.busy refl (busy_none n t s (On n Seeks) x refl) (busy_was n t r (On n b) refl (eq-eqb n n refl));
           seekers = unfronted is_tid is-true is-refl itself (seeker_part n) v.threads t r (serving ahead ++ d.node.talk.claims) t m.here.seekers refl (no_seeker n t r refl);
+          forest = m.here.forest;
           births = m.here.births;
           sems = m.here.sems;
           free = change.free;
@@ -124,11 +123,10 @@ module _ {outset : Outset} {ahead : List Item} {L : Links} where
         there = λ k e. here_kept k v t r (net.nodes k) [] [] (m.there k e)
             (record {
               thread = away_thread n k t r b refl e ∙ sym (away_thread n k t s Seeks x e);
-              row = away_row n k t r b refl e ∙ sym (away_row n k t s Seeks x e);
               busy = busy_none k t r (On n b) refl (home_busy n k b refl e) ∙ sym (busy_none k t s (On n Seeks) x refl);
               seeker = away_seeker n k t r b refl e ∙ sym (away_seeker n k t s Seeks x e);
             })
-            refl refl (change.there k e) refl;
+            refl refl refl (change.there k e) refl;
         links = λ i j. links_kept t r v.threads (under n L d.sends) m.links (sym (ap (λ z. ways_of t z s.verdict g) x)) i j;
         turns = in_turn_kept net n d.node.talk d.node.talk (under n L d.sends) (under n L d.sends) (Serves t ∷ ahead) ahead m.turns refl (λ i j. refl) refl refl;
         agrees = agrees_changed p v t r m.agrees (sym (ap phase_of x)) (λ e. absurd (cc (e, x))) (λ u k e. absurd (cc (e, x))) (fits (plain r.life refl))
@@ -153,15 +151,15 @@ module _ {outset : Outset} {ahead : List Item} {L : Links} where
       let hand : List Busy = busy t (On n b) ∷ [] in
       let holder : (y : ℕ) → has y got ≡ true → v.slots y ≡ Of_node n = λ y h. lowest_held n count v first y free h in
       let some : has_slots n t v ≡ true = ap (λ z. is_some (lowest_free n (slots_wanted z) v)) asked ∙ ap is_some free in
-      let same : after_label p n (Took t first count) v ≡ spots_with (update v.threads t r) (taken t got v.slots) v.births v.sems v.halts v.remote =
-      ap (λ z. spots_with (update v.threads t (record s { life = took_life g.solo.state z; guest = takes_slots got g })) (taken t got v.slots) v.births v.sems v.halts v.remote) x
-      ∙ ap (λ c. spots_with (update v.threads t (record s { life = On n (Served c); guest = takes_slots got g })) (taken t got v.slots) v.births v.sems v.halts v.remote) asked in
+      let same : after_label p n (Took t first count) v ≡ spots_with (update v.threads t r) (taken t got v.slots) v.births v.sems v.forests v.halts v.remote =
+      ap (λ z. spots_with (update v.threads t (record s { life = took_life g.solo.state z; guest = takes_slots got g })) (taken t got v.slots) v.births v.sems v.forests v.halts v.remote) x
+      ∙ ap (λ c. spots_with (update v.threads t (record s { life = On n (Served c); guest = takes_slots got g })) (taken t got v.slots) v.births v.sems v.forests v.halts v.remote) asked in
       labelled L hand (Took t first count) _ _ m same
       (record { solo = tt; holders = holder; life = rw x refl; replies = tt; grants = (subst (λ c. IsForBlock c count) (sym asked) refl, free) })
       (sym (append-nil d.sends)) (sym (append-nil d.prints))
       (taken_amid t len got m x holder)
-      (beside {new = On n b} (record { heir = refl; front = λ sends talk. rw some refl; next = (refl, ap (is_seeking n) x ∙ eq-eqb n n refl); still = rw (eq-eqb n n refl) refl })
-      (life_then p n v (Took t first count) t r _ same refl) refl refl refl)
+      (beside {due = Serves t ∷ ahead} {ahead = ahead} {hand = []} {more = hand} {new = On n b} (record { heir = refl; only = tt; front = λ sends talk. rw some refl; next = (refl, ap (is_seeking n) x ∙ eq-eqb n n refl); still = rw (eq-eqb n n refl) refl })
+      (life_then p n v (Took t first count) t r _ same refl) tt refl refl)
 
   -- and then its block is placed
   pub allocates_ok : (d : EventSoFar) (t : Tid) (len : ℕ) → (m : Midst outset (Serves t ∷ ahead) L d []) → its_call t m.now.spots ≡ Isomalloc len → has_slots n t m.now.spots ≡ true
@@ -232,18 +230,19 @@ module _ {outset : Outset} {ahead : List Item} {L : Links} where
       let holder : (y : ℕ) → has y back ≡ true → v.slots y ≡ Of_thread t = λ y h. thread_holds t (v.slots y) (sym (m.agrees.slots t y) ∙ had y ∙ empty_held g address y h) in
       slots_step (busy t (On n a) ∷ hs) (Gave t back) t r _ (given n back v.slots) a a m
       (record {
-        same = ap (λ z. spots_with (update v.threads t (record s { life = z; guest = gives_slots back g })) (given n back v.slots) v.births v.sems v.halts v.remote) (ap gave_life x ∙ sym x);
+        same = ap (λ z. spots_with (update v.threads t (record s { life = z; guest = gives_slots back g })) (given n back v.slots) v.births v.sems v.forests v.halts v.remote) (ap gave_life x ∙ sym x);
         may = record { solo = tt; holders = holder; life = subst (λ z. MayGive n z g back) (sym x) (refl, refl, some); replies = tt; grants = tt };
-        ties = served_ties d t (Isofree address) (gives_slots back g) hs _ m x refl refl;
+        ties = served_ties d t (Isofree address) (gives_slots back g) hs _ m x refl;
         births = refl;
         sems = refl;
         halted = refl;
         change = gives_change p n v t r d.node.slots.free back m.agrees m.here.free holder
             (λ y. ap (λ z. has y (slots_held (held z (gives_slots back g)))) x ∙ has_gives y back g.solo.state.memory ∙ ap (λ z. cond (has y back) false (has y (slots_held (held z g)))) (sym x));
         well = subst (λ z. IsWellHeld (held z (gives_slots back g))) (sym x) (gave_well g address (subst (λ z. IsWellHeld (held z g)) x (m.agrees.blocks t)));
-        next = own_stays m refl refl (ap (is_busy n) x ∙ eq-eqb n n refl);
+        next = own_stays m refl refl tt (ap (is_busy n) x ∙ eq-eqb n n refl);
         talk = refl;
-        run_lists = refl;
+        forest = refl;
+        shifted = tt;
         booted = refl;
       })
       (record {
@@ -289,7 +288,8 @@ serves_ok {outset} {ahead} {L} below d t m some =
     x = seeks_first outset.node t (serving ahead ++ d.node.talk.claims) m.now.spots.threads m.here.seekers
 
     by_call : (c : Call) → its_call t m.now.spots ≡ c → WantsSlots c → Midst outset ahead L (serves_call outset.node t c (waits wait.ForSlots (m.now.spots.threads t).guest) d) []
-    by_call (Create e a k) asked wants = creates_ok below d t e a k m asked some
+    by_call (Create e a k) asked wants = creates_ok below d t (why.Create t) e a k m (creation outset.program outset.node t m.now.spots e a k x asked) some
+    by_call (CreateIn b e a k) asked wants = creates_ok below d t (why.Inside t (number_in b)) e a k m (creation_inside outset.program outset.node t m.now.spots b e a k x asked) some
     by_call (Isomalloc len) asked wants = allocates_ok d t len m asked some
     by_call c asked wants = absurd wants
 
@@ -305,6 +305,7 @@ unserved {outset} {hand = hand} d t m x none = ap (λ o. at_found o (serves_thre
     empty c asked = no_run _ (ap (λ z. is_some (lowest_free outset.node (slots_wanted z) m.now.spots)) (sym asked) ∙ none)
 
     by_call : (c : Call) → its_call t m.now.spots ≡ c → WantsSlots c → serves_call outset.node t c (waits wait.ForSlots g) d ≡ claims t d
-    by_call (Create e a k) asked wants = ap (λ o. creates_in outset.node t e a k o d) (sym (lowest_is outset.node 1 m.now.spots d.node hand _ m.here) ∙ empty (Create e a k) asked)
+    by_call (Create e a k) asked wants = ap (λ o. creates_in outset.node t (why.Create t) e a k o d) (sym (lowest_is outset.node 1 m.now.spots d.node hand _ m.here) ∙ empty (Create e a k) asked)
+    by_call (CreateIn b e a k) asked wants = ap (λ o. creates_in outset.node t (why.Inside t (number_in b)) e a k o d) (sym (lowest_is outset.node 1 m.now.spots d.node hand _ m.here) ∙ empty (CreateIn b e a k) asked)
     by_call (Isomalloc len) asked wants = ap (λ o. allocates_in t (rounded len) o (waits wait.ForSlots g) d) (sym (lowest_apart t (slots_for (rounded len)) m x) ∙ empty (Isomalloc len) asked)
     by_call c asked wants = absurd wants

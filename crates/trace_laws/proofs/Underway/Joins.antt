@@ -1,5 +1,5 @@
 -- A join or a detach that is taken up at the home.
-use Rattle.std.proofs.Common.{◌++◌, ◌≡◌, ℕ, List, [], ◌∷◌, Option, Some, None, Bool, true, false, eqb, cond, refl, sym, ap, ◌∙◌, subst, map}
+use Rattle.std.proofs.Common.{◌++◌, ◌≡◌, ℕ, List, [], ◌∷◌, Option, Some, None, Bool, true, false, eqb, cond, refl, sym, ap, ◌∙◌, subst}
 use Rattle.std.specs.Prelude.{slice_get}
 use Rattle.std.proofs.lemmas.Bool.{eq-eqb, eqb-true}
 use Rattle.slot_space.specs.Sets.{has}
@@ -24,7 +24,7 @@ use Rattle.run_trace.specs.Keyed.{StandsFor}
 use Rattle.run_trace.specs.Spots.{Stage, Seeks, Stays, Asks, Awaits, Answers, Detaches, Signals, Life, On, Spot, Spots, update, at_node, heard_life, heard_at, births_heard, sems_heard, wakes_heard, set_going}
 use Rattle.run_trace.specs.Calls.{call_of}
 use Rattle.run_trace.specs.Rules.{MayHear}
-use Rattle.run_trace.specs.Stands.{WantsSlots, way, Agrees, Busy, busy, busy_name, busy_part, thread_part, thread_in_life, row_part, row_in_life, listed, listed_name, Word, Joins, Detaching, waiter_part, ways_of, phase_of, phase_at, held, holding_of, slots_held, IsWellHeld}
+use Rattle.run_trace.specs.Stands.{WantsSlots, way, Agrees, Busy, busy, busy_name, busy_part, thread_part, thread_in_life, Word, Joins, Detaching, waiter_part, ways_of, phase_of, phase_at, held, holding_of, slots_held, IsWellHeld}
 use Rattle.run_trace.proofs.Lemmas.{is-true, is-refl}
 use Rattle.trace_laws.proofs.Lists.KeyedLemmas.{kept, fronted, map_kept}
 use Rattle.trace_laws.proofs.Lists.Births.{get-with, with-none}
@@ -62,7 +62,7 @@ record IsOfHeard (v : Spots) (by : Tid) (r : Spot) : Type 0 where
 
 -- what all nodes share, at a join
 joins_agree : {p : Program} {n seq : ℕ} {w : Spots} {by : Tid} {births : List Birth} {new : Option Birth} (r : Spot) → Agrees p w → IsOfHeard w by r → IsJoined n seq w by r births new
-    → Agrees p (spots_with (update w.threads by r) w.slots (at_node w.births n births) w.sems w.halts w.remote)
+    → Agrees p (spots_with (update w.threads by r) w.slots (at_node w.births n births) w.sems w.forests w.halts w.remote)
 joins_agree {n = n} {seq = seq} {w = w} {by = by} {births = births} r a of join = record {
   sems = a.sems;
   queues = (queued_kept w.threads by r (queued a) (λ h k. of.quiet.queues h k by) of.queues).queues;
@@ -102,7 +102,6 @@ record SameJoiner (n seq : ℕ) (old : ℕ → List Birth) (births : List Birth)
 -- other node is busy with it
 record IsHeard (n : ℕ) (stage : Stage) (from : ℕ) (by : Tid) (life : Life) (o : Spot) : Type 0 where
   threads : (k : ℕ) → thread_in_life k life o.guest ≡ thread_in_life k (On from stage) o.guest
-  rows : (k : ℕ) → row_in_life k by life o.guest.priority ≡ row_in_life k by (On from stage) o.guest.priority
   ways : ways_of by life o.verdict o.guest ≡ []
   idle : (k : ℕ) → eqb n k ≡ false → is_busy k life ≡ false
   rests : (k : ℕ) → is_seeking k life ≡ false
@@ -119,13 +118,12 @@ record IsAsking (n from seq : ℕ) (by : Tid) (stage : Stage) (change : Birth �
   quiet : is_quiet (On from stage) ≡ true
   holds : held (On from stage) (v.threads by).guest ≡ Some (holding_of (v.threads by).guest)
   shows : (k : ℕ) → thread_in_life k (On from stage) (v.threads by).guest ≡ cond (eqb from k) (Some (waits wait.ForAnswer (v.threads by).guest)) None
-  off : (k : ℕ) → row_in_life k by (On from stage) (v.threads by).guest.priority ≡ cond (eqb from k) None None
 
 joins_as_asked : (n from seq : ℕ) (by : Tid) (v : Spots) → (v.threads by).life ≡ On from (Asks (tid n seq)) → IsAsking n from seq by (Asks (tid n seq)) (joined by from) (Joins by (tid n seq)) v
-joins_as_asked n from seq by v x = record { was = x; may = refl; births = refl; sems = refl; going = refl; ways = refl; idle = λ k. refl; quiet = refl; holds = refl; shows = λ k. refl; off = λ k. refl }
+joins_as_asked n from seq by v x = record { was = x; may = refl; births = refl; sems = refl; going = refl; ways = refl; idle = λ k. refl; quiet = refl; holds = refl; shows = λ k. refl }
 
 detaches_as_asked : (n from seq : ℕ) (by : Tid) (v : Spots) → (v.threads by).life ≡ On from (Detaches (tid n seq)) → IsAsking n from seq by (Detaches (tid n seq)) detached (Detaching by (tid n seq)) v
-detaches_as_asked n from seq by v x = record { was = x; may = refl; births = refl; sems = refl; going = refl; ways = refl; idle = λ k. refl; quiet = refl; holds = refl; shows = λ k. refl; off = λ k. refl }
+detaches_as_asked n from seq by v x = record { was = x; may = refl; births = refl; sems = refl; going = refl; ways = refl; idle = λ k. refl; quiet = refl; holds = refl; shows = λ k. refl }
 
 -- it is to be answered then, or waits for an end
 of_answered : {n from seq : ℕ} {by : Tid} {stage : Stage} {change : Birth → Birth} {word : Word} {v : Spots} (reply : TheReply) (second : Option ℕ) → IsAsking n from seq by stage change word v → IsOfHeard v by (record (v.threads by) { life = On from (Answers n reply second) })
@@ -194,7 +192,7 @@ module _ {outset : Outset} {ahead : List Item} {L : Links} where
       → heard_at m.now.spots.births m.now.spots.sems (On from stage) ≡ life
       → IsHeard n stage from by life (m.now.spots.threads by)
       → StandsFor is_tid busy_name (busy_part n) more (update m.now.spots.threads by (record (m.now.spots.threads by) { life = life }))
-      → Agrees p (spots_with (update m.now.spots.threads by (record (m.now.spots.threads by) { life = life })) m.now.spots.slots (at_node m.now.spots.births n (with_birth (m.now.spots.births n) seq change)) m.now.spots.sems m.now.spots.halts m.now.spots.remote)
+      → Agrees p (spots_with (update m.now.spots.threads by (record (m.now.spots.threads by) { life = life })) m.now.spots.slots (at_node m.now.spots.births n (with_birth (m.now.spots.births n) seq change)) m.now.spots.sems m.now.spots.forests m.now.spots.halts m.now.spots.remote)
       → doing more ahead ≡ (items_in n by life ++ []) ++ ahead
       → Midst outset ahead (links_less n L from by) (change_birth seq change (say (Heard by) (nothing s))) more
   unfolding change_birth say
@@ -204,20 +202,20 @@ module _ {outset : Outset} {ahead : List Item} {L : Links} where
       let x : o.life ≡ On from stage = asking.was in
       let r : Spot = record o { life = life } in
       let births : List Birth = with_birth (v.births n) seq change in
-      let same = ap (λ z. spots_with (update (set_going (wakes_heard v.sems z) v.threads) by (record o { life = heard_at v.births v.sems z })) v.slots (births_heard by z v.births) (sems_heard by z v.sems) v.halts v.remote) x
-      ∙ ap (λ z. spots_with (update (set_going (wakes_heard v.sems (On from stage)) v.threads) by (record o { life = z })) v.slots (births_heard by (On from stage) v.births) (sems_heard by (On from stage) v.sems) v.halts v.remote) becomes
-      ∙ ap (λ z. spots_with (update (set_going z v.threads) by r) v.slots (births_heard by (On from stage) v.births) (sems_heard by (On from stage) v.sems) v.halts v.remote) asking.going
-      ∙ ap (λ z. spots_with (update v.threads by r) v.slots z (sems_heard by (On from stage) v.sems) v.halts v.remote) asking.births
-      ∙ ap (λ z. spots_with (update v.threads by r) v.slots (at_node v.births n births) z v.halts v.remote) asking.sems in
-      (labelled (links_less n L from by) more (Heard by) (spots_with (update v.threads by r) v.slots (at_node v.births n births) v.sems v.halts v.remote) _ m
+      let same = ap (λ z. spots_with (update (set_going (wakes_heard v.sems z) v.threads) by (record o { life = heard_at v.births v.sems z })) v.slots (births_heard by z v.births) (sems_heard by z v.sems) v.forests v.halts v.remote) x
+      ∙ ap (λ z. spots_with (update (set_going (wakes_heard v.sems (On from stage)) v.threads) by (record o { life = z })) v.slots (births_heard by (On from stage) v.births) (sems_heard by (On from stage) v.sems) v.forests v.halts v.remote) becomes
+      ∙ ap (λ z. spots_with (update (set_going z v.threads) by r) v.slots (births_heard by (On from stage) v.births) (sems_heard by (On from stage) v.sems) v.forests v.halts v.remote) asking.going
+      ∙ ap (λ z. spots_with (update v.threads by r) v.slots z (sems_heard by (On from stage) v.sems) v.forests v.halts v.remote) asking.births
+      ∙ ap (λ z. spots_with (update v.threads by r) v.slots (at_node v.births n births) z v.forests v.halts v.remote) asking.sems in
+      (labelled (links_less n L from by) more (Heard by) (spots_with (update v.threads by r) v.slots (at_node v.births n births) v.sems v.forests v.halts v.remote) _ m
       same
       (record { solo = tt; holders = tt; life = subst (λ z. MayHear n z) (sym x) asking.may; replies = tt; grants = tt }) refl refl
       (record {
         here = record {
           threads = map_kept is_tid is-true is-refl (thread_part n) v.threads by r s.threads m.here.threads (heard.threads n ∙ sym (ap (λ z. thread_in_life n z o.guest) x));
-          rows = kept is_tid is-true is-refl listed_name (row_part n) v.threads by r (map listed s.run_lists.rows) m.here.rows (heard.rows n ∙ sym (ap (λ z. row_in_life n by z o.guest.priority) x));
           busy = hand;
           seekers = seekers_kept n v.threads by r m.here.seekers refl ((quiet x asking.quiet).seeks n) (heard.rests n);
+          forest = m.here.forest;
           births = rw (eq-eqb n n refl) (ap (λ bs. with_birth bs seq change) m.here.births);
           sems = m.here.sems;
           free = m.here.free;
@@ -226,17 +224,16 @@ module _ {outset : Outset} {ahead : List Item} {L : Links} where
         there = λ k e. here_kept k v by r (net.nodes k) [] [] (m.there k e)
             (record {
               thread = heard.threads k ∙ sym (ap (λ z. thread_in_life k z o.guest) x);
-              row = heard.rows k ∙ sym (ap (λ z. row_in_life k by z o.guest.priority) x);
               busy = busy_none k by r life refl (heard.idle k e) ∙ sym (busy_none k by o (On from stage) x (asking.idle k));
               seeker = both_idle k by o r ((quiet x asking.quiet).seeks k) (heard.rests k);
             })
-            (rw e refl) refl (λ y. refl) refl;
+            (rw e refl) refl refl (λ y. refl) refl;
         links = λ i j. nothing_sent n (links_less n L from by) i j (update v.threads by r) (take_link from n word by r L v.threads (links_whole m) (ap (λ z. ways_of by z o.verdict o.guest) x ∙ asking.ways ∙ ap (λ xs. way from n word ++ xs) (sym heard.ways)) i j);
         turns = still_in_turn (Heard by) from by m;
         agrees = agrees;
       })
-      (beside (record { heir = ap (λ z. as_list (one_going (wakes_heard v.sems z)) ++ Thread by ∷ []) x ∙ ap (λ z. as_list (one_going z) ++ Thread by ∷ []) asking.going; front = λ sends talk. refl; next = refl; still = still })
-      (life_then p n v (Heard by) by r _ same refl) refl refl refl)).midst
+      (beside {due = Says (Heard by) ∷ ahead} {ahead = ahead} {hand = []} {more = more} (record { heir = ap (λ z. as_list (one_going (wakes_heard v.sems z)) ++ Thread by ∷ []) x ∙ ap (λ z. as_list (one_going z) ++ Thread by ∷ []) asking.going; only = tt; front = λ sends talk. refl; next = refl; still = still })
+      (life_then p n v (Heard by) by r _ same refl) tt refl refl)).midst
 
   -- the home answers it
   hears_answer : (s : Local) {from seq : ℕ} (by : Tid) (reply : TheReply) (second : Option ℕ) {stage : Stage} {change : Birth → Birth} {word : Word} {new : Option Birth} → (m : Midst outset (Says (Heard by) ∷ ahead) L (nothing s) [])
@@ -249,7 +246,7 @@ module _ {outset : Outset} {ahead : List Item} {L : Links} where
       let life : Life = On from (Answers n reply second) in
       let r : Spot = record o { life = life } in
       reply_ok (change_birth seq change (say (Heard by) (nothing s))) by from reply second []
-      (hears_as s by life (busy by life ∷ []) m asking becomes (record { threads = λ k. sym (asking.shows k); rows = λ k. sym (asking.off k); ways = refl; idle = λ k e. e; rests = λ k. refl })
+      (hears_as s by life (busy by life ∷ []) m asking becomes (record { threads = λ k. sym (asking.shows k); ways = refl; idle = λ k e. e; rests = λ k. refl })
       (fronted is_tid is-true is-refl busy_name (busy_part n) m.now.spots.threads by r [] (busy by life) m.here.busy refl (busy_none n by o (On from stage) asking.was (asking.idle n)) (rw (eq-eqb n n refl) refl))
       (joins_agree r m.agrees (of_answered reply second asking) (record {
         renewed = same.renewed;
@@ -286,7 +283,7 @@ module _ {outset : Outset} {ahead : List Item} {L : Links} where
       by_birth : (b : Option Birth) → slice_get (m.now.spots.births n) seq ≡ b → Midst outset ahead (links_less n L from by) (judges_join by from (verdict b) (change_birth seq (joined by from) (say (Heard by) (nothing s)))) []
       by_birth None e =
           hears_answer s by replies.NoSuch None {new = None} m asking (ap (λ z. heard_life from (tid n seq) (verdict z)) e) (same_none n seq m.now.spots.births (joined by from) e)
-      by_birth (Some Lives) e = hears_as s by life [] m asking (ap (λ z. heard_life from (tid n seq) (verdict z)) e) (record { threads = λ k. refl; rows = λ k. refl; ways = refl; idle = λ k f. refl; rests = λ k. refl })
+      by_birth (Some Lives) e = hears_as s by life [] m asking (ap (λ z. heard_life from (tid n seq) (verdict z)) e) (record { threads = λ k. refl; ways = refl; idle = λ k f. refl; rests = λ k. refl })
           (kept is_tid is-true is-refl busy_name (busy_part n) m.now.spots.threads by r [] m.here.busy (sym (busy_none n by o (On from (Asks (tid n seq))) x refl)))
           (joins_agree r m.agrees (of_awaiting (tid n seq) asking) join)
           refl

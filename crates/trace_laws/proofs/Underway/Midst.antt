@@ -11,6 +11,7 @@ use Rattle.marcel_core.specs.declared.birth.Birth.TheVariants.{Awaited}
 use Rattle.marcel_sync.specs.declared.sem.SemRow.{SemRow}
 use Rattle.marcel_sync.specs.Semaphores.{IsSemaphore, node_in, waiters_at}
 use Rattle.run_trace.specs.declared.label.Label.{Label}
+use Rattle.run_trace.specs.declared.label.Label.TheVariants.{Asked, Down, Burst}
 use Rattle.run_trace.specs.declared.packet.Body.{Body}
 use Rattle.run_trace.specs.declared.packet.Send.{Send}
 use Rattle.run_trace.specs.Names.{is_tid}
@@ -19,22 +20,23 @@ use Rattle.run_trace.specs.declared.call.Call.{Call}
 use Rattle.run_trace.specs.Calls.{call_of}
 use Rattle.run_trace.specs.Local.{Local, EventSoFar}
 use Rattle.run_trace.specs.Cluster.{Net}
-use Rattle.run_trace.specs.Spots.{Stage, Stays, Seeks, Life, Awaits, Signals, Queues, Unborn, On, Spot, Remote, Spots, Holder, update, after_label, after_labels, is_free}
+use Rattle.run_trace.specs.Spots.{Stage, Stays, Seeks, Life, Awaits, Signals, Queues, Unborn, On, Spot, Remote, Spots, Holder, update, after_label, after_labels, is_free, at_node, gathered_by_call}
 use Rattle.run_trace.specs.Rules.{Occasion, saying, Rule, SoloRule, HoldersRule, LifeRule, RepliesRule, GrantsRule}
 use Rattle.run_trace.specs.World.{World, world_after}
 use Rattle.trace_laws.specs.Obeys.{ObeyEach, AgreesRule}
 use Rattle.run_trace.specs.Console.{shown_by, shown_by_all}
-use Rattle.run_trace.specs.RunLists.{RunLists, IsRising}
-use Rattle.trace_laws.proofs.Lists.Arriving.{run_lists_after, run_lists_after_all, rising_after}
+use Rattle.bubbles.specs.Forests.{ForestView}
+use Rattle.bubbles.specs.Covering.{AreCovered}
+use Rattle.trace_laws.proofs.Lists.SeatedLabels.{IsShifted, seated_label, covered_label}
 use Rattle.run_trace.specs.Causes.{causes}
 use Rattle.run_trace.specs.Talks.{Talk, one_send}
 use Rattle.run_trace.specs.Obeying.{IsNext, Allows}
-use Rattle.run_trace.specs.Stands.{Here, Agrees, AreInTurn, WantsSlots, itself, seeker_part, serving, turns_among, wants_among, count_by, one_turn, one_over, one_if, some_of, Busy, busy_name, busy_part, thread_part, row_part, link_part, listed, listed_name, Word, word_subject, word_of, words_about, Way, way, ways_of, on_link, phase_of, phase_at, Holding, held, slots_held, IsWellHeld, is_thread, waiter_name, waiter_in_life, waiter_part}
+use Rattle.run_trace.specs.Stands.{Here, Agrees, AreSeated, AreInTurn, WantsSlots, itself, seeker_part, serving, turns_among, wants_among, count_by, one_turn, one_over, one_if, some_of, Busy, busy_name, busy_part, thread_part, link_part, Word, word_subject, word_of, words_about, Way, way, ways_of, on_link, phase_of, phase_at, Holding, held, slots_held, IsWellHeld, is_thread, waiter_name, waiter_in_life, waiter_part}
 use Rattle.run_trace.specs.Keyed.{StandsFor}
 use Rattle.run_trace.proofs.Lemmas.{is-true, is-refl, is-same}
 use Rattle.trace_laws.proofs.Lists.Subjects.{less_word, rest_words, about-append, about-less, about-less_other, on_link-append}
 use Rattle.trace_laws.proofs.Lists.KeyedLemmas.{kept, map_kept}
-use Rattle.run_trace.specs.Items.{Subject, Thread, Turns, same_subject, Item, Does, Progress, is_seeking, goes_on_with, items_in, items_for, all_but_first, to_do_after, works_off, worked_off, said, said_all}
+use Rattle.run_trace.specs.Items.{Subject, Thread, Turns, same_subject, Item, Does, Progress, is_seeking, goes_on_with, items_in, items_for, all_but_first, rest_after, told_gathered, told_first, to_do_after, works_off, worked_off, said, said_all}
 
 -- an event before anything is said: of which program, on which occasion and node, what it has sent and has to do, and the cluster and
 -- what was told before it
@@ -91,28 +93,26 @@ NextAll p n (l ∷ ls) w r = IsNext n l w (worked_off n w r).to_do × NextAll p 
 abbrev pub doing : List Busy → List Item → List Item
 doing hand ahead = map busy_item hand ++ ahead
 
--- to which the event has come
-abbrev pub progress : EventSoFar → List Busy → List Item → Progress
-progress d hand ahead = record { sends = d.sends; to_do = doing hand ahead; talk = d.node.talk }
+-- to which the event has come, that has this to do
+abbrev pub progress : EventSoFar → List Item → Progress
+progress d to_do = record { sends = d.sends; to_do = to_do; talk = d.node.talk }
 
 -- its first item says something, or there is none
 abbrev pub Speaks : ℕ → Spots → List Item → Type 0
 Speaks n w is = (sends : List Send) (talk : Talk) → works_off n w is sends talk ≡ record { sends = sends; to_do = is; talk = talk }
 
--- beside the spots: the run list, what was sent and is still to do, and that the node has begun
-pub record Aside (p : Program) (n : ℕ) (opening : Progress) (ahead : List Item) (w : Spots) (before : Local) (d : EventSoFar) (hand : List Busy) : Type 0 where
-  pub run_lists : d.node.run_lists ≡ run_lists_after_all p n d.labels w before.run_lists
-  pub still : worked_off n (after_labels p n d.labels w) (said_all p n d.labels w opening) ≡ worked_off n (after_labels p n d.labels w) (progress d hand ahead)
+-- beside the spots: what was sent and is still to do, and that the node has begun
+pub record Aside (p : Program) (n : ℕ) (opening : Progress) (w : Spots) (before : Local) (d : EventSoFar) (to_do : List Item) : Type 0 where
+  pub still : worked_off n (after_labels p n d.labels w) (said_all p n d.labels w opening) ≡ worked_off n (after_labels p n d.labels w) (progress d to_do)
   pub next : NextAll p n d.labels w opening
-  pub rising : IsRising d.node.run_lists
   pub booted : before.booted ≡ true → d.node.booted ≡ true
 
--- the same of one more label, before which this was ahead
-pub record Beside (p : Program) (n : ℕ) (v : Spots) (l : Label) (due ahead : List Item) (old now : Local) (hand more : List Busy) : Type 0 where
-  pub run_lists : now.run_lists ≡ run_lists_after l v old.run_lists
-  pub front : Speaks n v (doing hand due)
-  pub still : doing more ahead ≡ to_do_after p n l v (doing hand due)
-  pub next : IsNext n l v (doing hand due)
+-- the same of one more label, before which this was ahead; and what it needs for the forests
+pub record Beside (p : Program) (n : ℕ) (v : Spots) (l : Label) (old now : Local) (due to_do : List Item) : Type 0 where
+  pub shifted : IsShifted n l v
+  pub front : Speaks n v due
+  pub still : to_do ≡ to_do_after p n l v due
+  pub next : IsNext n l v due
   pub talk : now.talk ≡ old.talk
   pub booted : now.booted ≡ old.booted
 
@@ -128,8 +128,8 @@ module _ (outset : Outset) where
   open outset use {program as p, net, occasion as q, node as n, opening, world as w}
 
   -- the event has come to d and has told now; it is busy with hand, and then what is ahead is left to do, of all that it began with;
-  -- L are the links without what it sent
-  pub record Midst (ahead : List Item) (L : Links) (d : EventSoFar) (hand : List Busy) : Type 0 where
+  -- to_do is all that it has to do; L are the links without what it sent
+  pub record MidstDoing (ahead : List Item) (L : Links) (d : EventSoFar) (hand : List Busy) (to_do : List Item) : Type 0 where
     pub now : World
     pub told : now ≡ record w { spots = after_labels p n d.labels w.spots }
     pub allowed : Obeyed p q n d.labels w
@@ -139,15 +139,24 @@ module _ (outset : Outset) where
     pub links : (i j : ℕ) → LinkStands i j (under n L d.sends i j) now.spots.threads
     pub turns : AreInTurn (talks_amid net n d.node.talk) (turn_words (under n L d.sends)) (to_do_amid n ahead)
     pub agrees : Agrees p now.spots
-    pub aside : Aside p n opening ahead w.spots (net.nodes n) d hand
+    pub seated : (k : ℕ) → AreSeated p k now.spots
+    pub covered : (k : ℕ) → AreCovered (now.spots.forests k)
+    pub aside : Aside p n opening w.spots (net.nodes n) d to_do
 
   -- the same after one more label, of a world that was told
-  pub record Then (ahead : List Item) (L : Links) (v : World) (l : Label) (d : EventSoFar) (hand : List Busy) : Type 0 where
-    pub midst : Midst ahead L d hand
+  pub record ThenDoing (ahead : List Item) (L : Links) (v : World) (l : Label) (d : EventSoFar) (hand : List Busy) (to_do : List Item) : Type 0 where
+    pub midst : MidstDoing ahead L d hand to_do
     pub now : midst.now ≡ world_after p n l v
 
+-- it has nothing to say before what it does for those with whom it is busy
+abbrev pub Midst : Outset → List Item → Links → EventSoFar → List Busy → Type 0
+Midst outset ahead L d hand = MidstDoing outset ahead L d hand (doing hand ahead)
+
+abbrev pub Then : Outset → List Item → Links → World → Label → EventSoFar → List Busy → Type 0
+Then outset ahead L v l d hand = ThenDoing outset ahead L v l d hand (doing hand ahead)
+
 -- nodes and links stand for what is told then
-pub amid : {outset : Outset} {ahead : List Item} {L : Links} {d : EventSoFar} {hand : List Busy} → (m : Midst outset ahead L d hand) → StandsAmid outset.program outset.net outset.node m.now.spots (under outset.node L d.sends) d.node hand ahead
+pub amid : {outset : Outset} {ahead to_do : List Item} {L : Links} {d : EventSoFar} {hand : List Busy} → (m : MidstDoing outset ahead L d hand to_do) → StandsAmid outset.program outset.net outset.node m.now.spots (under outset.node L d.sends) d.node hand ahead
 amid m = record { here = m.here; there = m.there; links = m.links; turns = m.turns; agrees = m.agrees }
 
 -- ## One more label
@@ -168,10 +177,6 @@ shown_append : (p : Program) (n : ℕ) (ls : List Label) (l : Label) (w : Spots)
 shown_append p n [] l w = append-nil (shown_by l w)
 shown_append p n (x ∷ ls) l w = ap (λ xs. shown_by x w ++ xs) (shown_append p n ls l (after_label p n x w)) ∙ sym (append_assoc (shown_by x w) (shown_by_all p n ls (after_label p n x w)) (shown_by l (after_labels p n (x ∷ ls) w)))
 
-places_append : (p : Program) (n : ℕ) (ls : List Label) (l : Label) (w : Spots) (s : RunLists) → run_lists_after_all p n (ls ++ l ∷ []) w s ≡ run_lists_after l (after_labels p n ls w) (run_lists_after_all p n ls w s)
-places_append p n [] l w s = refl
-places_append p n (x ∷ ls) l w s = places_append p n ls l (after_label p n x w) (run_lists_after x w s)
-
 said_append : (p : Program) (n : ℕ) (ls : List Label) (l : Label) (w : Spots) (r : Progress)
     → said_all p n (ls ++ l ∷ []) w r ≡ said p n l (after_labels p n ls w) (worked_off n (after_labels p n ls w) (said_all p n ls w r))
 said_append p n [] l w r = refl
@@ -182,20 +187,18 @@ next_append : (p : Program) (n : ℕ) (ls : List Label) (l : Label) (w : Spots) 
 next_append p n [] l w r a k = (k, tt)
 next_append p n (x ∷ ls) l w r a k = (a.0, next_append p n ls l (after_label p n x w) (said p n x w (worked_off n w r)) a.1 k)
 
-aside_append : {p : Program} {n : ℕ} {opening : Progress} {due ahead : List Item} {w : Spots} {before now : Local} {d : EventSoFar} {l : Label} {sends : List Send} {prints : List ℕ} {hand more : List Busy}
-    → Aside p n opening due w before d hand → Beside p n (after_labels p n d.labels w) l due ahead d.node now hand more → sends ≡ d.sends ++ causes p n l (after_labels p n d.labels w)
-    → Aside p n opening ahead w before (record { node = now; labels = d.labels ++ l ∷ []; sends = sends; prints = prints }) more
-aside_append {p} {n} {opening} {due} {ahead} {w} {before} {now} {d} {l} {sends} {hand = hand} {more} a b sent =
+aside_append : {p : Program} {n : ℕ} {opening : Progress} {due to_do : List Item} {w : Spots} {before now : Local} {d : EventSoFar} {l : Label} {sends : List Send} {prints : List ℕ}
+    → Aside p n opening w before d due → Beside p n (after_labels p n d.labels w) l d.node now due to_do → sends ≡ d.sends ++ causes p n l (after_labels p n d.labels w)
+    → Aside p n opening w before (record { node = now; labels = d.labels ++ l ∷ []; sends = sends; prints = prints }) to_do
+aside_append {p} {n} {opening} {due} {to_do} {w} {before} {now} {d} {l} {sends} a b sent =
     let v : Spots = after_labels p n d.labels w in
-    let is : worked_off n v (said_all p n d.labels w opening) ≡ progress d hand due = a.still ∙ b.front d.sends d.node.talk in
-    let after : Progress = record { sends = sends; to_do = doing more ahead; talk = now.talk } in
+    let is : worked_off n v (said_all p n d.labels w opening) ≡ progress d due = a.still ∙ b.front d.sends d.node.talk in
+    let after : Progress = record { sends = sends; to_do = to_do; talk = now.talk } in
     let then : said_all p n (d.labels ++ l ∷ []) w opening ≡ after =
     said_append p n d.labels l w opening ∙ ap (said p n l v) is ∙ sym (same_parts sent b.still b.talk) in
     record {
-      run_lists = b.run_lists ∙ ap (run_lists_after l v) a.run_lists ∙ sym (places_append p n d.labels l w before.run_lists);
       still = ap (worked_off n (after_labels p n (d.labels ++ l ∷ []) w)) then;
       next = next_append p n d.labels l w opening a.next (subst (λ (r : Progress). IsNext n l v r.to_do) (sym is) b.next);
-      rising = subst (λ z. IsRising z) (sym b.run_lists) (rising_after l v d.node.run_lists a.rising);
       booted = λ h. b.booted ∙ a.booted h;
     }
   where
@@ -214,38 +217,65 @@ pub record IsAsBefore (due ahead : List Item) : Type 0 where
 pub as_before : {ahead : List Item} → IsAsBefore ahead ahead
 as_before = record { turns = refl; wants = refl; serves = refl }
 
+-- after the label its threads go on: no bubble is told first, and no processor chooses again
+abbrev pub GoesOnOnly : Program → ℕ → Label → Spots → Type 0
+GoesOnOnly p n (Asked t call args bytes) v = gathered_by_call p n t v ≡ None
+GoesOnOnly p n (Down bubble list) v = ⊥
+GoesOnOnly p n (Burst bubble list) v = ⊥
+GoesOnOnly p n l v = ⊤
+
+none_first : (p : Program) (n : ℕ) (l : Label) (v : Spots) → GoesOnOnly p n l v → told_first p n l v ≡ []
+none_first p n (Asked t call args bytes) v h = ap told_gathered h
+none_first p n (Down bubble list) v h = absurd h
+none_first p n (Burst bubble list) v h = absurd h
+none_first p n l v h = grind arith
+
+first_gone : (p : Program) (n : ℕ) (l : Label) (v : Spots) (is : List Item) → GoesOnOnly p n l v → rest_after l is ≡ all_but_first is
+first_gone p n (Down bubble list) v is h = absurd h
+first_gone p n (Burst bubble list) v is h = absurd h
+first_gone p n l v is h = grind arith
+
+pub goes_only : (p : Program) (n : ℕ) (l : Label) (v : Spots) (is : List Item) {ss : List Subject} → GoesOnOnly p n l v → goes_on_with p n l v ≡ ss
+    → to_do_after p n l v is ≡ items_for n ss (after_label p n l v) ++ all_but_first is
+goes_only p n l v is {ss} h on =
+    ap (λ z. z ++ items_for n (goes_on_with p n l v) (after_label p n l v) ++ rest_after l is) (none_first p n l v h)
+    ∙ ap (λ z. items_for n (goes_on_with p n l v) (after_label p n l v) ++ z) (first_gone p n l v is h)
+    ∙ ap (λ z. items_for n z (after_label p n l v) ++ all_but_first is) on
+
 -- a label of the thread t, which comes to a new life: the event is busy with it, or goes on with what is left to do
 pub record Own (p : Program) (n : ℕ) (l : Label) (t : Tid) (v : Spots) (due ahead : List Item) (hand more : List Busy) (new : Life) : Type 0 where
   pub heir : goes_on_with p n l v ≡ Thread t ∷ []
+  pub only : GoesOnOnly p n l v
   pub front : Speaks n v (doing hand due)
   pub next : IsNext n l v (doing hand due)
   pub still : doing more ahead ≡ (items_in n t new ++ []) ++ all_but_first (doing hand due)
 
 pub beside : {p : Program} {n : ℕ} {v : Spots} {l : Label} {t : Tid} {due ahead : List Item} {old now : Local} {hand more : List Busy} {new : Life}
-    → Own p n l t v due ahead hand more new → ((after_label p n l v).threads t).life ≡ new → now.run_lists ≡ run_lists_after l v old.run_lists → now.booted ≡ old.booted → now.talk ≡ old.talk
-    → Beside p n v l due ahead old now hand more
-beside {p} {n} {v} {l} {t} {due} {hand = hand} o life run_lists booted talk = record {
-  run_lists = run_lists;
+    → Own p n l t v due ahead hand more new → ((after_label p n l v).threads t).life ≡ new → IsShifted n l v → now.booted ≡ old.booted → now.talk ≡ old.talk
+    → Beside p n v l old now (doing hand due) (doing more ahead)
+beside {p} {n} {v} {l} {t} {due} {hand = hand} o life shifted booted talk = record {
+  shifted = shifted;
   booted = booted;
   talk = talk;
   front = o.front;
   next = o.next;
-  still = o.still ∙ ap (λ z. (items_in n t z ++ []) ++ all_but_first (doing hand due)) (sym life) ∙ ap (λ z. items_for n z (after_label p n l v) ++ all_but_first (doing hand due)) (sym o.heir);
+  still = o.still ∙ ap (λ z. (items_in n t z ++ []) ++ all_but_first (doing hand due)) (sym life) ∙ sym (goes_only p n l v (doing hand due) o.only o.heir);
 }
 
 -- a label that sets u going, which comes to one life, while its own thread t comes to another
 pub record SetsGoing (p : Program) (n : ℕ) (l : Label) (u t : Tid) (v : Spots) (due ahead : List Item) (hand more : List Busy) (first second : Life) : Type 0 where
   pub heirs : goes_on_with p n l v ≡ Thread u ∷ Thread t ∷ []
+  pub only : GoesOnOnly p n l v
   pub front : Speaks n v (doing hand due)
   pub next : IsNext n l v (doing hand due)
   pub still : doing more ahead ≡ (items_in n u first ++ (items_in n t second ++ [])) ++ all_but_first (doing hand due)
 
 pub beside_both : {p : Program} {n : ℕ} {v : Spots} {l : Label} {u t : Tid} {due ahead : List Item} {old now : Local} {hand more : List Busy} {first second : Life}
     → SetsGoing p n l u t v due ahead hand more first second → ((after_label p n l v).threads u).life ≡ first → ((after_label p n l v).threads t).life ≡ second
-    → now.run_lists ≡ run_lists_after l v old.run_lists → now.booted ≡ old.booted → now.talk ≡ old.talk
-    → Beside p n v l due ahead old now hand more
-beside_both {p} {n} {v} {l} {u} {t} {due} {hand = hand} {first = first} {second} o of_u of_t run_lists booted talk = record {
-  run_lists = run_lists;
+    → IsShifted n l v → now.booted ≡ old.booted → now.talk ≡ old.talk
+    → Beside p n v l old now (doing hand due) (doing more ahead)
+beside_both {p} {n} {v} {l} {u} {t} {due} {hand = hand} {first = first} {second} o of_u of_t shifted booted talk = record {
+  shifted = shifted;
   booted = booted;
   talk = talk;
   front = o.front;
@@ -253,7 +283,7 @@ beside_both {p} {n} {v} {l} {u} {t} {due} {hand = hand} {first = first} {second}
   still = o.still
       ∙ ap (λ z. (items_in n u z ++ (items_in n t second ++ [])) ++ all_but_first (doing hand due)) (sym of_u)
       ∙ ap (λ z. (items_in n u ((after_label p n l v).threads u).life ++ (items_in n t z ++ [])) ++ all_but_first (doing hand due)) (sym of_t)
-      ∙ ap (λ z. items_for n z (after_label p n l v) ++ all_but_first (doing hand due)) (sym o.heirs);
+      ∙ sym (goes_only p n l v (doing hand due) o.only o.heirs);
 }
 
 -- ## Turns, where nothing of them changes
@@ -281,22 +311,29 @@ in_turn_kept net n old now M N due ahead a talk words turns wants =
 -- node k's lists show the thread as before
 pub record Frame (k : ℕ) (t : Tid) (r s : Spot) : Type 0 where
   pub thread : thread_part k t s ≡ thread_part k t r
-  pub row : row_part k t s ≡ row_part k t r
   pub busy : busy_part k t s ≡ busy_part k t r
   pub seeker : seeker_part k t s ≡ seeker_part k t r
 
-abbrev pub spots_with : (Tid → Spot) → (ℕ → Holder) → (ℕ → List Birth) → (ℕ → List SemRow) → (ℕ → Bool) → Remote → Spots
-spots_with threads slots births sems halts remote = record { threads = threads; slots = slots; births = births; sems = sems; halts = halts; remote = remote }
+abbrev pub spots_with : (Tid → Spot) → (ℕ → Holder) → (ℕ → List Birth) → (ℕ → List SemRow) → (ℕ → ForestView) → (ℕ → Bool) → Remote → Spots
+spots_with threads slots births sems forests halts remote = record { threads = threads; slots = slots; births = births; sems = sems; forests = forests; halts = halts; remote = remote }
+
+-- a node's own forest, where a label has changed it alone
+pub own_forest : (f : ℕ → ForestView) (n : ℕ) (x : ForestView) → x ≡ at_node f n x n
+own_forest f n x = rw (eq-eqb n n refl) refl
+
+-- and another node's
+pub other_forest : (f : ℕ → ForestView) (n : ℕ) (x : ForestView) (k : ℕ) → eqb n k ≡ false → at_node f n x k ≡ f k
+other_forest f n x k e = rw e refl
 
 -- nor does node k's list of those that seek slots show a thread that seeks none
 pub no_seeker : (k : ℕ) (t : Tid) (s : Spot) → is_seeking k s.life ≡ false → seeker_part k t s ≡ None
 no_seeker k t s e = rw e refl
 
-pub here_kept : {f : ℕ → Holder} {b : ℕ → List Birth} {z : ℕ → List SemRow} {h : ℕ → Bool} {remote : Remote} (k : ℕ) (w : Spots) (t : Tid) (s : Spot) (st : Local) (hand : List Busy) (served : List Tid) → Here k w st hand served → Frame k t (w.threads t) s
-    → b k ≡ w.births k → z k ≡ w.sems k → ((x : ℕ) → is_free k (f x) ≡ is_free k (w.slots x)) → h k ≡ w.halts k → Here k (spots_with (update w.threads t s) f b z h remote) st hand served
-here_kept k w t s st hand served m frame births sems slots halts = record {
+pub here_kept : {f : ℕ → Holder} {b : ℕ → List Birth} {z : ℕ → List SemRow} {g : ℕ → ForestView} {h : ℕ → Bool} {remote : Remote} (k : ℕ) (w : Spots) (t : Tid) (s : Spot) (st : Local) (hand : List Busy) (served : List Tid) → Here k w st hand served → Frame k t (w.threads t) s
+    → b k ≡ w.births k → z k ≡ w.sems k → g k ≡ w.forests k → ((x : ℕ) → is_free k (f x) ≡ is_free k (w.slots x)) → h k ≡ w.halts k → Here k (spots_with (update w.threads t s) f b z g h remote) st hand served
+here_kept k w t s st hand served m frame births sems forests slots halts = record {
   threads = map_kept is_tid is-true is-refl (thread_part k) w.threads t s st.threads m.threads frame.thread;
-  rows = kept is_tid is-true is-refl listed_name (row_part k) w.threads t s (map listed st.run_lists.rows) m.rows frame.row;
+  forest = m.forest ∙ sym forests;
   busy = kept is_tid is-true is-refl busy_name (busy_part k) w.threads t s hand m.busy frame.busy;
   seekers = kept is_tid is-true is-refl itself (seeker_part k) w.threads t s (served ++ st.talk.claims) m.seekers frame.seeker;
   births = m.births ∙ sym births;
@@ -545,7 +582,7 @@ pub keeps : (old new : Option Holding) → new ≡ old → Keeps old new
 keeps old new e = record { slots = ap slots_held e; well = λ h. subst (λ x. IsWellHeld x) (sym e) h }
 
 -- a thread that keeps its phase, and that no record names as a joiner; f are the holders, z the semaphores and h the halts then
-pub agrees_changed : {remote : Remote} (p : Program) (w : Spots) (t : Tid) (s : Spot) {f : ℕ → Holder} {z : ℕ → List SemRow} {h : ℕ → Bool} → Agrees p w
+pub agrees_changed : {forests : ℕ → ForestView} {remote : Remote} (p : Program) (w : Spots) (t : Tid) (s : Spot) {f : ℕ → Holder} {z : ℕ → List SemRow} {h : ℕ → Bool} → Agrees p w
     → phase_of s.life ≡ phase_of (w.threads t).life
     → ((w.threads t).life ≡ Unborn → ⊥)
     → ((u : Tid) (m : ℕ) → (w.threads t).life ≡ On m (Awaits u) → ⊥)
@@ -554,7 +591,7 @@ pub agrees_changed : {remote : Remote} (p : Program) (w : Spots) (t : Tid) (s : 
     → ((m : ℕ) → w.halts m ≡ true → h m ≡ true)
     → ((u : Tid) (y : ℕ) → has y (slots_held (held (update w.threads t s u).life (update w.threads t s u).guest)) ≡ is_thread u (f y))
     → IsWellHeld (held s.life s.guest)
-    → Agrees p (spots_with (update w.threads t s) f w.births z h remote)
+    → Agrees p (spots_with (update w.threads t s) f w.births z forests h remote)
 agrees_changed p w t s {h = h} a phase born quiet new queued more slots well = record {
   sems = queued.sems;
   queues = queued.queues;
@@ -579,7 +616,7 @@ agrees_changed p w t s {h = h} a phase born quiet new queued more slots well = r
 }
 
 -- one that keeps its slots too
-pub agrees_queued : {remote : Remote} (p : Program) (w : Spots) (t : Tid) (s : Spot) (h : ℕ → Bool) {z : ℕ → List SemRow} → Agrees p w
+pub agrees_queued : {forests : ℕ → ForestView} {remote : Remote} (p : Program) (w : Spots) (t : Tid) (s : Spot) (h : ℕ → Bool) {z : ℕ → List SemRow} → Agrees p w
     → phase_of s.life ≡ phase_of (w.threads t).life
     → ((w.threads t).life ≡ Unborn → ⊥)
     → ((u : Tid) (m : ℕ) → (w.threads t).life ≡ On m (Awaits u) → ⊥)
@@ -587,7 +624,7 @@ pub agrees_queued : {remote : Remote} (p : Program) (w : Spots) (t : Tid) (s : S
     → Fits h (call_of s.guest.solo.state) s.life
     → AreQueued z (update w.threads t s)
     → ((m : ℕ) → w.halts m ≡ true → h m ≡ true)
-    → Agrees p (spots_with (update w.threads t s) w.slots w.births z h remote)
+    → Agrees p (spots_with (update w.threads t s) w.slots w.births z forests h remote)
 agrees_queued p w t s h a phase born quiet kept new queued more = agrees_changed p w t s a phase born quiet new queued more
     (λ u x. elim (is_tid t u) as (λ v. is_tid t u ≡ v → has x (slots_held (held (cond v s (w.threads u)).life (cond v s (w.threads u)).guest)) ≡ is_thread u (w.slots x)) [
       | true ↦ λ e. ap (has x) kept.slots ∙ ap (λ y. has x (slots_held (held (w.threads y).life (w.threads y).guest))) (is-true t u e) ∙ a.slots u x
@@ -596,14 +633,14 @@ agrees_queued p w t s h a phase born quiet kept new queued more = agrees_changed
     (kept.well (a.blocks t))
 
 -- and waits for no semaphore, before or after
-pub agrees_kept : {remote : Remote} (p : Program) (w : Spots) (t : Tid) (s : Spot) (h : ℕ → Bool) → Agrees p w
+pub agrees_kept : {forests : ℕ → ForestView} {remote : Remote} (p : Program) (w : Spots) (t : Tid) (s : Spot) (h : ℕ → Bool) → Agrees p w
     → phase_of s.life ≡ phase_of (w.threads t).life
     → Quiet (w.threads t).life
     → Keeps (held (w.threads t).life (w.threads t).guest) (held s.life s.guest)
     → Fits h (call_of s.guest.solo.state) s.life
     → ((j k : ℕ) → waiter_part j k t s ≡ None)
     → ((m : ℕ) → w.halts m ≡ true → h m ≡ true)
-    → Agrees p (spots_with (update w.threads t s) w.slots w.births w.sems h remote)
+    → Agrees p (spots_with (update w.threads t s) w.slots w.births w.sems forests h remote)
 agrees_kept p w t s h a phase quiet kept new none more = agrees_queued p w t s h a phase quiet.born quiet.waits kept new
     (queued_kept w.threads t s (queued a) (λ j k. quiet.queues j k t) none) more
 
@@ -613,13 +650,13 @@ module _ {outset : Outset} {ahead : List Item} where
   open outset use {program as p, net, occasion as q, node as n, opening, world as w}
 
   -- a label, with what goes with it, before which what is due was ahead
-  pub labelled : {due : List Item} {L : Links} {d : EventSoFar} {hand : List Busy} {sends : List Send} {prints : List ℕ} (M : Links) (more : List Busy) (l : Label) (v : Spots) (now : Local)
-      → (m : Midst outset due L d hand) → after_label p n l m.now.spots ≡ v → Allows p (having_said d.labels q) n l m.now
+  pub labelled : {due is to_do : List Item} {L : Links} {d : EventSoFar} {hand : List Busy} {sends : List Send} {prints : List ℕ} (M : Links) (more : List Busy) (l : Label) (v : Spots) (now : Local)
+      → (m : MidstDoing outset due L d hand is) → after_label p n l m.now.spots ≡ v → Allows p (having_said d.labels q) n l m.now
       → sends ≡ d.sends ++ causes p n l m.now.spots → prints ≡ d.prints ++ shown_by l m.now.spots
       → StandsAmid p net n v (under n M sends) now more ahead
-      → Beside p n m.now.spots l due ahead d.node now hand more
-      → Then outset ahead M m.now l (record { node = now; labels = d.labels ++ l ∷ []; sends = sends; prints = prints }) more
-  labelled {due} {L} {d} {hand} M more l v now m same ok sent shown stands aside =
+      → Beside p n m.now.spots l d.node now is to_do
+      → ThenDoing outset ahead M m.now l (record { node = now; labels = d.labels ++ l ∷ []; sends = sends; prints = prints }) more to_do
+  labelled {due} {is} {to_do} {L} {d} {hand} M more l v now m same ok sent shown stands aside =
       let told : m.now ≡ record w { spots = after_labels p n d.labels w.spots } = m.told in
       let spots : m.now.spots ≡ after_labels p n d.labels w.spots = ap (λ (z : World). z.spots) told in
       let may : Allows p (having_said d.labels q) n l (record w { spots = after_labels p n d.labels w.spots }) = subst (λ z. Allows p (having_said d.labels q) n l z) told ok in
@@ -634,7 +671,7 @@ module _ {outset : Outset} {ahead : List Item} where
             life = obey_append LifeRule p q n d.labels l w m.allowed.life may.life;
             replies = obey_append RepliesRule p q n d.labels l w m.allowed.replies may.replies;
             grants = obey_append GrantsRule p q n d.labels l w m.allowed.grants may.grants;
-            agrees = obey_append AgreesRule p q n d.labels l w m.allowed.agrees (subst (λ (z : World). Agrees p z.spots) told m.agrees);
+            agrees = obey_append AgreesRule p q n d.labels l w m.allowed.agrees (subst (λ (z : World). Agrees p z.spots × ((k : ℕ) → AreSeated p k z.spots)) told (m.agrees, m.seated));
           };
           prints = shown ∙ ap (λ z. d.prints ++ shown_by l z) spots ∙ ap (λ xs. xs ++ shown_by l (after_labels p n d.labels w.spots)) m.prints ∙ sym (shown_append p n d.labels l w.spots);
           here = stands.here;
@@ -642,6 +679,8 @@ module _ {outset : Outset} {ahead : List Item} where
           links = stands.links;
           turns = stands.turns;
           agrees = stands.agrees;
-          aside = aside_append m.aside (subst (λ z. Beside p n z l due ahead d.node now hand more) spots aside) (sent ∙ ap (λ z. d.sends ++ causes p n l z) spots);
+          seated = λ k. subst (λ z. AreSeated p k z) same (seated_label p (having_said d.labels q) n l m.now ok aside.shifted m.agrees m.seated k);
+          covered = λ k. subst (λ (z : Spots). AreCovered (z.forests k)) same (covered_label p n l m.now.spots aside.shifted m.seated m.covered k);
+          aside = aside_append m.aside (subst (λ z. Beside p n z l d.node now is to_do) spots aside) (sent ∙ ap (λ z. d.sends ++ causes p n l z) spots);
         };
       }

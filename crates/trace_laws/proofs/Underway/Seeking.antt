@@ -1,34 +1,40 @@
 -- A thread that seeks slots, on an event in its midst: it comes to seek them, or it is decided that there are none for it.
-use Rattle.std.proofs.Common.{arith, ◌≡◌, ℕ, List, [], ◌∷◌, ◌++◌, Option, Some, None, Bool, true, false, eqb, cond, refl, sym, ap, ◌∙◌, subst, map}
+use Rattle.std.proofs.Common.{arith, ◌≡◌, ℕ, List, [], ◌∷◌, ◌++◌, Option, Some, None, Bool, true, false, eqb, cond, refl, sym, ap, ◌∙◌, subst}
 use Rattle.std.specs.Prelude.{is_some}
 use Rattle.std.proofs.lemmas.Bool.{eq-eqb, eqb-true}
 use Rattle.std.proofs.lemmas.List.{append-nil}
-use Rattle.slot_space.specs.Replies.{reply_code}
+use Rattle.slot_space.specs.Replies.{reply_code, tid_value}
 use Rattle.slot_space.specs.declared.names.Tid.{Tid}
 use Rattle.slot_space.specs.declared.names.Reply.TheVariants as replies
-use Rattle.run_trace.specs.declared.label.Label.TheVariants.{Asked, Decided}
+use Rattle.run_trace.specs.declared.label.Label.TheVariants.{Born, Decided}
+use Rattle.run_trace.specs.declared.label.Why.{Why}
+use Rattle.run_trace.specs.declared.label.Why.TheVariants as why
 use Rattle.run_trace.specs.declared.node.Wait.TheVariants as wait
 use Rattle.run_trace.specs.declared.call.Call.{Call}
+use Rattle.run_trace.specs.declared.call.Call.TheVariants.{Create, CreateIn}
+use Rattle.marcel_sync.specs.Semaphores.{number_in}
+use Rattle.run_trace.specs.Rules.{IsBorn}
 use Rattle.run_trace.specs.Names.{is_tid}
 use Rattle.run_trace.specs.Program.{Program}
 use Rattle.run_trace.specs.Guests.{Guest, Thread, waits}
-use Rattle.run_trace.specs.Calls.{call_of, number_of, args_of, slots_wanted}
+use Rattle.run_trace.specs.Calls.{call_of, slots_wanted}
 use Rattle.run_trace.specs.Cluster.{Net}
 use Rattle.run_trace.specs.Keyed.{StandsFor}
 use Rattle.run_trace.specs.Local.{Local, EventSoFar}
 use Rattle.run_trace.specs.Steps.{say, keep, asks, asks_slots, decides, at_found, at_thread}
 use Rattle.run_trace.specs.Machine.{refuses}
 use Rattle.run_trace.specs.Causes.{asked_causes}
-use Rattle.run_trace.specs.Spots.{Stage, Running, Due, Seeks, Life, On, Response, Spot, Spots, Remote, update, its_call, lowest_free}
-use Rattle.run_trace.specs.Stands.{Busy, busy, busy_name, busy_part, thread_part, row_part, listed, listed_name, itself, seeker_part, serving, turns_among, wants_among, WantsSlots, ways_of, held, held_in_stage, holding_of, phase_of, waiter_in_life}
-use Rattle.run_trace.specs.Items.{Item, Serves, Decides, is_busy, is_seeking, has_slots}
+use Rattle.run_trace.specs.Spots.{Stage, Running, Due, Seeks, Life, On, Response, Spot, Spots, Remote, update, its_call, lowest_free, asked_priority, priority_by, creator_served, stack_bytes}
+use Rattle.run_trace.specs.Stands.{Busy, busy, busy_name, busy_part, thread_part, itself, seeker_part, serving, turns_among, wants_among, WantsSlots, ways_of, held, held_in_stage, holding_of, phase_of, waiter_in_life}
+use Rattle.run_trace.specs.Items.{Thread as Thread_of, Item, Serves, Decides, is_busy, is_seeking, has_slots}
+use Rattle.run_trace.specs.Items.{doer as doer_of}
 use Rattle.run_trace.proofs.Lemmas.{is-true, is-refl}
-use Rattle.trace_laws.proofs.Lists.KeyedLemmas.{kept, fronted, unfronted, map_set}
-use Rattle.trace_laws.proofs.Lists.Parts.{thread_was, row_was, busy_was, seeker_was, away_thread, away_row, away_seeker, busy_none}
+use Rattle.trace_laws.proofs.Lists.KeyedLemmas.{fronted, unfronted, map_set}
+use Rattle.trace_laws.proofs.Lists.Parts.{thread_was, busy_was, seeker_was, away_thread, away_seeker, busy_none}
 use Rattle.trace_laws.proofs.Underway.Midst.{Outset, Links, Midst, StandsAmid, amid, Fits, beside, in_turn_kept, no_seeker, spots_with, labelled, here_kept, agrees_queued, links_kept, keeps, queued, queued_kept}
 use Rattle.trace_laws.proofs.Underway.Steps.{Ties, in_hand, on_node, life_then}
 use Rattle.trace_laws.proofs.Underway.ReplySteps.{answer_ok}
-use Rattle.trace_laws.proofs.Underway.CallSteps.{IsItsOwn, call_at, bytes_at, asked_same, goes_alone}
+use Rattle.trace_laws.proofs.Underway.CallSteps.{IsItsOwn, asked_label, call_at, bytes_at, asked_same, asked_amid, goes_alone, nobody_leaves}
 
 -- ## Stages round the one in which a thread seeks slots
 
@@ -68,20 +74,19 @@ pub near_amid : {p : Program} {net : Net} {n : ℕ} {v : Spots} {M : Links} {s :
     → Ties n v t (record (v.threads t) { life = On n b }) (record s { threads = threads }) more
     → StandsFor is_tid itself (seeker_part n) (serving ahead ++ s.talk.claims) (update v.threads t (record (v.threads t) { life = On n b }))
     → turns_among ahead ≡ turns_among due → wants_among ahead ≡ wants_among due
-    → StandsAmid p net n (spots_with (update v.threads t (record (v.threads t) { life = On n b })) v.slots v.births v.sems v.halts remote) M (record s { threads = threads }) more ahead
+    → StandsAmid p net n (spots_with (update v.threads t (record (v.threads t) { life = On n b })) v.slots v.births v.sems v.forests v.halts remote) M (record s { threads = threads }) more ahead
 near_amid {p} {net} {n} {v} {M} {s} {hand} {due} {ahead} threads more t a b o x near then wants ties seekers turns wishes =
     let old : Spot = v.threads t in
     let r : Spot = record old { life = On n b } in
     record {
-      here = record { threads = ties.threads; rows = ties.rows; busy = ties.busy; seekers = seekers; births = o.here.births; sems = o.here.sems; free = o.here.free; halted = o.here.halted };
+      here = record { threads = ties.threads; forest = o.here.forest; busy = ties.busy; seekers = seekers; births = o.here.births; sems = o.here.sems; free = o.here.free; halted = o.here.halted };
       there = λ k e. here_kept k v t r (net.nodes k) [] [] (o.there k e)
           (record {
             thread = away_thread n k t r b refl e ∙ sym (away_thread n k t old a x e);
-            row = away_row n k t r b refl e ∙ sym (away_row n k t old a x e);
             busy = busy_none k t r (On n b) refl (near_busy n k b then e) ∙ sym (busy_none k t old (On n a) x (near_busy n k a near e));
             seeker = away_seeker n k t r b refl e ∙ sym (away_seeker n k t old a x e);
           })
-          refl refl (λ y. refl) refl;
+          refl refl refl (λ y. refl) refl;
       links = λ i j. links_kept t r v.threads M o.links (near_way t n b old.verdict old.guest then ∙ sym (ap (λ z. ways_of t z old.verdict old.guest) x ∙ near_way t n a old.verdict old.guest near)) i j;
       turns = in_turn_kept net n s.talk s.talk M M due ahead o.turns refl (λ i j. refl) turns wishes;
       agrees = agrees_queued p v t r v.halts o.agrees (sym (ap phase_of x)) (λ e. absurd (cc (e, x))) (λ u m e. absurd (cc (ap is_near_life (sym x ∙ e), near)))
@@ -107,6 +112,39 @@ seeks_first n t xs w h = by (is_seeking n (w t).life) refl (sym (h.shows t) ∙ 
     by true e g = seeking_life n (w t).life e
     by false e g = absurd (cc g)
 
+-- ## A thread that seeks a slot to create another one, by a call that names a bubble or none
+
+-- what a birth of that reason says of it
+pub record IsCreation (p : Program) (n : ℕ) (t : Tid) (v : Spots) (reason : Why) (entry argument priority : ℕ) : Type 0 where
+  pub born : IsBorn p n reason entry argument v
+  pub wants : slots_wanted (its_call t v) ≡ 1
+  pub priority_is : priority_by v.threads reason ≡ priority
+  pub bytes : stack_bytes reason v.remote ≡ []
+  pub doer : (u : Tid) (a1 sp slot : ℕ) → doer_of (Born u reason entry argument a1 sp slot) ≡ Some (Thread_of t)
+  pub served : (u : Tid) → creator_served n u reason v.threads ≡ update v.threads t (record (v.threads t) { life = On n (Due (tid_value u)) })
+
+pub creation : (p : Program) (n : ℕ) (t : Tid) (v : Spots) (entry argument priority : ℕ) → (v.threads t).life ≡ On n Seeks → its_call t v ≡ Create entry argument priority
+    → IsCreation p n t v (why.Create t) entry argument priority
+creation p n t v entry argument priority x asked = record {
+  born = (x, priority, asked);
+  wants = ap slots_wanted asked;
+  priority_is = ap asked_priority asked;
+  bytes = refl;
+  doer = λ u a1 sp slot. refl;
+  served = λ u. refl;
+}
+
+pub creation_inside : (p : Program) (n : ℕ) (t : Tid) (v : Spots) (bubble entry argument priority : ℕ) → (v.threads t).life ≡ On n Seeks → its_call t v ≡ CreateIn bubble entry argument priority
+    → IsCreation p n t v (why.Inside t (number_in bubble)) entry argument priority
+creation_inside p n t v bubble entry argument priority x asked = record {
+  born = (x, bubble, priority, asked, refl);
+  wants = ap slots_wanted asked;
+  priority_is = ap asked_priority asked;
+  bytes = refl;
+  doer = λ u a1 sp slot. refl;
+  served = λ u. refl;
+}
+
 module _ {outset : Outset} {ahead : List Item} {L : Links} where
   open outset use {program as p, net, occasion as q, node as n, opening, world as w}
 
@@ -120,18 +158,17 @@ module _ {outset : Outset} {ahead : List Item} {L : Links} where
       let s : Spot = m.now.spots.threads t in
       let x : s.life ≡ On n Running = in_hand m in
       let r : Spot = record s { life = On n Seeks } in
-      (labelled L [] (Asked t (number_of (call_at m.now.spots t)) (args_of (call_at m.now.spots t)) []) _ _ m (asked_same p n m.now.spots t [] Seeks st)
+      (labelled L [] (asked_label m.now.spots t []) _ _ m (asked_same p n m.now.spots t [] Seeks st)
       (record { solo = (refl, refl, said); holders = tt; life = x; replies = tt; grants = tt }) (sym (append-nil d.sends) ∙ ap (λ z. d.sends ++ z) (sym (ap (asked_causes t) st.stage))) (sym (append-nil d.prints))
-      (near_amid _ [] t Running Seeks (amid m) x refl refl (λ e. wants)
+      (asked_amid t [] st.bubbles refl (near_amid _ [] t Running Seeks (amid m) x refl refl (λ e. wants)
       (record {
         threads = map_set is_tid is-true is-refl (thread_part n) v.threads t r d.node.threads (waits wait.No s.guest) (waits wait.ForSlots s.guest) m.here.threads (thread_was n t s Running x) (thread_was n t r Seeks refl);
-        rows = kept is_tid is-true is-refl listed_name (row_part n) v.threads t r (map listed d.node.run_lists.rows) m.here.rows (row_was n t r Seeks refl ∙ sym (row_was n t s Running x));
         busy = unfronted is_tid is-true is-refl busy_name (busy_part n) v.threads t r [] (busy t (On n Running)) m.here.busy refl (busy_none n t r (On n Seeks) refl refl);
       })
       (fronted is_tid is-true is-refl itself (seeker_part n) v.threads t r (serving ahead ++ d.node.talk.claims) t m.here.seekers refl (no_seeker n t s (ap (is_seeking n) x)) (seeker_was n t r refl))
-      refl refl)
-      (beside (record { heir = goes_alone t [] st; front = λ sends talk. refl; next = (refl, ap (is_busy n) x ∙ eq-eqb n n refl); still = rw (eq-eqb n n refl) refl })
-      (life_then p n v (Asked t (number_of (call_at v t)) (args_of (call_at v t)) []) t r _ (asked_same p n v t [] Seeks st) refl) refl refl refl)).midst
+      refl refl))
+      (beside {due = ahead} {ahead = Serves t ∷ ahead} {hand = busy t (On n Running) ∷ []} {more = []} (record { heir = goes_alone t [] st; only = st.bubbles.gathers; front = λ sends talk. refl; next = (refl, ap (is_busy n) x ∙ eq-eqb n n refl); still = rw (eq-eqb n n refl) refl })
+      (life_then p n v (asked_label v t []) t r _ (asked_same p n v t [] Seeks st) refl) (nobody_leaves m) refl refl)).midst
 
   -- it is decided that there are no slots for the thread, and it is due Full
   decides_ok : (d : EventSoFar) (t : Tid) → (m : Midst outset (Decides t ∷ ahead) L d []) → has_slots n t m.now.spots ≡ false
@@ -145,17 +182,16 @@ module _ {outset : Outset} {ahead : List Item} {L : Links} where
       let x : s.life ≡ On n Seeks = seeks_first n t (serving ahead ++ d.node.talk.claims) v.threads m.here.seekers in
       let r : Spot = record s { life = On n b } in
       let hand : List Busy = busy t (On n b) ∷ [] in
-      (labelled L hand (Decided t count None) (spots_with (update v.threads t r) v.slots v.births v.sems v.halts v.remote) _ m refl
+      (labelled L hand (Decided t count None) (spots_with (update v.threads t r) v.slots v.births v.sems v.forests v.halts v.remote) _ m refl
       (record { solo = tt; holders = tt; life = x; replies = tt; grants = (refl, no_run (lowest_free n count v) none, refl) }) (sym (append-nil d.sends)) (sym (append-nil d.prints))
       (near_amid _ hand t Seeks b (amid m) x refl refl (λ e. absurd (cc e))
       (record {
         threads = map_set is_tid is-true is-refl (thread_part n) v.threads t r d.node.threads (waits wait.ForSlots s.guest) (waits wait.No s.guest) m.here.threads (thread_was n t s Seeks x) (thread_was n t r b refl);
-        rows = kept is_tid is-true is-refl listed_name (row_part n) v.threads t r (map listed d.node.run_lists.rows) m.here.rows (row_was n t r b refl ∙ sym (row_was n t s Seeks x));
         busy = fronted is_tid is-true is-refl busy_name (busy_part n) v.threads t r [] (busy t (On n b)) m.here.busy refl (busy_none n t s (On n Seeks) x refl) (busy_was n t r (On n b) refl (eq-eqb n n refl));
       })
       (unfronted is_tid is-true is-refl itself (seeker_part n) v.threads t r (serving ahead ++ d.node.talk.claims) t m.here.seekers refl (no_seeker n t r refl))
       refl refl)
-      (beside (record { heir = refl; front = λ sends talk. refl; next = (count, None, refl); still = rw (eq-eqb n n refl) refl }) (life_then p n v (Decided t count None) t r _ refl refl) refl refl refl)).midst
+      (beside {due = Decides t ∷ ahead} {ahead = ahead} {hand = []} {more = hand} (record { heir = refl; only = tt; front = λ sends talk. refl; next = (count, None, refl); still = rw (eq-eqb n n refl) refl }) (life_then p n v (Decided t count None) t r _ refl refl) tt refl refl)).midst
 
   -- and is answered at once
   pub refuses_ok : (d : EventSoFar) (t : Tid) → (m : Midst outset (Decides t ∷ ahead) L d []) → has_slots n t m.now.spots ≡ false → Midst outset ahead L (at_thread t (refuses t) d) []

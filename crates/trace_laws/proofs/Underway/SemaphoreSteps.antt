@@ -1,5 +1,5 @@
 -- The steps of a call of a semaphore of the event's own node, and the replies of it, on an event in its midst.
-use Rattle.std.proofs.Common.{◌≡◌, ℕ, List, [], ◌∷◌, ◌++◌, Some, None, Bool, true, false, eqb, cond, refl, sym, ap, ◌∙◌, subst, map}
+use Rattle.std.proofs.Common.{◌≡◌, ℕ, List, [], ◌∷◌, ◌++◌, Some, None, Bool, true, false, eqb, cond, refl, sym, ap, ◌∙◌, subst}
 use Rattle.std.specs.Prelude.{All}
 use Rattle.std.specs.Map.{lookup}
 use Rattle.std.proofs.lemmas.Bool.{eq-eqb, eqb-true}
@@ -10,30 +10,28 @@ use Rattle.slot_space.specs.declared.names.Reply.{Reply}
 use Rattle.slot_space.specs.declared.names.Reply.TheVariants as replies
 use Rattle.marcel_sync.specs.declared.sem.SemRow.{SemRow}
 use Rattle.marcel_sync.specs.Semaphores.{IsSemaphore, node_in, number_in, waiters_at}
-use Rattle.run_trace.specs.declared.label.Label.{Label}
-use Rattle.run_trace.specs.declared.label.Label.TheVariants.{Asked, Told}
+use Rattle.run_trace.specs.declared.label.Label.TheVariants.{Told}
 use Rattle.run_trace.specs.declared.node.Wait.{Wait}
 use Rattle.run_trace.specs.declared.node.Wait.TheVariants as wait
 use Rattle.run_trace.specs.Names.{is_tid}
 use Rattle.run_trace.specs.Program.{Program}
 use Rattle.run_trace.specs.Guests.{Guest, waits, told}
-use Rattle.run_trace.specs.Calls.{number_of, args_of}
 use Rattle.run_trace.specs.Local.{Local, EventSoFar, with_threads}
 use Rattle.run_trace.specs.Cluster.{Net}
 use Rattle.run_trace.specs.Steps.{say, keep, arrive, judge, tell, tell_found, asks, asks_here, asks_waiting, reply_by_link}
 use Rattle.run_trace.specs.Machine.{answer, replies_to}
 use Rattle.run_trace.specs.Keyed.{StandsFor}
 use Rattle.run_trace.specs.Causes.{asked_causes}
-use Rattle.run_trace.specs.Spots.{Stage, Running, Due, Queues, Answers, Going, Life, On, Spot, Spots, Remote, update, at_node, answered_stage, stage_of_call, going_by_call, sems_by_call, remote_after, after_label}
-use Rattle.run_trace.specs.Stands.{Here, Busy, busy, busy_name, busy_part, thread_part, waiter_in_life, row_part, listed, listed_name, ways_of, phase_of, held}
+use Rattle.run_trace.specs.Spots.{Stage, Running, Due, Queues, Answers, Going, Life, On, Spot, Spots, Remote, update, at_node, answered_stage, stage_of_call, going_by_call, sems_by_call, remote_after, after_label, forests_after}
+use Rattle.run_trace.specs.Stands.{Here, Busy, busy, busy_name, busy_part, thread_part, waiter_in_life, ways_of, phase_of, held}
 use Rattle.run_trace.specs.Items.{is_seeking, Thread as Its, Item, is_busy, as_list, one_going}
 use Rattle.run_trace.proofs.Lemmas.{is-true, is-refl, is-other, is-flip}
-use Rattle.trace_laws.proofs.Lists.KeyedLemmas.{kept, refronted, reseconded, unfronted, map_kept, map_set, set-set, lookup-set_same}
+use Rattle.trace_laws.proofs.Lists.KeyedLemmas.{refronted, reseconded, unfronted, map_kept, map_set, set-set, lookup-set_same}
 use Rattle.trace_laws.proofs.Lists.Queues.{IsShortened}
-use Rattle.trace_laws.proofs.Lists.Parts.{both_idle, thread_was, row_was, busy_was, busy_none, away_thread, away_row}
-use Rattle.trace_laws.proofs.Underway.Midst.{Outset, StandsAmid, amid, Links, Midst, under, spots_with, updated, labelled, Beside, beside, beside_both, links_kept, AreQueued, queued, queued_kept, keeps}
+use Rattle.trace_laws.proofs.Lists.Parts.{both_idle, thread_was, busy_was, busy_none, away_thread}
+use Rattle.trace_laws.proofs.Underway.Midst.{Outset, doing, StandsAmid, amid, Links, Midst, under, spots_with, updated, labelled, Beside, beside, beside_both, links_kept, AreQueued, queued, queued_kept, keeps}
 use Rattle.trace_laws.proofs.Underway.Steps.{own_stays, own_goes, own_next, in_hand}
-use Rattle.trace_laws.proofs.Underway.CallSteps.{call_at, bytes_at, asked_spots, asked_as}
+use Rattle.trace_laws.proofs.Underway.CallSteps.{IsNoBubbles, asked_label, call_at, bytes_at, asked_spots, asked_as, asked_amid, nobody_leaves}
 use Rattle.trace_laws.proofs.Underway.ReplySteps.{answer_ok}
 use Rattle.trace_laws.proofs.Underway.Takes.{reply_ok}
 use Rattle.trace_laws.proofs.Underway.Semaphores.{queued_same, queued_more, spot_amid, home_spot, woken_life, roused, woken_amid, others_same, waiting_first, IsWaiting}
@@ -42,10 +40,10 @@ use Rattle.trace_laws.proofs.Underway.Semaphores.{queued_same, queued_more, spot
 
 -- node n has these semaphores then
 pub sems_amid : {p : Program} {net : Net} {n : ℕ} {v : Spots} {M : Links} {s : Local} {hand : List Busy} {ahead : List Item} (new : List SemRow) → StandsAmid p net n v M s hand ahead → AreQueued (at_node v.sems n new) v.threads
-    → StandsAmid p net n (spots_with v.threads v.slots v.births (at_node v.sems n new) v.halts v.remote) M (record s { sems = new }) hand ahead
+    → StandsAmid p net n (spots_with v.threads v.slots v.births (at_node v.sems n new) v.forests v.halts v.remote) M (record s { sems = new }) hand ahead
 sems_amid {p} {net} {n} {v} new o queues = record {
-  here = record { threads = o.here.threads; rows = o.here.rows; busy = o.here.busy; seekers = o.here.seekers; births = o.here.births; sems = rw (eq-eqb n n refl) refl; free = o.here.free; halted = o.here.halted };
-  there = λ k e. (let h : Here k v (net.nodes k) [] [] = o.there k e in record { threads = h.threads; rows = h.rows; busy = h.busy; seekers = h.seekers; births = h.births; sems = h.sems ∙ sym (others_same v.sems n new k e); free = h.free; halted = h.halted });
+  here = record { threads = o.here.threads; forest = o.here.forest; busy = o.here.busy; seekers = o.here.seekers; births = o.here.births; sems = rw (eq-eqb n n refl) refl; free = o.here.free; halted = o.here.halted };
+  there = λ k e. (let h : Here k v (net.nodes k) [] [] = o.there k e in record { threads = h.threads; forest = h.forest; busy = h.busy; seekers = h.seekers; births = h.births; sems = h.sems ∙ sym (others_same v.sems n new k e); free = h.free; halted = h.halted });
   links = o.links;
   turns = o.turns;
   agrees = record {
@@ -69,17 +67,16 @@ due_spot n code s = record s { life = On n (Due code) }
 -- a thread that has come to a call is due this reply
 pub due_amid : {p : Program} {net : Net} {n : ℕ} {v : Spots} {M : Links} {s : Local} {hand : List Busy} {ahead : List Item} {remote : Remote} (code : ℕ) (more : List Busy) (t : Tid) → StandsAmid p net n v M s hand ahead → (v.threads t).life ≡ On n Running
     → StandsFor is_tid busy_name (busy_part n) more (update v.threads t (due_spot n code (v.threads t)))
-    → StandsAmid p net n (spots_with (update v.threads t (due_spot n code (v.threads t))) v.slots v.births v.sems v.halts remote) M s more ahead
+    → StandsAmid p net n (spots_with (update v.threads t (due_spot n code (v.threads t))) v.slots v.births v.sems v.forests v.halts remote) M s more ahead
 due_amid {n = n} {v} {M} {s} code more t o x hands =
     let old : Spot = v.threads t in
     let r : Spot = due_spot n code old in
     spot_amid s more t r o
     (record {
       threads = map_kept is_tid is-true is-refl (thread_part n) v.threads t r s.threads o.here.threads (thread_was n t r (Due code) refl ∙ sym (thread_was n t old Running x));
-      rows = kept is_tid is-true is-refl listed_name (row_part n) v.threads t r (map listed s.run_lists.rows) o.here.rows (row_was n t r (Due code) refl ∙ sym (row_was n t old Running x));
       busy = hands;
     })
-    (record { births = refl; sems = o.here.sems; free = refl; halted = refl; talk = refl })
+    (record { births = refl; forest = refl; sems = o.here.sems; free = refl; halted = refl; talk = refl })
     (home_spot r Running (Due code) x refl refl refl (keeps _ _ (sym (ap (λ l. held l old.guest) x)))
     (queued_kept v.threads t r (queued o.agrees) (λ h j. ap (λ l. waiter_in_life h j t l) x) (λ h j. refl)) (λ k e. refl))
     (links_kept t r v.threads M o.links (sym (ap (λ l. ways_of t l old.verdict old.guest) x))) (λ i j. refl)
@@ -91,7 +88,7 @@ told_same : (d : EventSoFar) (u : Tid) (code : ℕ) (g : Guest) (waiting : Wait)
 unfolding tell judge say keep arrive
 told_same d u code g waiting there =
     ap (λ o. tell_found u code None o (judge u code None (record d { node = roused true u g d.node }))) (lookup-set_same is_tid is-true is-refl d.node.threads u (waits wait.No g) (waits waiting g) there)
-    ∙ ap (λ es. arrive u g.priority (say (Told u) (with_threads es (judge u code None d)))) (set-set is_tid is-true is-refl d.node.threads u (waits wait.No g) (waits wait.No (told code None g)))
+    ∙ ap (λ es. arrive u (say (Told u) (with_threads es (judge u code None d)))) (set-set is_tid is-true is-refl d.node.threads u (waits wait.No g) (waits wait.No (told code None g)))
     ∙ sym (ap (λ o. tell_found u code None o (judge u code None d)) there)
 
 module _ {outset : Outset} {ahead : List Item} {L : Links} where
@@ -130,19 +127,13 @@ pub record IsAsked (p : Program) (n : ℕ) (t : Tid) (v : Spots) (other : Going)
   pub stage : stage_of_call p n t v ≡ b
   pub sems : sems_by_call p n t v ≡ new
   pub bytes : [] ≡ bytes_at p v t
-
-abbrev pub asked_label : Spots → Tid → Label
-asked_label v t = Asked t (number_of (call_at v t)) (args_of (call_at v t)) []
+  pub bubbles : IsNoBubbles p n t v
 
 -- u, which is set going, after a change of t, which isn't u
 pub at_first_of : (w : Tid → Spot) (u t : Tid) (r s : Spot) → is_tid u t ≡ false → update (update w u r) t s u ≡ r
 at_first_of w u t r s apart = rw (is-flip u t apart, is-refl u) refl
 
 -- what the node has beside its threads is as before
-pub roused_lists : (b : Bool) (u : Tid) (g : Guest) (s : Local) → (roused b u g s).run_lists ≡ s.run_lists
-roused_lists true u g s = refl
-roused_lists false u g s = refl
-
 pub roused_talk : (b : Bool) (u : Tid) (g : Guest) (s : Local) → (roused b u g s).talk ≡ s.talk
 roused_talk true u g s = refl
 roused_talk false u g s = refl
@@ -154,63 +145,61 @@ roused_booted false u g s = refl
 module _ {outset : Outset} {ahead : List Item} {L : Links} where
   open outset use {program as p, net, occasion as q, node as n, opening, world as w}
 
-  pub asks_then : (d : EventSoFar) (t : Tid) {other : Going} {b : Stage} {new : List SemRow} {hs : List Busy} (now : Local) (more : List Busy) → (m : Midst outset ahead L d (busy t (On n Running) ∷ hs))
+  pub asks_then : (d : EventSoFar) (t : Tid) {other : Going} {b : Stage} {new : List SemRow} (now : Local) (more : List Busy) → (m : Midst outset ahead L d (busy t (On n Running) ∷ []))
       → IsAsked p n t m.now.spots other b new → asked_causes t b ≡ []
-      → StandsAmid p net n (asked_spots n m.now.spots t [] other b (at_node m.now.spots.sems n new)) (under n L d.sends) now more ahead
-      → Beside p n m.now.spots (asked_label m.now.spots t) ahead ahead d.node now (busy t (On n Running) ∷ hs) more
-      → Midst outset ahead L (record { node = now; labels = d.labels ++ asked_label m.now.spots t ∷ []; sends = d.sends; prints = d.prints }) more
+      → StandsAmid p net n (asked_spots n m.now.spots t [] other b (at_node m.now.spots.sems n new) m.now.spots.forests) (under n L d.sends) now more ahead
+      → Beside p n m.now.spots (asked_label m.now.spots t []) d.node now (doing (busy t (On n Running) ∷ []) ahead) (doing more ahead)
+      → Midst outset ahead L (record { node = now; labels = d.labels ++ asked_label m.now.spots t [] ∷ []; sends = d.sends; prints = d.prints }) more
   asks_then d t {other} {b} {new} now more m asked quiet stands aside =
-      (labelled L more (asked_label m.now.spots t) (asked_spots n m.now.spots t [] other b (at_node m.now.spots.sems n new)) now m
+      (labelled L more (asked_label m.now.spots t []) (asked_spots n m.now.spots t [] other b (at_node m.now.spots.sems n new) (forests_after p n (asked_label m.now.spots t []) m.now.spots)) now m
       (asked_as p n m.now.spots t [] other b (at_node m.now.spots.sems n new) asked.going asked.stage (ap (at_node m.now.spots.sems n) asked.sems))
       (record { solo = (refl, refl, asked.bytes); holders = tt; life = in_hand m; replies = tt; grants = tt })
       (sym (append-nil d.sends) ∙ ap (λ z. d.sends ++ z) (sym (ap (asked_causes t) asked.stage ∙ quiet))) (sym (append-nil d.prints))
-      stands aside).midst
+      (asked_amid t [] asked.bubbles refl stands) aside).midst
 
   -- t and the thread that it sets going, after the label
-  asked_of : (d : EventSoFar) (t : Tid) {other : Going} {b : Stage} {new : List SemRow} {hs : List Busy} → (m : Midst outset ahead L d (busy t (On n Running) ∷ hs)) → IsAsked p n t m.now.spots other b new
-      → (u : Tid) (life : Life) → ((asked_spots n m.now.spots t [] other b (at_node m.now.spots.sems n new)).threads u).life ≡ life
-      → ((after_label p n (asked_label m.now.spots t) m.now.spots).threads u).life ≡ life
+  asked_of : (d : EventSoFar) (t : Tid) {other : Going} {b : Stage} {new : List SemRow} → (m : Midst outset ahead L d (busy t (On n Running) ∷ [])) → IsAsked p n t m.now.spots other b new
+      → (u : Tid) (life : Life) → ((asked_spots n m.now.spots t [] other b (at_node m.now.spots.sems n new) m.now.spots.forests).threads u).life ≡ life
+      → ((after_label p n (asked_label m.now.spots t []) m.now.spots).threads u).life ≡ life
   asked_of d t {other} {b} {new} m asked u life is =
       ap (λ (z : Spots). (z.threads u).life) (asked_as p n m.now.spots t [] other b (at_node m.now.spots.sems n new) asked.going asked.stage (ap (at_node m.now.spots.sems n) asked.sems)) ∙ is
 
   -- the node's semaphores are others then, with the same queues, and the thread is due a reply
-  pub asks_here_ok : (d : EventSoFar) (t : Tid) (code : ℕ) (new : List SemRow) (hs : List Busy) → (m : Midst outset ahead L d (busy t (On n Running) ∷ hs))
+  pub asks_here_ok : (d : EventSoFar) (t : Tid) (code : ℕ) (new : List SemRow) → (m : Midst outset ahead L d (busy t (On n Running) ∷ []))
       → IsAsked p n t m.now.spots None (Due code) new → All IsSemaphore new → ((j : ℕ) → waiters_at j new ≡ waiters_at j (m.now.spots.sems n))
-      → Midst outset ahead L (asks_here t (call_at m.now.spots t) new d) (busy t (On n (Due code)) ∷ hs)
+      → Midst outset ahead L (asks_here t (call_at m.now.spots t) new d) (busy t (On n (Due code)) ∷ [])
   unfolding asks_here asks say
-  asks_here_ok d t code new hs m asked all same =
+  asks_here_ok d t code new m asked all same =
       let v : Spots = m.now.spots in
       let x : (v.threads t).life ≡ On n Running = in_hand m in
       let r : Spot = due_spot n code (v.threads t) in
-      asks_then d t (record d.node { sems = new }) (busy t (On n (Due code)) ∷ hs) m asked refl
-      (due_amid code (busy t (On n (Due code)) ∷ hs) t (sems_amid new (amid m) (queued_same n new (queued m.agrees) all same)) x
-      (refronted is_tid is-true is-refl busy_name (busy_part n) v.threads t r hs (busy t (On n Running)) (busy t (On n (Due code))) m.here.busy refl refl (busy_was n t r (On n (Due code)) refl (eq-eqb n n refl))))
-      (beside (own_stays m refl (ap (λ z. as_list (one_going z) ++ Its t ∷ []) asked.going) (eq-eqb n n refl))
-      (asked_of d t m asked t (On n (Due code)) (ap (λ (z : Spot). z.life) (updated v.threads t r))) refl refl refl)
+      asks_then d t (record d.node { sems = new }) (busy t (On n (Due code)) ∷ []) m asked refl
+      (due_amid code (busy t (On n (Due code)) ∷ []) t (sems_amid new (amid m) (queued_same n new (queued m.agrees) all same)) x
+      (refronted is_tid is-true is-refl busy_name (busy_part n) v.threads t r [] (busy t (On n Running)) (busy t (On n (Due code))) m.here.busy refl refl (busy_was n t r (On n (Due code)) refl (eq-eqb n n refl))))
+      (beside {due = ahead} {ahead = ahead} {hand = busy t (On n Running) ∷ []} {more = busy t (On n (Due code)) ∷ []} (own_stays m refl (ap (λ z. as_list (one_going z) ++ Its t ∷ []) asked.going) asked.bubbles.gathers (eq-eqb n n refl))
+      (asked_of d t m asked t (On n (Due code)) (ap (λ (z : Spot). z.life) (updated v.threads t r))) (nobody_leaves m) refl refl)
 
   -- the thread waits for a semaphore of the node, as the last
-  pub asks_waiting_ok : (d : EventSoFar) (t : Tid) (id : ℕ) (new : List SemRow) (hs : List Busy) → (m : Midst outset ahead L d (busy t (On n Running) ∷ hs))
+  pub asks_waiting_ok : (d : EventSoFar) (t : Tid) (id : ℕ) (new : List SemRow) → (m : Midst outset ahead L d (busy t (On n Running) ∷ []))
       → IsAsked p n t m.now.spots None (Queues id) new → node_in id ≡ n → All IsSemaphore new
       → ((j : ℕ) → waiters_at j new ≡ cond (eqb (number_in id) j) (waiters_at (number_in id) (m.now.spots.sems n) ++ (t, n) ∷ []) (waiters_at j (m.now.spots.sems n)))
-      → Midst outset ahead L (asks_waiting t (call_at m.now.spots t) new (waits wait.No (m.now.spots.threads t).guest) d) hs
+      → Midst outset ahead L (asks_waiting t (call_at m.now.spots t) new (waits wait.No (m.now.spots.threads t).guest) d) []
   unfolding asks_waiting asks say keep
-  asks_waiting_ok d t id new hs m asked here all more =
+  asks_waiting_ok d t id new m asked here all more =
       let v : Spots = m.now.spots in
       let s : Spot = v.threads t in
       let x : s.life ≡ On n Running = in_hand m in
       let r : Spot = record s { life = On n (Queues id) } in
-      asks_then d t _ hs m asked refl
-      (spot_amid _ hs t r (amid m)
+      asks_then d t _ [] m asked refl
+      (spot_amid _ [] t r (amid m)
       (record {
         threads = map_set is_tid is-true is-refl (thread_part n) v.threads t r d.node.threads (waits wait.No s.guest) (waits wait.ForSemaphore s.guest) m.here.threads (thread_was n t s Running x) (thread_was n t r (Queues id) refl ∙ (rw (eq-eqb (node_in id) n here) refl));
-        rows = kept is_tid is-true is-refl listed_name (row_part n) v.threads t r (map listed d.node.run_lists.rows) m.here.rows (row_was n t r (Queues id) refl ∙ sym (row_was n t s Running x));
-        busy = unfronted is_tid is-true is-refl busy_name (busy_part n) v.threads t r hs (busy t (On n Running)) m.here.busy refl (busy_none n t r (On n (Queues id)) refl refl);
+        busy = unfronted is_tid is-true is-refl busy_name (busy_part n) v.threads t r [] (busy t (On n Running)) m.here.busy refl (busy_none n t r (On n (Queues id)) refl refl);
       })
-      (record { births = refl; sems = sym (own_sems v.sems); free = refl; halted = refl; talk = refl })
+      (record { births = refl; forest = refl; sems = sym (own_sems v.sems); free = refl; halted = refl; talk = refl })
       (record {
         frame = λ k e. record {
           thread = away_thread n k t r (Queues id) refl e ∙ sym (away_thread n k t s Running x e);
-          row = away_row n k t r (Queues id) refl e ∙ sym (away_row n k t s Running x e);
           busy = busy_none k t r (On n (Queues id)) refl refl ∙ sym (busy_none k t s (On n Running) x e);
           seeker = both_idle k t s r (ap (is_seeking k) x) refl;
         };
@@ -225,50 +214,51 @@ module _ {outset : Outset} {ahead : List Item} {L : Links} where
         others = others_same v.sems n new;
       })
       (links_kept t r v.threads (under n L d.sends) m.links (sym (ap (λ l. ways_of t l s.verdict s.guest) x))) (λ i j. refl))
-      (beside (own_goes m refl (ap (λ z. as_list (one_going z) ++ Its t ∷ []) asked.going) refl refl)
-      (asked_of d t m asked t (On n (Queues id)) (ap (λ (z : Spot). z.life) (updated v.threads t r))) refl refl refl)
+      (beside {due = ahead} {ahead = ahead} {hand = busy t (On n Running) ∷ []} {more = []} (own_goes m refl (ap (λ z. as_list (one_going z) ++ Its t ∷ []) asked.going) asked.bubbles.gathers refl refl)
+      (asked_of d t m asked t (On n (Queues id)) (ap (λ (z : Spot). z.life) (updated v.threads t r))) (nobody_leaves m) refl refl)
     where
       own_sems : (z : ℕ → List SemRow) → at_node z n new n ≡ new
       own_sems z = rw (eq-eqb n n refl) refl
 
   -- a thread that is set going is in hand before the one in hand, which is due a reply; nodes and links stand for the first change as yet
-  pub asks_both : (d : EventSoFar) (t u : Tid) (code : ℕ) (life : Life) {new : List SemRow} (hs : List Busy) (now : Local) → (m : Midst outset ahead L d (busy t (On n Running) ∷ hs))
+  pub asks_both : (d : EventSoFar) (t u : Tid) (code : ℕ) (life : Life) {new : List SemRow} (now : Local) → (m : Midst outset ahead L d (busy t (On n Running) ∷ []))
       → IsAsked p n t m.now.spots (Some (u, life)) (Due code) new → is_tid u t ≡ false → is_busy n life ≡ true
-      → StandsAmid p net n (spots_with (update m.now.spots.threads u (record (m.now.spots.threads u) { life = life })) m.now.spots.slots m.now.spots.births (at_node m.now.spots.sems n new) m.now.spots.halts m.now.spots.remote) (under n L d.sends) now (busy u life ∷ busy t (On n Running) ∷ hs) ahead
-      → now.run_lists ≡ d.node.run_lists → now.booted ≡ d.node.booted → now.talk ≡ d.node.talk
-      → Midst outset ahead L (record { node = now; labels = d.labels ++ asked_label m.now.spots t ∷ []; sends = d.sends; prints = d.prints }) (busy u life ∷ busy t (On n (Due code)) ∷ hs)
-  asks_both d t u code life {new} hs now m asked apart busied stands run_lists booted talk =
+      → StandsAmid p net n (spots_with (update m.now.spots.threads u (record (m.now.spots.threads u) { life = life })) m.now.spots.slots m.now.spots.births (at_node m.now.spots.sems n new) m.now.spots.forests m.now.spots.halts m.now.spots.remote) (under n L d.sends) now (busy u life ∷ busy t (On n Running) ∷ []) ahead
+      → now.booted ≡ d.node.booted → now.talk ≡ d.node.talk
+      → Midst outset ahead L (record { node = now; labels = d.labels ++ asked_label m.now.spots t [] ∷ []; sends = d.sends; prints = d.prints }) (busy u life ∷ busy t (On n (Due code)) ∷ [])
+  asks_both d t u code life {new} now m asked apart busied stands booted talk =
       let v : Spots = m.now.spots in
       let x : (v.threads t).life ≡ On n Running = in_hand m in
       let ru : Spot = record (v.threads u) { life = life } in
       let f : Tid → Spot = update v.threads u ru in
       let here : f t ≡ v.threads t = rw apart refl in
       let r : Spot = due_spot n code (f t) in
-      let second = due_amid code (busy u life ∷ busy t (On n (Due code)) ∷ hs) t stands (ap (λ (z : Spot). z.life) here ∙ x)
-      (reseconded is_tid is-true is-refl busy_name (busy_part n) f t r hs (busy u life) (busy t (On n Running)) (busy t (On n (Due code))) stands.here.busy refl refl (busy_was n t r (On n (Due code)) refl (eq-eqb n n refl))) in
-      asks_then d t now (busy u life ∷ busy t (On n (Due code)) ∷ hs) m asked refl
-      (subst (λ (s : Spot). StandsAmid p net n (spots_with (update f t (due_spot n code s)) v.slots v.births (at_node v.sems n new) v.halts (remote_after (asked_label v t) v.remote)) (under n L d.sends) now (busy u life ∷ busy t (On n (Due code)) ∷ hs) ahead) here second)
-      (beside_both (record {
+      let second = due_amid code (busy u life ∷ busy t (On n (Due code)) ∷ []) t stands (ap (λ (z : Spot). z.life) here ∙ x)
+      (reseconded is_tid is-true is-refl busy_name (busy_part n) f t r [] (busy u life) (busy t (On n Running)) (busy t (On n (Due code))) stands.here.busy refl refl (busy_was n t r (On n (Due code)) refl (eq-eqb n n refl))) in
+      asks_then d t now (busy u life ∷ busy t (On n (Due code)) ∷ []) m asked refl
+      (subst (λ (s : Spot). StandsAmid p net n (spots_with (update f t (due_spot n code s)) v.slots v.births (at_node v.sems n new) v.forests v.halts (remote_after (asked_label v t []) v.remote)) (under n L d.sends) now (busy u life ∷ busy t (On n (Due code)) ∷ []) ahead) here second)
+      (beside_both {due = ahead} {ahead = ahead} {hand = busy t (On n Running) ∷ []} {more = busy u life ∷ busy t (On n (Due code)) ∷ []} {first = life} {second = On n (Due code)} (record {
         heirs = ap (λ z. as_list (one_going z) ++ Its t ∷ []) asked.going;
+        only = asked.bubbles.gathers;
         front = λ sends talk. refl;
-        next = own_next (asked_label v t) m refl;
+        next = own_next (asked_label v t []) m refl;
         still = rw (busied, eq-eqb n n refl) refl;
       })
       (asked_of d t m asked u life (ap (λ (z : Spot). z.life) (at_first_of v.threads u t ru _ apart)))
       (asked_of d t m asked t (On n (Due code)) (ap (λ (z : Spot). z.life) (updated f t _)))
-      run_lists booted talk)
+      (nobody_leaves m) booted talk)
 
   -- the thread that waited first is let go, and has its reply before the one that raised the semaphore
-  pub asks_woken_ok : (d : EventSoFar) (t u : Tid) (at k : ℕ) (new : List SemRow) (hs : List Busy) → (m : Midst outset ahead L d (busy t (On n Running) ∷ hs))
+  pub asks_woken_ok : (d : EventSoFar) (t u : Tid) (at k : ℕ) (new : List SemRow) → (m : Midst outset ahead L d (busy t (On n Running) ∷ []))
       → IsAsked p n t m.now.spots (Some (u, woken_life n at)) (Due 0) new → IsShortened k (u, at) (m.now.spots.sems n) new → All IsSemaphore new
-      → Midst outset ahead L (replies_to n at u (replies.Value 0) (asks_here t (call_at m.now.spots t) new d)) (busy t (On n (Due 0)) ∷ hs)
+      → Midst outset ahead L (replies_to n at u (replies.Value 0) (asks_here t (call_at m.now.spots t) new d)) (busy t (On n (Due 0)) ∷ [])
   unfolding asks_here asks say
-  asks_woken_ok d t u at k new hs m asked less all =
+  asks_woken_ok d t u at k new m asked less all =
       let v : Spots = m.now.spots in
       let g : Guest = (v.threads u).guest in
       let was : IsWaiting n k at (v.threads u).life = waiting_first n k u at (waiters_at k new) (queued m.agrees) less.was in
       let x : (v.threads t).life ≡ On n Running = in_hand m in
       let apart : is_tid u t ≡ false = is-other u t (λ e. (let y = was.life in absurd (cc (y, x, ap (λ z. (v.threads z).life) e)))) in
-      woken_ok (asks_here t (call_at v t) new d) u at g (busy t (On n (Due 0)) ∷ hs)
+      woken_ok (asks_here t (call_at v t) new d) u at g (busy t (On n (Due 0)) ∷ [])
       (λ e. m.here.threads.shows u ∙ thread_was n u (v.threads u) (Queues was.id) (was.life ∙ ap (λ i. On i (Queues was.id)) (sym (eqb-true n at e))) ∙ (rw (eq-eqb (node_in was.id) n was.node) refl))
-      (asks_both d t u 0 (woken_life n at) hs (roused (eqb n at) u g (record d.node { sems = new })) m asked apart (woken_busy n at) (woken_amid k at u new (amid m) less all) (roused_lists (eqb n at) u g (record d.node { sems = new })) (roused_booted (eqb n at) u g (record d.node { sems = new })) (roused_talk (eqb n at) u g (record d.node { sems = new })))
+      (asks_both d t u 0 (woken_life n at) (roused (eqb n at) u g (record d.node { sems = new })) m asked apart (woken_busy n at) (woken_amid k at u new (amid m) less all) (roused_booted (eqb n at) u g (record d.node { sems = new })) (roused_talk (eqb n at) u g (record d.node { sems = new })))

@@ -1,7 +1,7 @@
 -- A packet by which a thread of another node lowers or raises a semaphore, on an event in its midst.
 use Rattle.run_trace.specs.declared.call.Call.{Call}
 use Rattle.run_trace.specs.Calls.{call_of}
-use Rattle.std.proofs.Common.{◌≡◌, ℕ, List, [], ◌∷◌, ◌++◌, Some, None, Bool, true, false, eqb, cond, refl, sym, ap, ◌∙◌, subst, map}
+use Rattle.std.proofs.Common.{◌≡◌, ℕ, List, [], ◌∷◌, ◌++◌, Some, None, Bool, true, false, eqb, cond, refl, sym, ap, ◌∙◌, subst}
 use Rattle.std.specs.Prelude.{All}
 use Rattle.std.proofs.lemmas.Bool.{eq-eqb, eqb-true}
 use Rattle.slot_space.specs.declared.names.Tid.{Tid}
@@ -25,16 +25,16 @@ use Rattle.run_trace.specs.Machine.{replies_to, answers_p, answers_v, hears_call
 use Rattle.run_trace.specs.Keyed.{StandsFor, MapStandsFor}
 use Rattle.run_trace.specs.Rules.{MayHear}
 use Rattle.run_trace.specs.Spots.{Stage, Queues, Signals, Answers, Going, Life, On, Spot, Spots, Remote, update, set_going, at_node, answered_stage, lowering_stage, raising_stage, woken, signal_stage, signal_wakes, signalled, heard_at, births_heard, sems_heard, wakes_heard, after_label}
-use Rattle.run_trace.specs.Stands.{AreInTurn, words_about, Busy, busy, busy_name, busy_part, thread_part, thread_in_life, row_part, row_in_life, listed, listed_name, Signalling, way, ways_of, phase_of, held, waiter_in_life}
+use Rattle.run_trace.specs.Stands.{AreInTurn, words_about, Busy, busy, busy_name, busy_part, thread_part, thread_in_life, Signalling, way, ways_of, phase_of, held, waiter_in_life}
 use Rattle.run_trace.specs.Items.{Turns, is_seeking, Thread as Its, Item, Says, is_busy, as_list, one_going}
 use Rattle.run_trace.proofs.Lemmas.{is-true, is-refl, is-other}
 use Rattle.trace_laws.proofs.Lists.KeyedLemmas.{kept, added, fronted, map_kept}
 use Rattle.trace_laws.proofs.Lists.Queues.{IsShortened, lowered_sems, raised_sems, lowered_same, lowered_more, raised_same, raised_less}
-use Rattle.trace_laws.proofs.Lists.Parts.{both_idle, thread_was, busy_was, busy_none, away_thread, away_row}
-use Rattle.trace_laws.proofs.Underway.Midst.{talks_amid, to_do_amid, turn_words, in_turn_kept, none_under, under, take_turns, Outset, StandsAmid, Links, Midst, links_less, take_link, nothing_sent, spots_with, updated, labelled, Beside, beside, beside_both, AreQueued, queued, queued_kept, fits, Fits, plain, keeps}
+use Rattle.trace_laws.proofs.Lists.Parts.{both_idle, thread_was, busy_was, busy_none, away_thread}
+use Rattle.trace_laws.proofs.Underway.Midst.{talks_amid, to_do_amid, turn_words, in_turn_kept, none_under, under, take_turns, Outset, doing, StandsAmid, Links, Midst, links_less, take_link, nothing_sent, spots_with, updated, labelled, Beside, beside, beside_both, AreQueued, queued, queued_kept, fits, Fits, plain, keeps}
 use Rattle.trace_laws.proofs.Underway.Takes.{still_in_turn, links_whole}
 use Rattle.trace_laws.proofs.Underway.Semaphores.{queued_same, queued_more, spot_amid, woken_life, woken_spot, roused, woken_amid, others_same, waiting_first, IsWaiting}
-use Rattle.trace_laws.proofs.Underway.SemaphoreSteps.{roused_talk, replies_ok, woken_ok, woken_busy, at_first_of, roused_lists, roused_booted}
+use Rattle.trace_laws.proofs.Underway.SemaphoreSteps.{roused_talk, replies_ok, woken_ok, woken_busy, at_first_of, roused_booted}
 
 -- by's packet has come to node n, which is another
 pub record IsCalling (n from id : ℕ) (up : Bool) (by : Tid) (v : Spots) : Type 0 where
@@ -48,7 +48,6 @@ flipped a b e = elim (eqb b a) as (λ v. eqb b a ≡ v → v ≡ false) [ true �
 -- the stage in which it goes on: to be answered, or to wait
 record IsHeardStage (n from : ℕ) (by : Tid) (b : Stage) (s : Spot) : Type 0 where
   thread : (k : ℕ) → eqb n k ≡ false → thread_in_life k (On from b) s.guest ≡ cond (eqb from k) (Some (waits wait.ForAnswer s.guest)) None
-  row : (k : ℕ) → row_in_life k by (On from b) s.guest.priority ≡ cond (eqb from k) None None
   idle : (k : ℕ) → eqb n k ≡ false → is_busy k (On from b) ≡ false
   ways : ways_of by (On from b) s.verdict s.guest ≡ []
   holds : held (On from b) s.guest ≡ held (On from (Answers n replies.NoSuch None)) s.guest
@@ -56,12 +55,11 @@ record IsHeardStage (n from : ℕ) (by : Tid) (b : Stage) (s : Spot) : Type 0 wh
   rests : (k : ℕ) → is_seeking k (On from b) ≡ false
 
 answered_heard : (n from : ℕ) (by : Tid) (reply : Reply) (s : Spot) → IsHeardStage n from by (Answers n reply None) s
-answered_heard n from by reply s = record { thread = λ k e. refl; row = λ k. refl; idle = λ k e. e; ways = refl; holds = refl; fits = λ h c. fits (plain _ refl); rests = λ k. refl }
+answered_heard n from by reply s = record { thread = λ k e. refl; idle = λ k e. e; ways = refl; holds = refl; fits = λ h c. fits (plain _ refl); rests = λ k. refl }
 
 waits_heard : (n from id : ℕ) (by : Tid) (s : Spot) → node_in id ≡ n → IsHeardStage n from by (Queues id) s
 waits_heard n from id by s here = record {
   thread = λ k e. ap (λ b. cond (eqb from k) (Some (waits (cond b wait.ForSemaphore wait.ForAnswer) s.guest)) None) (ap (λ i. eqb i k) here ∙ e);
-  row = λ k. refl;
   idle = λ k e. refl;
   ways = refl;
   holds = refl;
@@ -74,7 +72,7 @@ heard_amid : {p : Program} {net : Net} {n : ℕ} {v : Spots} {s : Local} {hand :
     → StandsAmid p net n v L s hand ahead → IsCalling n from id up by v → IsHeardStage n from by b (v.threads by) → now ≡ record s { sems = z n }
     → ((k : ℕ) → eqb n k ≡ false → z k ≡ v.sems k) → AreQueued z (update v.threads by (record (v.threads by) { life = On from b }))
     → StandsFor is_tid busy_name (busy_part n) more (update v.threads by (record (v.threads by) { life = On from b }))
-    → StandsAmid p net n (spots_with (update v.threads by (record (v.threads by) { life = On from b })) v.slots v.births z v.halts remote) (links_less n L from by) now more ahead
+    → StandsAmid p net n (spots_with (update v.threads by (record (v.threads by) { life = On from b })) v.slots v.births z v.forests v.halts remote) (links_less n L from by) now more ahead
 heard_amid {n = n} {v} {s} {from = from} {id} {up} {by} L b z now more o calling then is others queues hands =
     let old : Spot = v.threads by in
     let r : Spot = record old { life = On from b } in
@@ -84,15 +82,12 @@ heard_amid {n = n} {v} {s} {from = from} {id} {up} {by} L b z now more o calling
     (record {
       threads = subst (λ (l : Local). MapStandsFor is_tid (thread_part n) l.threads (update v.threads by r)) (sym is)
           (map_kept is_tid is-true is-refl (thread_part n) v.threads by r s.threads o.here.threads (away_thread from n by r b refl off ∙ sym (away_thread from n by old (Signals id up) x off)));
-      rows = subst (λ (l : Local). StandsFor is_tid listed_name (row_part n) (map listed l.run_lists.rows) (update v.threads by r)) (sym is)
-          (kept is_tid is-true is-refl listed_name (row_part n) v.threads by r (map listed s.run_lists.rows) o.here.rows (away_row from n by r b refl off ∙ sym (away_row from n by old (Signals id up) x off)));
       busy = hands;
     })
-    (record { births = ap (λ (l : Local). l.births) is; sems = ap (λ (l : Local). l.sems) is; free = ap (λ (l : Local). l.slots.free) is; halted = ap (λ (l : Local). l.halted) is; talk = ap (λ (l : Local). l.talk) is })
+    (record { births = ap (λ (l : Local). l.births) is; forest = ap (λ (l : Local). l.forest) is; sems = ap (λ (l : Local). l.sems) is; free = ap (λ (l : Local). l.slots.free) is; halted = ap (λ (l : Local). l.halted) is; talk = ap (λ (l : Local). l.talk) is })
     (record {
       frame = λ k e. record {
         thread = then.thread k e ∙ sym (ap (λ l. thread_in_life k l old.guest) x);
-        row = then.row k ∙ sym (ap (λ l. row_in_life k by l old.guest.priority) x);
         busy = busy_none k by r (On from b) refl (then.idle k e) ∙ sym (busy_none k by old (On from (Signals id up)) x refl);
         seeker = both_idle k by old r (ap (is_seeking k) x) (then.rests k);
       };
@@ -111,12 +106,12 @@ heard_amid {n = n} {v} {s} {from = from} {id} {up} {by} L b z now more o calling
 
 -- what is told with it
 abbrev heard_spots : Spots → Tid → (from : ℕ) → Going → Stage → (ℕ → List SemRow) → Spots
-heard_spots v by from other b z = spots_with (update (set_going other v.threads) by (record (v.threads by) { life = On from b })) v.slots v.births z v.halts v.remote
+heard_spots v by from other b z = spots_with (update (set_going other v.threads) by (record (v.threads by) { life = On from b })) v.slots v.births z v.forests v.halts v.remote
 
 heard_as : (p : Program) {n from id : ℕ} {up : Bool} {by : Tid} {v : Spots} → IsCalling n from id up by v
     → after_label p n (Heard by) v ≡ heard_spots v by from (signal_wakes n id up (v.sems n)) (signal_stage n from id up (v.sems n)) (at_node v.sems n (signalled from id up by (v.sems n)))
 heard_as p {n} {from} {id} {up} {by} {v} calling =
-    ap (λ l. spots_with (update (set_going (wakes_heard v.sems l) v.threads) by (record (v.threads by) { life = heard_at v.births v.sems l })) v.slots (births_heard by l v.births) (sems_heard by l v.sems) v.halts v.remote) calling.was
+    ap (λ l. spots_with (update (set_going (wakes_heard v.sems l) v.threads) by (record (v.threads by) { life = heard_at v.births v.sems l })) v.slots (births_heard by l v.births) (sems_heard by l v.sems) v.forests v.halts v.remote) calling.was
     ∙ ap (λ i. heard_spots v by from (signal_wakes i id up (v.sems i)) (signal_stage i from id up (v.sems i)) (at_node v.sems i (signalled from id up by (v.sems i)))) calling.node
 
 -- whom else it sets going, in which stage it goes on, and the node's semaphores then
@@ -155,7 +150,7 @@ module _ {outset : Outset} {ahead : List Item} {L : Links} where
   hears_then : (s : Local) {from id : ℕ} {up : Bool} (by : Tid) {other : Going} {b : Stage} {new : List SemRow} (now : Local) (more : List Busy) → (m : Midst outset (Says (Heard by) ∷ ahead) L (nothing s) [])
       → IsHeardSem n from id up by m.now.spots other b new
       → StandsAmid p net n (heard_spots m.now.spots by from other b (at_node m.now.spots.sems n new)) (links_less n L from by) now more (Says (Heard by) ∷ ahead)
-      → Beside p n m.now.spots (Heard by) (Says (Heard by) ∷ ahead) ahead s now [] more
+      → Beside p n m.now.spots (Heard by) s now (Says (Heard by) ∷ ahead) (doing more ahead)
       → Midst outset ahead (links_less n L from by) (record { node = now; labels = Heard by ∷ []; sends = []; prints = [] }) more
   hears_then s {from} {id} {up} by {other} {b} {new} now more m heard stands aside =
       (labelled (links_less n L from by) more (Heard by) (heard_spots m.now.spots by from other b (at_node m.now.spots.sems n new)) now m
@@ -186,8 +181,8 @@ module _ {outset : Outset} {ahead : List Item} {L : Links} where
       (others_same v.sems n new)
       (queued_kept v.threads by r (queued_same n new (queued m.agrees) all same) (λ h j. ap (waiter_in_life h j by) x) (λ h j. refl))
       (fronted is_tid is-true is-refl busy_name (busy_part n) v.threads by r [] (busy by life) m.here.busy refl (busy_none n by (v.threads by) (On from (Signals id up)) x refl) (busy_was n by r life refl (eq-eqb n n refl))))
-      (beside {new = life} (record { heir = heard_heirs as_told; front = λ sends talk. refl; next = refl; still = rw (eq-eqb n n refl) refl })
-      (ap (λ (y : Spots). (y.threads by).life) (heard_same p as_told) ∙ ap (λ (y : Spot). y.life) (updated v.threads by r)) refl refl refl)))
+      (beside {due = Says (Heard by) ∷ ahead} {ahead = ahead} {hand = []} {more = busy by life ∷ []} {new = life} (record { heir = heard_heirs as_told; only = tt; front = λ sends talk. refl; next = refl; still = rw (eq-eqb n n refl) refl })
+      (ap (λ (y : Spots). (y.threads by).life) (heard_same p as_told) ∙ ap (λ (y : Spot). y.life) (updated v.threads by r)) tt refl refl)))
 
   -- it waits, as the last
   hears_waiting : (s : Local) {from id : ℕ} {up : Bool} (by : Tid) (new : List SemRow) → (m : Midst outset (Says (Heard by) ∷ ahead) L (nothing s) [])
@@ -207,8 +202,8 @@ module _ {outset : Outset} {ahead : List Item} {L : Links} where
       (others_same v.sems n new)
       (queued_more v.threads by r n from id new (queued m.agrees) (λ h j. ap (waiter_in_life h j by) x) refl heard.calling.node all more)
       (kept is_tid is-true is-refl busy_name (busy_part n) v.threads by r [] m.here.busy (sym (busy_none n by (v.threads by) (On from (Signals id up)) x refl))))
-      (beside {new = life} (record { heir = heard_heirs heard; front = λ sends talk. refl; next = refl; still = refl })
-      (ap (λ (y : Spots). (y.threads by).life) (heard_same p heard) ∙ ap (λ (y : Spot). y.life) (updated v.threads by r)) refl refl refl)
+      (beside {due = Says (Heard by) ∷ ahead} {ahead = ahead} {hand = []} {more = []} {new = life} (record { heir = heard_heirs heard; only = tt; front = λ sends talk. refl; next = refl; still = refl })
+      (ap (λ (y : Spots). (y.threads by).life) (heard_same p heard) ∙ ap (λ (y : Spot). y.life) (updated v.threads by r)) tt refl refl)
 
   -- the thread that waited first is let go, and has its reply before the one that raised the semaphore
   hears_woken : (s : Local) {from id : ℕ} {up : Bool} (by u : Tid) (at k : ℕ) (new : List SemRow) → (m : Midst outset (Says (Heard by) ∷ ahead) L (nothing s) [])
@@ -230,7 +225,7 @@ module _ {outset : Outset} {ahead : List Item} {L : Links} where
       let z : ℕ → List SemRow = at_node v.sems n new in
       let own : z n ≡ new = rw (eq-eqb n n refl) refl in
       let node : Local = roused (eqb n at) u g (record s { sems = new }) in
-      let v1 : Spots = spots_with f v.slots v.births z v.halts v.remote in
+      let v1 : Spots = spots_with f v.slots v.births z v.forests v.halts v.remote in
       let o1 : StandsAmid p net n v1 L node (busy u first ∷ []) (Says (Heard by) ∷ ahead) = woken_amid k at u new (whole s m) less all in
       let x1 : (f by).life ≡ On from (Signals id up) = ap (λ (y : Spot). y.life) here ∙ x in
       let calls1 : IsCalling n from id up by v1 = record { was = x1; node = heard.calling.node; away = heard.calling.away } in
@@ -246,11 +241,11 @@ module _ {outset : Outset} {ahead : List Item} {L : Links} where
       (woken_ok (hears_signal by new (nothing s)) u at g (busy by life ∷ [])
       (λ e. m.here.threads.shows u ∙ thread_was n u (v.threads u) (Queues was.id) (was.life ∙ ap (λ i. On i (Queues was.id)) (sym (eqb-true n at e))) ∙ (rw (eq-eqb (node_in was.id) n was.node) refl))
       (hears_then s by node (busy u first ∷ busy by life ∷ []) m as_told
-      (subst (λ (y : Spot). StandsAmid p net n (spots_with (update f by (record y { life = life })) v.slots v.births z v.halts v.remote) (links_less n L from by) node (busy u first ∷ busy by life ∷ []) (Says (Heard by) ∷ ahead)) here second)
-      (beside_both {first = first} {second = life} (record { heirs = heard_heirs as_told; front = λ sends talk. refl; next = refl; still = rw (woken_busy n at, eq-eqb n n refl) refl })
+      (subst (λ (y : Spot). StandsAmid p net n (spots_with (update f by (record y { life = life })) v.slots v.births z v.forests v.halts v.remote) (links_less n L from by) node (busy u first ∷ busy by life ∷ []) (Says (Heard by) ∷ ahead)) here second)
+      (beside_both {due = Says (Heard by) ∷ ahead} {ahead = ahead} {hand = []} {more = busy u first ∷ busy by life ∷ []} {first = first} {second = life} (record { heirs = heard_heirs as_told; only = tt; front = λ sends talk. refl; next = refl; still = rw (woken_busy n at, eq-eqb n n refl) refl })
       (ap (λ (y : Spots). (y.threads u).life) (heard_same p as_told) ∙ ap (λ (y : Spot). y.life) (at_first_of v.threads u by ru _ apart))
       (ap (λ (y : Spots). (y.threads by).life) (heard_same p as_told) ∙ ap (λ (y : Spot). y.life) (updated f by _))
-      (roused_lists (eqb n at) u g (record s { sems = new })) (roused_booted (eqb n at) u g (record s { sems = new })) (roused_talk (eqb n at) u g (record s { sems = new }))))))
+      tt (roused_booted (eqb n at) u g (record s { sems = new })) (roused_talk (eqb n at) u g (record s { sems = new }))))))
     where
       roused_sems : (b : Bool) (u : Tid) (g : Guest) (s : Local) → (roused b u g s).sems ≡ s.sems
       roused_sems true u g s = refl

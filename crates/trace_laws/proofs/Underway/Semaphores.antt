@@ -1,7 +1,7 @@
 -- The queues of semaphores, when a thread comes to wait or is let go; and a thread's new spot beside other semaphores.
 use Rattle.run_trace.specs.Calls.{call_of}
 use Rattle.run_trace.specs.Items.{Item, is_seeking}
-use Rattle.std.proofs.Common.{◌≡◌, ℕ, List, [], ◌∷◌, ◌++◌, Option, Some, None, Bool, true, false, eqb, cond, ◌&&◌, refl, sym, ap, ◌∙◌, subst, map}
+use Rattle.std.proofs.Common.{◌≡◌, ℕ, List, [], ◌∷◌, ◌++◌, Option, Some, None, Bool, true, false, eqb, cond, ◌&&◌, refl, sym, ap, ◌∙◌, subst}
 use Rattle.std.specs.Prelude.{All}
 use Rattle.std.specs.Map.{set_value}
 use Rattle.std.proofs.lemmas.Bool.{eq-eqb, eqb-true}
@@ -18,11 +18,11 @@ use Rattle.run_trace.specs.Local.{Local}
 use Rattle.run_trace.specs.Cluster.{Net}
 use Rattle.run_trace.specs.Keyed.{StandsFor, item_of}
 use Rattle.run_trace.specs.Spots.{Stage, Queues, Answers, Due, Awaits, Life, Unborn, On, Spot, Spots, Remote, update, at_node, answered_stage}
-use Rattle.run_trace.specs.Stands.{serving, Busy, busy, busy_name, busy_part, thread_part, thread_in_life, row_part, row_in_life, listed, listed_name, ways_of, phase_of, held, waiter_name, waiter_in_life, waiter_part}
+use Rattle.run_trace.specs.Stands.{serving, Busy, busy, busy_name, busy_part, thread_part, thread_in_life, ways_of, phase_of, held, waiter_name, waiter_in_life, waiter_part}
 use Rattle.run_trace.proofs.Lemmas.{is-true, is-refl}
 use Rattle.trace_laws.proofs.Lists.KeyedLemmas.{kept, added, fronted, unfronted, map_kept, map_set}
 use Rattle.trace_laws.proofs.Lists.Queues.{IsShortened}
-use Rattle.trace_laws.proofs.Lists.Parts.{both_idle, thread_was, row_was, busy_was, away_thread, away_row, busy_none, frame_home}
+use Rattle.trace_laws.proofs.Lists.Parts.{both_idle, thread_was, busy_was, away_thread, busy_none, frame_home}
 use Rattle.trace_laws.proofs.Lists.Stages.{is_home, home_quiet, home_plain}
 use Rattle.trace_laws.proofs.Underway.Midst.{in_turn_kept, turn_words, StandsAmid, Links, LinkStands, Frame, spots_with, here_kept, links_kept, agrees_queued, AreQueued, queued, Quiet, Fits, fits, plain, Plain, Keeps, keeps}
 use Rattle.trace_laws.proofs.Underway.Steps.{seekers_kept, Ties}
@@ -137,6 +137,7 @@ pub record IsSpot (n : ℕ) (t : Tid) (r : Spot) (v : Spots) (z : ℕ → List S
 -- what the node keeps
 pub record IsBeside (old now : Local) (rows : List SemRow) : Type 0 where
   pub births : now.births ≡ old.births
+  pub forest : now.forest ≡ old.forest
   pub sems : now.sems ≡ rows
   pub free : now.slots.free ≡ old.slots.free
   pub halted : now.halted ≡ old.halted
@@ -144,19 +145,19 @@ pub record IsBeside (old now : Local) (rows : List SemRow) : Type 0 where
 
 pub spot_amid : {p : Program} {net : Net} {n : ℕ} {v : Spots} {M N : Links} {s : Local} {hand : List Busy} {ahead : List Item} {z : ℕ → List SemRow} {remote : Remote} (now : Local) (more : List Busy) (t : Tid) (r : Spot)
     → StandsAmid p net n v M s hand ahead → Ties n v t r now more → IsBeside s now (z n) → IsSpot n t r v z → ((i j : ℕ) → LinkStands i j (N i j) (update v.threads t r)) → ((i j : ℕ) → turn_words N i j ≡ turn_words M i j)
-    → StandsAmid p net n (spots_with (update v.threads t r) v.slots v.births z v.halts remote) N now more ahead
+    → StandsAmid p net n (spots_with (update v.threads t r) v.slots v.births z v.forests v.halts remote) N now more ahead
 spot_amid {p} {net} {n} {v} {M} {N} {s} {ahead = ahead} now more t r o ties keeps spot links words = record {
   here = record {
     threads = ties.threads;
-    rows = ties.rows;
     busy = ties.busy;
     seekers = seekers_kept n v.threads t r o.here.seekers (ap (λ z. serving ahead ++ z.claims) keeps.talk) (spot.seeks n) (spot.rests n);
+    forest = keeps.forest ∙ o.here.forest;
     births = keeps.births ∙ o.here.births;
     sems = keeps.sems;
     free = λ x. ap (λ (xs : List ℕ). has x xs) keeps.free ∙ o.here.free x;
     halted = keeps.halted ∙ o.here.halted;
   };
-  there = λ k e. here_kept k v t r (net.nodes k) [] [] (o.there k e) (spot.frame k e) refl (spot.others k e) (λ x. refl) refl;
+  there = λ k e. here_kept k v t r (net.nodes k) [] [] (o.there k e) (spot.frame k e) refl (spot.others k e) refl (λ x. refl) refl;
   links = links;
   turns = in_turn_kept net n s.talk now.talk M N ahead ahead o.turns keeps.talk words refl refl;
   agrees = agrees_queued p v t r v.halts o.agrees spot.phase spot.born spot.waits spot.holds spot.fits spot.queued (λ k e. e);
@@ -201,7 +202,7 @@ others_same z n new k e = rw e refl
 -- the thread that waited first is let go
 pub woken_amid : {p : Program} {net : Net} {n : ℕ} {v : Spots} {M : Links} {s : Local} {hand : List Busy} {ahead : List Item} {remote : Remote} (k at : ℕ) (u : Tid) (new : List SemRow)
     → StandsAmid p net n v M s hand ahead → IsShortened k (u, at) (v.sems n) new → All IsSemaphore new
-    → StandsAmid p net n (spots_with (update v.threads u (woken_spot n at (v.threads u))) v.slots v.births (at_node v.sems n new) v.halts remote) M
+    → StandsAmid p net n (spots_with (update v.threads u (woken_spot n at (v.threads u))) v.slots v.births (at_node v.sems n new) v.forests v.halts remote) M
     (roused (eqb n at) u (v.threads u).guest (record s { sems = new })) (busy u (woken_life n at) ∷ hand) ahead
 woken_amid {p} {net} {n} {v} {M} {s} {hand} {ahead} {remote} k at u new o less all = by (eqb n at) refl
   where
@@ -215,24 +216,22 @@ woken_amid {p} {net} {n} {v} {M} {s} {hand} {ahead} {remote} k at u new o less a
     new_here = rw (eq-eqb n n refl) refl
 
     by : (b : Bool) → eqb n at ≡ b
-        → StandsAmid p net n (spots_with (update v.threads u (record old { life = On at (cond b (Due 0) (Answers n (replies.Value 0) None)) })) v.slots v.births (at_node v.sems n new) v.halts remote) M
+        → StandsAmid p net n (spots_with (update v.threads u (record old { life = On at (cond b (Due 0) (Answers n (replies.Value 0) None)) })) v.slots v.births (at_node v.sems n new) v.forests v.halts remote) M
         (roused b u old.guest (record s { sems = new })) (busy u (On at (cond b (Due 0) (Answers n (replies.Value 0) None))) ∷ hand) ahead
     by true e =
         let same : n ≡ at = eqb-true n at e in
         let x : old.life ≡ On n (Queues was.id) = was.life ∙ ap (λ i. On i (Queues was.id)) (sym same) in
-        subst (λ i. StandsAmid p net n (spots_with (update v.threads u (record old { life = On i (Due 0) })) v.slots v.births (at_node v.sems n new) v.halts remote) M (roused true u old.guest (record s { sems = new })) (busy u (On i (Due 0)) ∷ hand) ahead) same
+        subst (λ i. StandsAmid p net n (spots_with (update v.threads u (record old { life = On i (Due 0) })) v.slots v.births (at_node v.sems n new) v.forests v.halts remote) M (roused true u old.guest (record s { sems = new })) (busy u (On i (Due 0)) ∷ hand) ahead) same
         (spot_amid _ (busy u (On n (Due 0)) ∷ hand) u (record old { life = On n (Due 0) }) o
         (record {
           threads = map_set is_tid is-true is-refl (thread_part n) v.threads u (record old { life = On n (Due 0) }) s.threads (waits wait.ForSemaphore old.guest) (waits wait.No old.guest) o.here.threads
               (thread_was n u old (Queues was.id) x ∙ (rw (eq-eqb (node_in was.id) n was.node) refl)) (thread_was n u (record old { life = On n (Due 0) }) (Due 0) refl);
-          rows = kept is_tid is-true is-refl listed_name (row_part n) v.threads u (record old { life = On n (Due 0) }) (map listed s.run_lists.rows) o.here.rows (row_was n u (record old { life = On n (Due 0) }) (Due 0) refl ∙ sym (row_was n u old (Queues was.id) x));
           busy = fronted is_tid is-true is-refl busy_name (busy_part n) v.threads u (record old { life = On n (Due 0) }) hand (busy u (On n (Due 0))) o.here.busy refl (busy_none n u old (On n (Queues was.id)) x refl) (busy_was n u (record old { life = On n (Due 0) }) (On n (Due 0)) refl (eq-eqb n n refl));
         })
-        (record { births = refl; sems = sym new_here; free = refl; halted = refl; talk = refl })
+        (record { births = refl; forest = refl; sems = sym new_here; free = refl; halted = refl; talk = refl })
         (record {
           frame = λ j f. record {
             thread = away_thread n j u (record old { life = On n (Due 0) }) (Due 0) refl f ∙ sym (away_thread n j u old (Queues was.id) x f);
-            row = away_row n j u (record old { life = On n (Due 0) }) (Due 0) refl f ∙ sym (away_row n j u old (Queues was.id) x f);
             busy = busy_none j u (record old { life = On n (Due 0) }) (On n (Due 0)) refl f ∙ sym (busy_none j u old (On n (Queues was.id)) x refl);
             seeker = both_idle j u old (record old { life = On n (Due 0) }) (ap (is_seeking j) x) refl;
           };
@@ -254,14 +253,12 @@ woken_amid {p} {net} {n} {v} {M} {s} {hand} {ahead} {remote} k at u new o less a
         spot_amid _ (busy u life ∷ hand) u r o
         (record {
           threads = map_kept is_tid is-true is-refl (thread_part n) v.threads u r s.threads o.here.threads (away_thread at n u r (Answers n (replies.Value 0) None) refl (off at e) ∙ sym (away_thread at n u old (Queues was.id) x (off at e)));
-          rows = kept is_tid is-true is-refl listed_name (row_part n) v.threads u r (map listed s.run_lists.rows) o.here.rows (away_row at n u r (Answers n (replies.Value 0) None) refl (off at e) ∙ sym (away_row at n u old (Queues was.id) x (off at e)));
           busy = fronted is_tid is-true is-refl busy_name (busy_part n) v.threads u r hand (busy u life) o.here.busy refl (busy_none n u old (On at (Queues was.id)) x refl) (busy_was n u r life refl (eq-eqb n n refl));
         })
-        (record { births = refl; sems = sym new_here; free = refl; halted = refl; talk = refl })
+        (record { births = refl; forest = refl; sems = sym new_here; free = refl; halted = refl; talk = refl })
         (record {
           frame = λ j f. record {
             thread = sym (ap (λ l. thread_in_life j l old.guest) x ∙ ap (λ b. cond (eqb at j) (Some (waits (cond b wait.ForSemaphore wait.ForAnswer) old.guest)) None) (ap (λ i. eqb i j) was.node ∙ f));
-            row = sym (ap (λ l. row_in_life j u l old.guest.priority) x);
             busy = busy_none j u r life refl f ∙ sym (busy_none j u old (On at (Queues was.id)) x refl);
             seeker = both_idle j u old r (ap (is_seeking j) x) refl;
           };

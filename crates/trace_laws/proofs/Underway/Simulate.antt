@@ -2,10 +2,9 @@
 use Rattle.trace_laws.proofs.Underway.Grants.{turn_ok}
 use Rattle.trace_laws.proofs.Underway.Turns.{StandsBefore, want_expected, wish_ok, over_expected, over_ok, turn_expected}
 use Rattle.std.proofs.Math.Path.{fun_ext}
-use Rattle.run_trace.specs.Talks.{Talk}
 use Rattle.trace_laws.proofs.Underway.Carried.{carried, packet_apart}
 use Rattle.std.proofs.Common.{◌≡◌, ℕ, ◌<◌, List, [], ◌∷◌, ◌++◌, Option, Some, None, Bool, true, false, eqb, cond, refl, sym, ap, ◌∙◌, subst, inl}
-use Rattle.std.specs.Prelude.{nat_lt, not, slice_get, map, length}
+use Rattle.std.specs.Prelude.{nat_lt, not, slice_get, length}
 use Rattle.std.specs.Map.{lookup}
 use Rattle.std.proofs.lemmas.Bool.{eq-eqb, eqb-true, ltb-true, and_parts}
 use Rattle.std.proofs.lemmas.List.{append-nil}
@@ -21,34 +20,33 @@ use Rattle.run_trace.specs.declared.packet.Body.{Body}
 use Rattle.run_trace.specs.declared.packet.Body.TheVariants.{Want, Turn, Over, Mover, Show, ShowDone, JoinAsk, DetachAsk, SemAsk, Answer, EndNote}
 use Rattle.run_trace.specs.declared.packet.Packet.{Packet}
 use Rattle.run_trace.specs.declared.packet.Send.{Send}
-use Rattle.run_trace.specs.declared.node.ReadyRow.{ReadyRow}
 use Rattle.run_trace.specs.declared.node.Wait.TheVariants as wait
 use Rattle.run_trace.specs.Names.{is_tid, tid}
 use Rattle.run_trace.specs.Calls.{extra_of}
-use Rattle.run_trace.specs.Program.{Program, nodes_of, tree_of}
+use Rattle.run_trace.specs.Program.{Program, nodes_of, tree_of, processors_of}
 use Rattle.run_trace.specs.Guests.{Guest, Thread, waits, stack_end}
-use Rattle.run_trace.specs.RunLists.{best_on, is_listed, IsRising}
+use Rattle.levels.specs.Choice.{has_ready}
+use Rattle.bubbles.specs.Forests.{ForestView}
+use Rattle.run_trace.specs.Bubbles.{is_listed}
 use Rattle.run_trace.specs.Local.{Local, EventSoFar, nothing, with_booted}
-use Rattle.run_trace.specs.Steps.{tell, leaves, put, say, thread_out, take_off}
-use Rattle.run_trace.specs.Machine.{local_event, acts, is_range, boots, boots_in, free_slot, run_picked, run_found, run_thread, goes, moves_found, takes, accepts, is_stray}
+use Rattle.run_trace.specs.Steps.{tell}
+use Rattle.run_trace.specs.Machine.{local_event, acts, is_range, boots, boots_in, free_slot, chooses, choice_limit, goes, moves_found, takes, accepts, is_stray}
 use Rattle.run_trace.specs.Cluster.{Event, Net, net_after, next_packet, after_or, IsTaken, Happens}
 use Rattle.run_trace.specs.Trace.{event_of}
 use Rattle.run_trace.specs.declared.entry.Entry.{Entry}
-use Rattle.run_trace.specs.Keyed.{item_of}
 use Rattle.run_trace.specs.Rules.{Occasion, quantum_in}
 use Rattle.run_trace.specs.Console.{shown_by_all}
 use Rattle.run_trace.specs.Obeying.{Starts, first_birth}
 use Rattle.run_trace.specs.Spots.{lowest_free, Ready, Shown_there, Answered, Unborn, On, Noting, Response, Spots, second_of, after_labels}
-use Rattle.run_trace.specs.Stands.{AreInTurn, Here, Stands, Line_shown, Reply, word_subject, word_of, words_of, words_about, way, ways_of, link_part, listed, listed_name, phase_of}
+use Rattle.run_trace.specs.Stands.{AreInTurn, Here, Stands, Line_shown, Reply, word_subject, word_of, words_of, words_about, way, ways_of, link_part, phase_of}
 use Rattle.run_trace.proofs.Lemmas.{is-refl}
 use Rattle.run_trace.specs.declared.label.Label.{Label}
-use Rattle.trace_laws.proofs.Lists.Arriving.{run_lists_after_all, picked_is, on_list_is}
-use Rattle.run_trace.specs.World.{Listed, World}
+use Rattle.trace_laws.proofs.Lists.SeatedLabels.{nobody_departs, listed_ready}
+use Rattle.run_trace.specs.World.{World}
 use Rattle.trace_laws.proofs.Underway.Midst.{talks_amid, to_do_amid, turn_words, under, none_under, in_turn_kept, IsAsBefore, as_before, Outset, NextAll, Links, Midst, Obeyed, LinkStands, sent_words, at_link, nothing_sent}
-use Rattle.trace_laws.proofs.Lists.Parts.{at_row, not_busy, row_found, listed_found, at_way, Tells}
+use Rattle.trace_laws.proofs.Lists.Parts.{at_way, Tells}
 use Rattle.trace_laws.proofs.Lists.Subjects.{subject-refl, less_word, IsOneOf, on_way}
-use Rattle.run_trace.specs.Items.{Thread as Subject_of, Turns, Progress, has_to, worked_off, said_all, begins_with, Item, Says, Runs}
-use Rattle.trace_laws.proofs.Lists.Picking.{best_is}
+use Rattle.run_trace.specs.Items.{Thread as Subject_of, Turns, Progress, has_to, worked_off, said_all, begins_with, Item, Says, Chooses}
 use Rattle.trace_laws.proofs.Underway.Steps.{is_spoken, after_first, on_node}
 use Rattle.trace_laws.proofs.Underway.CallSteps.{sent_ok}
 use Rattle.trace_laws.proofs.Underway.Lifetimes.{main_born_ok, lowest_is}
@@ -56,9 +54,9 @@ use Rattle.trace_laws.proofs.Underway.Takes.{shows_ok, acknowledges_ok, tell_tak
 use Rattle.trace_laws.proofs.Underway.Joins.{hears_ok, hears_detach_ok}
 use Rattle.trace_laws.proofs.Underway.Ends.{knows_ok}
 use Rattle.trace_laws.proofs.Underway.SemaphoreTakes.{flipped, hears_call_ok}
-use Rattle.trace_laws.proofs.Underway.Events.{run_ok}
+use Rattle.trace_laws.proofs.Underway.Events.{chooses_ok, choice_ready}
 use Rattle.run_trace.specs.Links.{first_of, rest_of, left_after, packets_to}
-use Rattle.trace_laws.specs.Obeys.{apart_from_turns, world_at, PicksBest, RunsNext, all_causes}
+use Rattle.trace_laws.specs.Obeys.{apart_from_turns, world_at, all_causes}
 
 -- the extra of a judged call is what is told
 second-extra : (o : Option ℕ) → second_of (extra_of o) ≡ o
@@ -114,7 +112,9 @@ begins p q n opening w net idle s = record {
   links = λ i j. nothing_sent n (under_way net) i j w.threads (s.links i j);
   turns = in_turn_kept net n (net.nodes n).talk (net.nodes n).talk (under_way net) (under n (under_way net) []) [] opening (in_turn_before net n (under_way net) s.turns) refl (λ i j. ap (λ xs. words_about xs Turns) (none_under n (under_way net) i j)) idle.turns idle.wants;
   agrees = s.agrees;
-  aside = record { run_lists = refl; still = refl; next = tt; rising = s.rising n; booted = λ h. h };
+  seated = s.seated;
+  covered = s.covered;
+  aside = record { still = refl; next = tt; booted = λ h. h };
 }
 
 -- ## The end of an event
@@ -185,15 +185,12 @@ ends_well {p = p} {w = w} {net = net} {n = n} {d = d} {M = M} stamp round a o s 
           (link_after n net M stamp a d.sends same i j) (m.links i j);
       turns = in_turn_after stamp round a o is m same;
       agrees = m.agrees;
-      rising = λ k. elim (eqb n k) as (λ b. eqb n k ≡ b → IsRising (cond b (after_or (local_event p k (net.nodes k) a o) (net.nodes k)) (net.nodes k)).run_lists) [
-        | true ↦ λ e. subst (λ j. IsRising (after_or (local_event p j (net.nodes j) a o) (net.nodes j)).run_lists) (eqb-true n k e) (subst (λ z. IsRising (after_or z (net.nodes n)).run_lists) (sym is) m.aside.rising)
-        | false ↦ λ e. s.rising k
-      ] refl;
+      seated = m.seated;
+      covered = m.covered;
     })
 
 -- what an event does to its own node, beside the spots
 pub record Beyond (p : Program) (w : Spots) (s now : Local) (n : ℕ) (opening : Progress) (labels : List Label) (sends : List Send) : Type 0 where
-  pub run_lists : now.run_lists ≡ run_lists_after_all p n labels w s.run_lists
   pub next : NextAll p n labels w opening
   pub ends : worked_off n (after_labels p n labels w) (said_all p n labels w opening) ≡ record { sends = sends; to_do = []; talk = now.talk }
   pub booted : s.booted ≡ true → now.booted ≡ true
@@ -203,7 +200,6 @@ pub record Simulates (p : Program) (w : Spots) (net : Net) (e : Event) : Type 0 
   pub allowed : Obeyed p (asked_of e.act e.took) e.node e.labels (world_at w net)
   pub sends : apart_from_turns e.sends ≡ all_causes p e.node e.labels w
   pub prints : e.prints ≡ shown_by_all p e.node e.labels w
-  pub picks : PicksBest p e.act (net.nodes e.node).run_lists.rows e.labels
   pub opening : Progress
   pub starts : IsTaken e.stamp e.act e.took → Starts p e.stamp e.node e.act (world_at w net) opening
   pub beyond : (d : EventSoFar) → local_event p e.node (net.nodes e.node) e.act e.took ≡ Some d → Beyond p w (net.nodes e.node) d.node e.node opening e.labels e.sends
@@ -212,18 +208,16 @@ pub record Simulates (p : Program) (w : Spots) (net : Net) (e : Event) : Type 0 
 simulated : {p : Program} {w : Spots} {net : Net} {stamp n round : ℕ} {a : Act} {o : Option Packet} {d : EventSoFar} {M : Links} {opening : Progress} → Stands p w net → local_event p n (net.nodes n) a o ≡ Some d
     → Midst (outset p w net (asked_of a o) n opening) [] M d [] → ((i j : ℕ) → M i j ≡ left net n a i j)
     → (IsTaken stamp a o → Starts p stamp n a (world_at w net) opening) → apart_from_turns opening.sends ≡ []
-    → PicksBest p a (net.nodes n).run_lists.rows d.labels → Simulates p w net (event stamp n round a o d)
-simulated {p = p} {w = w} {stamp = stamp} {n = n} {round = round} {a = a} {o = o} {d = d} {opening = opening} s is m same starts none picks = record {
+    → Simulates p w net (event stamp n round a o d)
+simulated {p = p} {w = w} {stamp = stamp} {n = n} {round = round} {a = a} {o = o} {d = d} {opening = opening} s is m same starts none = record {
   opening = opening;
   starts = starts;
   allowed = m.allowed;
   sends = carried m.aside none;
   prints = m.prints;
-  picks = picks;
   beyond = λ f g.
       let one : d ≡ f = cc (is, g) in
       record {
-        run_lists = ap (λ (z : EventSoFar). z.node.run_lists) (sym one) ∙ m.aside.run_lists;
         next = m.aside.next;
         ends = m.aside.still ∙ ap (λ (z : EventSoFar). record { sends = d.sends; to_do = []; talk = z.node.talk }) one;
         booted = λ h. ap (λ (z : EventSoFar). z.node.booted) (sym one) ∙ m.aside.booted h;
@@ -267,16 +261,6 @@ first_tells p w net s f n x t h name =
         let of : word_subject (word_of n y.body) ≡ Subject_of t = ap (λ (z : Packet). word_subject (word_of n z.body)) (sym e) ∙ name in
         rw (of, is-refl t) (inl (ap (λ (z : Packet). word_of n z.body) (sym e)))
 
--- where a run is all that there is to do, it is said first
-runs_next : (p : Program) (n vp : ℕ) (t : Tid) (w : Spots) (ls : List Label) (talk : Talk) (end : Progress) → NextAll p n ls w (has_to (Runs t vp ∷ []) talk) → worked_off n (after_labels p n ls w) (said_all p n ls w (has_to (Runs t vp ∷ []) talk)) ≡ end → end.to_do ≡ [] → RunsNext t vp ls
-runs_next p n vp t w [] talk end k e none = absurd (let some : Runs t vp ∷ [] ≡ end.to_do = ap (λ (z : Progress). z.to_do) e in cc (some, none))
-runs_next p n vp t w (l ∷ ls) talk end k e none = ([], tt, k.0.0, k.0.1, ls, ap (λ z. z ∷ ls) k.0.2)
-
--- a thread that is sent away says one label
-leaves_labels : (t : Tid) (to : ℕ) (x : Thread) (s : Local) → (leaves t to x (nothing s)).labels ≡ Left t to ∷ []
-unfolding leaves put say thread_out take_off
-leaves_labels t to x s = refl
-
 module _ (p : Program) (w : Spots) (net : Net) (s : Stands p w net) (q : Occasion) (n : ℕ) where
   abbrev here : (opening : List Item) (idle : IsAsBefore [] opening) → Midst (outset p w net q n (opens net n opening)) opening (under_way net) (nothing (net.nodes n)) []
   here opening idle = begins p q n opening w net idle s
@@ -293,7 +277,7 @@ module _ (p : Program) (w : Spots) (net : Net) (s : Stands p w net) (q : Occasio
     comes : nat_lt n (nodes_of p) ≡ true → Midst (outset p w net q n (begins_with n i body (net.nodes n).talk)) [] (at_link i n (less_word (word_subject (word_of n body))) (under_way net)) (accepts n i body (net.nodes n)) []
 
   before : StandsBefore p net n w (under_way net)
-  before = record { nodes = s.nodes; links = s.links; turns = s.turns; agrees = s.agrees; rising = s.rising n }
+  before = record { nodes = s.nodes; links = s.links; turns = s.turns; agrees = s.agrees; seated = s.seated; covered = s.covered }
 
   -- the word of the packet that is taken is the first of its link
   first_word : (i : ℕ) (x : Packet) → Some x ≡ first_of (net.links i n) → under_way net i n ≡ word_of n x.body ∷ words_of n (rest_of (net.links i n))
@@ -329,7 +313,7 @@ module _ (p : Program) (w : Spots) (net : Net) (s : Stands p w net) (q : Occasio
             expected = rw (on_node t Shown_there (here [] as_before) k.1, in_cluster t (λ e. absurd (cc (e, k.1)))) refl;
             comes = λ below. subst (λ z. Midst (outset p w net q n (opens net n (Says (Told t) ∷ []))) [] (at_link i n (less_word (Subject_of t)) (under_way net)) (tell t z None (nothing (net.nodes n))) []) k.3
                 (subst (λ z. Midst (outset p w net q n (opens net n (Says (Told t) ∷ []))) [] (at_link i n (less_word (Subject_of t)) (under_way net)) (tell t v.code (second_of z) (nothing (net.nodes n))) []) k.4
-                (tell_taken_ok (net.nodes n) i t Shown_there wait.ForShow (Line_shown t v.code v.extra) (at_first (Says (Told t)) refl) k.1 refl refl (ap (λ z. way z n (Line_shown t v.code v.extra)) (sym k.2)) (record { thread = refl; row = refl; idle = λ j. refl; held = refl; plain = refl })));
+                (tell_taken_ok (net.nodes n) i t Shown_there wait.ForShow (Line_shown t v.code v.extra) (at_first (Says (Told t)) refl) k.1 refl refl (ap (λ z. way z n (Line_shown t v.code v.extra)) (sym k.2)) (record { thread = refl; idle = λ j. refl; held = refl; plain = refl })));
           }
       by (JoinAsk t seq) first tells =
           let k = tells t refl in
@@ -357,7 +341,7 @@ module _ (p : Program) (w : Spots) (net : Net) (s : Stands p w net) (q : Occasio
             expected = rw (on_node t (Answered i) (here [] as_before) k.1, in_cluster t (λ e. absurd (cc (e, k.1)))) refl;
             comes = λ below. subst (λ z. Midst (outset p w net q n (opens net n (Says (Told t) ∷ []))) [] (at_link i n (less_word (Subject_of t)) (under_way net)) (tell t z second (nothing (net.nodes n))) []) k.2
                 (subst (λ z. Midst (outset p w net q n (opens net n (Says (Told t) ∷ []))) [] (at_link i n (less_word (Subject_of t)) (under_way net)) (tell t v.code z (nothing (net.nodes n))) []) (ap second_of k.3 ∙ second-extra second)
-                (tell_taken_ok (net.nodes n) i t (Answered i) wait.ForAnswer (Reply t v.code v.extra) (at_first (Says (Told t)) refl) k.1 refl refl refl (record { thread = refl; row = refl; idle = λ j. refl; held = refl; plain = refl })));
+                (tell_taken_ok (net.nodes n) i t (Answered i) wait.ForAnswer (Reply t v.code v.extra) (at_first (Says (Told t)) refl) k.1 refl refl refl (record { thread = refl; idle = λ j. refl; held = refl; plain = refl })));
           }
       by (EndNote seq end) first tells =
           let k = tells (tid n seq) refl in
@@ -371,51 +355,35 @@ module _ (p : Program) (w : Spots) (net : Net) (s : Stands p w net) (q : Occasio
       by Over first tells = record { expected = over_expected p net q n (world_at w net) (under_way net) before i _ first; comes = λ below. over_ok p net q n (world_at w net) (under_way net) before i _ first }
       by Turn first tells = record { expected = turn_expected p net q n (world_at w net) (under_way net) before i _ first; comes = λ below. turn_ok p net q n (world_at w net) (under_way net) before below i _ first }
 
-  -- ## The run list
+  -- ## A thread on a run list of the node
 
-  -- between events a thread on the run list is ready
-  row_ready : (t : Tid) (y : Listed) → item_of is_tid listed_name (map listed (net.nodes n).run_lists.rows) t ≡ Some y → (w.threads t).life ≡ On n Ready
-  row_ready t y found =
-      (at_row n t (w.threads t).life (w.threads t).guest.priority y (not_busy n t (w.threads t) ((s.nodes n).busy.shows t)) (sym ((s.nodes n).rows.shows t) ∙ found)).0
+  -- by the labels too, and between events it is ready
+  listed_told : (t : Tid) → is_listed t (net.nodes n).forest ≡ true → is_listed t (w.forests n) ≡ true
+  listed_told t h = ap (is_listed t) (sym (s.nodes n).forest) ∙ h
 
-  -- the thread that is picked is ready
-  pub picked_ready : (vp : ℕ) (r : ReadyRow) → best_on (tree_of p) vp (net.nodes n).run_lists.rows ≡ Some r → (w.threads r.tid).life ≡ On n Ready
-  picked_ready vp r picked = row_ready r.tid (listed r) (row_found (net.nodes n).run_lists.rows r (s.nodes n).rows.apart (best_is (tree_of p) vp (net.nodes n).run_lists.rows r picked).0)
-
-  -- and so is each that is on it
-  pub listed_ready : (t : Tid) → is_listed t (net.nodes n).run_lists.rows ≡ true → (w.threads t).life ≡ On n Ready
-  listed_ready t h = by (item_of is_tid listed_name (map listed (net.nodes n).run_lists.rows) t) refl
-    where
-      by : (o : Option Listed) → item_of is_tid listed_name (map listed (net.nodes n).run_lists.rows) t ≡ o → (w.threads t).life ≡ On n Ready
-      by None e = absurd (cc (e, h, listed_found (net.nodes n).run_lists.rows t))
-      by (Some y) e = row_ready t y e
+  ready_told : (t : Tid) → is_listed t (net.nodes n).forest ≡ true → (w.threads t).life ≡ On n Ready
+  ready_told t h = listed_ready p n t w (s.seated n) (nobody_departs n w.threads [] (s.nodes n).busy tt) (listed_told t h)
 
   -- ## A move
 
-  record Sent (t : Tid) (to : ℕ) (x : Thread) : Type 0 where
-    left : Midst (outset p w net q n (opens net n (Says (Left t to) ∷ []))) [] (under_way net) (goes p t to x (nothing (net.nodes n))) []
-    labels : (goes p t to x (nothing (net.nodes n))).labels ≡ Left t to ∷ []
-
-  sent : (t : Tid) (to : ℕ) (x : Thread) → is_listed t (net.nodes n).run_lists.rows ≡ true → lookup (is_tid t) (net.nodes n).threads ≡ Some x → to < nodes_of p → (to ≡ n → ⊥) → Sent t to x
+  sent : (t : Tid) (to : ℕ) (x : Thread) → is_listed t (net.nodes n).forest ≡ true → lookup (is_tid t) (net.nodes n).threads ≡ Some x → to < nodes_of p → (to ≡ n → ⊥)
+      → Midst (outset p w net q n (opens net n (Says (Left t to) ∷ []))) [] (under_way net) (goes p t to x (nothing (net.nodes n))) []
   sent t to x listed f inside other =
-      let ready : (w.threads t).life ≡ On n Ready = listed_ready t listed in
+      let ready : (w.threads t).life ≡ On n Ready = ready_told t listed in
       let same : Some (waits wait.No (w.threads t).guest) ≡ Some x = sym (on_node t Ready (here [] as_before) ready) ∙ f in
       let one : waits wait.No (w.threads t).guest ≡ x = cc same in
-      record {
-        left = subst (λ z. Midst (outset p w net q n (opens net n (Says (Left t to) ∷ []))) [] (under_way net) (goes p t to z (nothing (net.nodes n))) []) one (sent_ok (nothing (net.nodes n)) t to (at_first (Says (Left t to)) refl) ready inside other);
-        labels = ap (λ z. (cond z (leaves t to x (nothing (net.nodes n))) (nothing (net.nodes n))).labels) (in_cluster t (λ e. absurd (cc (e, ready)))) ∙ leaves_labels t to x (net.nodes n);
-      }
+      subst (λ z. Midst (outset p w net q n (opens net n (Says (Left t to) ∷ []))) [] (under_way net) (goes p t to z (nothing (net.nodes n))) []) one
+      (sent_ok (nothing (net.nodes n)) t to (at_first (Says (Left t to)) refl) ready (listed_told t listed) inside other)
 
-  -- ## A run of the thread that is picked
+  -- ## A choice of a processor
 
-  ran_midst : nat_lt n (nodes_of p) ≡ true → (vp : ℕ) (r : ReadyRow) (x : Thread) → best_on (tree_of p) vp (net.nodes n).run_lists.rows ≡ Some r → lookup (is_tid r.tid) (net.nodes n).threads ≡ Some x
-      → Midst (outset p w net q n (opens net n (Runs r.tid vp ∷ []))) [] (under_way net) (run_thread p n vp (quantum_in q.act) r.tid x (nothing (net.nodes n))) []
-  ran_midst below vp r x picked f =
-      let t : Tid = r.tid in
-      let ready : (w.threads t).life ≡ On n Ready = picked_ready vp r picked in
-      let same : Some (waits wait.No (w.threads t).guest) ≡ Some x = sym (on_node t Ready (here [] as_before) ready) ∙ f in
-      let one : waits wait.No (w.threads t).guest ≡ x = cc same in
-      subst (λ z. Midst (outset p w net q n (opens net n (Runs t vp ∷ []))) [] (under_way net) (run_thread p n vp (quantum_in q.act) t z (nothing (net.nodes n))) []) one (run_ok below (nothing (net.nodes n)) t vp (at_first (Runs t vp) refl) ready)
+  -- a list of the processor's has an entity
+  has_choice : (vp k : ℕ) (d : EventSoFar) → chooses p n vp (quantum_in q.act) k (nothing (net.nodes n)) ≡ Some d → has_ready (tree_of p) vp (w.forests n).lists.rows ≡ true
+  has_choice vp k d h = subst (λ z. has_ready z vp (w.forests n).lists.rows ≡ true) (s.seated n).tree
+      (subst (λ (f : ForestView). has_ready f.lists.tree vp f.lists.rows ≡ true) (s.nodes n).forest (choice_ready p n vp (quantum_in q.act) k (nothing (net.nodes n)) d h))
+
+  chosen_midst : nat_lt n (nodes_of p) ≡ true → (vp k : ℕ) → vp < processors_of p → (d : EventSoFar) → chooses p n vp (quantum_in q.act) k (nothing (net.nodes n)) ≡ Some d → Midst (outset p w net q n (opens net n (Chooses vp ∷ []))) [] (under_way net) d []
+  chosen_midst below vp k some d h = chooses_ok below k vp (nothing (net.nodes n)) d some (at_first (Chooses vp) refl) h
 
   -- ## A beginning
 
@@ -432,8 +400,10 @@ module _ (p : Program) (w : Spots) (net : Net) (s : Stands p w net) (q : Occasio
         there = k.there;
         links = k.links;
         agrees = k.agrees;
-        aside = record { run_lists = refl; still = refl; next = tt; rising = s.rising n; booted = λ h. refl };
-        here = record { threads = k.here.threads; rows = k.here.rows; busy = k.here.busy; seekers = k.here.seekers; births = k.here.births; sems = k.here.sems; free = k.here.free; halted = k.here.halted };
+        seated = k.seated;
+        covered = k.covered;
+        aside = record { still = refl; next = tt; booted = λ h. refl };
+        here = record { threads = k.here.threads; forest = k.here.forest; busy = k.here.busy; seekers = k.here.seekers; births = k.here.births; sems = k.here.sems; free = k.here.free; halted = k.here.halted };
       }
 
       by_slot : n ≡ 0 → (o : Option ℕ) → free_slot (net.nodes n).slots.free ≡ o → Midst (outset p w net q n (opens net n (first_birth p n o w))) [] (under_way net) (boots_in p n o (with_booted (nothing (net.nodes n)))) []
@@ -459,6 +429,14 @@ range_below p n s Boot h = (and_parts (nat_lt n (nodes_of p)) _ h).0
 range_below p n s (RunThread vp quantum) h = (and_parts (nat_lt n (nodes_of p)) _ h).0
 range_below p n s (Take from) h = (and_parts (nat_lt n (nodes_of p)) _ h).0
 range_below p n s (Move t to) h = (and_parts (nat_lt n (nodes_of p)) _ h).0
+
+-- a processor is one of the tree
+range_processor : (p : Program) (n : ℕ) (s : Local) (vp quantum : ℕ) → is_range p n s (RunThread vp quantum) ≡ true → vp < processors_of p
+unfolding is_range
+range_processor p n s vp quantum h =
+    let a = and_parts (nat_lt n (nodes_of p)) _ h in
+    let b = and_parts s.booted _ a.1 in
+    ltb-true vp (processors_of p) (and_parts (nat_lt vp (processors_of p)) _ b.1).0
 
 -- a thread is sent to another node of the cluster
 range_to : (p : Program) (n : ℕ) (s : Local) (t : Tid) (to : ℕ) → is_range p n s (Move t to) ≡ true → (to < nodes_of p) × (to ≡ n → ⊥)
@@ -487,36 +465,29 @@ pub simulates : (p : Program) (w : Spots) (net : Net) (stamp n round : ℕ) (a :
 simulates p w net stamp n round Boot None d s is h =
     let same : boots p n (nothing (net.nodes n)) ≡ d = cc (possible p n (net.nodes n) Boot None d is).1 in
     let opening : List Item = cond (eqb n 0) (first_birth p n (lowest_free n 1 w) w) [] in
-    simulated s is (subst (λ z. Midst (outset p w net (asked_of Boot None) n (opens net n opening)) [] (under_way net) z []) same (boots_midst p w net s (asked_of Boot None) n (range_below p n (net.nodes n) Boot (possible p n (net.nodes n) Boot None d is).0))) (none_left net n Boot (λ i ps. refl)) (λ k. refl) refl tt
-simulates p w net stamp n round (RunThread vp q) None d s is h = by_row (best_on (tree_of p) vp (net.nodes n).run_lists.rows) refl (possible p n (net.nodes n) (RunThread vp q) None d is).1
-  where
-    by_thread : (r : ReadyRow) → best_on (tree_of p) vp (net.nodes n).run_lists.rows ≡ Some r → (x : Option Thread) → lookup (is_tid r.tid) (net.nodes n).threads ≡ x → run_found p n vp q r.tid x (net.nodes n) ≡ Some d → Simulates p w net (event stamp n round (RunThread vp q) None d)
-    by_thread r e None f g = absurd (cc g)
-    by_thread r e (Some x) f g =
-        let same : run_thread p n vp q r.tid x (nothing (net.nodes n)) ≡ d = cc g in
-        let m : Midst (outset p w net (asked_of (RunThread vp q) None) n (opens net n (Runs r.tid vp ∷ []))) [] (under_way net) d [] = subst (λ z. Midst (outset p w net (asked_of (RunThread vp q) None) n (opens net n (Runs r.tid vp ∷ []))) [] (under_way net) z []) same (ran_midst p w net s (asked_of (RunThread vp q) None) n (range_below p n (net.nodes n) (RunThread vp q) (possible p n (net.nodes n) (RunThread vp q) None d is).0) vp r x e f) in
-        simulated s is m (none_left net n (RunThread vp q) (λ i ps. refl)) (λ k. (listed r, picked_is (tree_of p) vp (net.nodes n).run_lists.rows r (s.rising n).0 e, refl)) refl (r, best_is (tree_of p) vp (net.nodes n).run_lists.rows r e, runs_next p n vp r.tid w d.labels (net.nodes n).talk _ m.aside.next m.aside.still refl)
-
-    by_row : (r : Option ReadyRow) → best_on (tree_of p) vp (net.nodes n).run_lists.rows ≡ r → run_picked p n vp q r (net.nodes n) ≡ Some d → Simulates p w net (event stamp n round (RunThread vp q) None d)
-    by_row None e g = absurd (cc g)
-    by_row (Some r) e g = by_thread r e (lookup (is_tid r.tid) (net.nodes n).threads) refl g
+    simulated s is (subst (λ z. Midst (outset p w net (asked_of Boot None) n (opens net n opening)) [] (under_way net) z []) same (boots_midst p w net s (asked_of Boot None) n (range_below p n (net.nodes n) Boot (possible p n (net.nodes n) Boot None d is).0))) (none_left net n Boot (λ i ps. refl)) (λ k. refl) refl
+simulates p w net stamp n round (RunThread vp quantum) None d s is h =
+    let q : Occasion = asked_of (RunThread vp quantum) None in
+    let k = possible p n (net.nodes n) (RunThread vp quantum) None d is in
+    simulated s is (chosen_midst p w net s q n (range_below p n (net.nodes n) (RunThread vp quantum) k.0) vp (choice_limit (net.nodes n).forest) (range_processor p n (net.nodes n) vp quantum k.0) d k.1)
+    (none_left net n (RunThread vp quantum) (λ i ps. refl)) (λ taken. (has_choice p w net s q n vp (choice_limit (net.nodes n).forest) d k.1, refl)) refl
 simulates p w net stamp n round (Take from) (Some x) d s is h =
     let same : takes p n from x.body (net.nodes n) ≡ d = cc (possible p n (net.nodes n) (Take from) (Some x) d is).1 in
     let k : Taken p w net s (asked_of (Take from) (Some x)) n from x.body = taken p w net s (asked_of (Take from) (Some x)) n from x h in
     let accepted : accepts n from x.body (net.nodes n) ≡ d = sym (ap (λ z. cond z (nothing (net.nodes n)) (accepts n from x.body (net.nodes n))) k.expected) ∙ same in
     simulated s is (subst (λ z. Midst (outset p w net (asked_of (Take from) (Some x)) n (begins_with n from x.body (net.nodes n).talk)) [] (at_link from n (less_word (word_subject (word_of n x.body))) (under_way net)) z []) accepted (k.comes (range_below p n (net.nodes n) (Take from) (possible p n (net.nodes n) (Take from) (Some x) d is).0)))
-    (words_left net n from x h) (λ before. (x, sym h, before, refl)) (packet_apart from x.body (net.nodes n).talk) tt
-simulates p w net stamp n round (Move t to) None d s is h = by_listed (is_listed t (net.nodes n).run_lists.rows) refl (possible p n (net.nodes n) (Move t to) None d is).1
+    (words_left net n from x h) (λ before. (x, sym h, before, refl)) (packet_apart from x.body (net.nodes n).talk)
+simulates p w net stamp n round (Move t to) None d s is h = by_listed (is_listed t (net.nodes n).forest) refl (possible p n (net.nodes n) (Move t to) None d is).1
   where
-    by_thread : is_listed t (net.nodes n).run_lists.rows ≡ true → (x : Option Thread) → lookup (is_tid t) (net.nodes n).threads ≡ x → moves_found p t to x (net.nodes n) ≡ Some d → Simulates p w net (event stamp n round (Move t to) None d)
+    by_thread : is_listed t (net.nodes n).forest ≡ true → (x : Option Thread) → lookup (is_tid t) (net.nodes n).threads ≡ x → moves_found p t to x (net.nodes n) ≡ Some d → Simulates p w net (event stamp n round (Move t to) None d)
     by_thread e None f g = absurd (cc g)
     by_thread e (Some x) f g =
         let same : goes p t to x (nothing (net.nodes n)) ≡ d = cc g in
         let inside = range_to p n (net.nodes n) t to (possible p n (net.nodes n) (Move t to) None d is).0 in
-        let k : Sent p w net s (asked_of (Move t to) None) n t to x = sent p w net s (asked_of (Move t to) None) n t to x e f inside.0 inside.1 in
-        simulated s is (subst (λ z. Midst (outset p w net (asked_of (Move t to) None) n (opens net n (Says (Left t to) ∷ []))) [] (under_way net) z []) same k.left) (none_left net n (Move t to) (λ i ps. refl)) (λ j. (sym (on_list_is t (net.nodes n).run_lists.rows) ∙ e, refl)) refl (e, subst (λ (z : EventSoFar). z.labels ≡ Left t to ∷ []) same k.labels)
+        simulated s is (subst (λ z. Midst (outset p w net (asked_of (Move t to) None) n (opens net n (Says (Left t to) ∷ []))) [] (under_way net) z []) same (sent p w net s (asked_of (Move t to) None) n t to x e f inside.0 inside.1))
+        (none_left net n (Move t to) (λ i ps. refl)) (λ j. (listed_told p w net s (asked_of (Move t to) None) n t e, refl)) refl
 
-    by_listed : (v : Bool) → is_listed t (net.nodes n).run_lists.rows ≡ v → cond v (moves_found p t to (lookup (is_tid t) (net.nodes n).threads) (net.nodes n)) None ≡ Some d → Simulates p w net (event stamp n round (Move t to) None d)
+    by_listed : (v : Bool) → is_listed t (net.nodes n).forest ≡ v → cond v (moves_found p t to (lookup (is_tid t) (net.nodes n).threads) (net.nodes n)) None ≡ Some d → Simulates p w net (event stamp n round (Move t to) None d)
     by_listed true e g = by_thread e (lookup (is_tid t) (net.nodes n).threads) refl g
     by_listed false e g = absurd (cc g)
 simulates p w net stamp n round Boot (Some x) d s is h = absurd (cc h)

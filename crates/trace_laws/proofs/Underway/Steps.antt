@@ -1,6 +1,6 @@
 -- What the small steps of an event are made of: a label of one thread, by which it stays on its node, comes to wait for what a packet
 -- brings, or does anything else; and what it means that the event is busy with a thread.
-use Rattle.std.proofs.Common.{Bool, ◌≡◌, ℕ, List, [], ◌∷◌, ◌++◌, Some, true, false, eqb, refl, sym, ap, ◌∙◌, subst, map}
+use Rattle.std.proofs.Common.{Bool, ◌≡◌, ℕ, List, [], ◌∷◌, ◌++◌, Some, true, false, eqb, refl, sym, ap, ◌∙◌, subst}
 use Rattle.std.specs.Map.{lookup}
 use Rattle.std.proofs.lemmas.List.{append-nil}
 use Rattle.slot_space.specs.Sets.{has}
@@ -15,21 +15,21 @@ use Rattle.run_trace.specs.Guests.{Thread, waits}
 use Rattle.run_trace.specs.Local.{Local, EventSoFar}
 use Rattle.run_trace.specs.Steps.{at_found, at_thread}
 use Rattle.run_trace.specs.Keyed.{StandsFor, MapStandsFor}
-use Rattle.run_trace.specs.Spots.{Stage, Life, On, Spot, Spots, update, remote_after, after_label}
+use Rattle.run_trace.specs.Spots.{Stage, Life, On, Spot, Spots, update, forests_after, remote_after, after_label}
 use Rattle.run_trace.specs.Console.{shown_by}
 use Rattle.run_trace.specs.Cluster.{Net}
-use Rattle.run_trace.specs.Stands.{Here, itself, seeker_part, serving, Busy, busy, busy_name, busy_part, thread_part, thread_in_stage, row_part, listed, listed_name, word_subject, word_of, way, ways_of, phase_of, held, held_in_stage}
+use Rattle.run_trace.specs.Stands.{Here, itself, seeker_part, serving, Busy, busy, busy_name, busy_part, thread_part, thread_in_stage, word_subject, word_of, way, ways_of, phase_of, held, held_in_stage}
 use Rattle.run_trace.proofs.Lemmas.{is-true, is-refl}
-use Rattle.trace_laws.proofs.Lists.Arriving.{run_lists_after}
+use Rattle.trace_laws.proofs.Lists.SeatedLabels.{IsShifted, forest_elsewhere}
 use Rattle.run_trace.specs.Causes.{causes}
 use Rattle.run_trace.specs.Talks.{one_send}
 use Rattle.run_trace.specs.World.{World}
 use Rattle.run_trace.specs.Obeying.{Allows, IsBy, IsNext}
-use Rattle.trace_laws.proofs.Underway.Midst.{Speaks, StandsAmid, IsAsBefore, in_turn_kept, turn_words, no_seeker, put_turns, Outset, doing, having_said, Own, beside, Links, Midst, under, LinkStands, Frame, spots_with, labelled, here_kept, agrees_kept, Quiet, Plain, fits, links_kept, Keeps, put_link, Then, updated}
+use Rattle.trace_laws.proofs.Underway.Midst.{Speaks, StandsAmid, IsAsBefore, in_turn_kept, turn_words, no_seeker, put_turns, Outset, GoesOnOnly, doing, having_said, Own, beside, Links, Midst, under, LinkStands, Frame, spots_with, labelled, here_kept, agrees_kept, Quiet, Plain, fits, links_kept, Keeps, put_link, Then, updated}
 use Rattle.trace_laws.proofs.Lists.KeyedLemmas.{kept}
 use Rattle.trace_laws.proofs.Lists.Parts.{thread_was, at_hand, frame_home}
 use Rattle.trace_laws.proofs.Lists.Stages.{is_home, home_way, home_quiet, home_plain}
-use Rattle.run_trace.specs.Items.{Thread as Its, is_busy, is_seeking, doer, goes_on_with, Item, Says, Runs, Does, Serves, Grants, Decides, Ends_turn, Wants_again}
+use Rattle.run_trace.specs.Items.{Thread as Its, is_busy, is_seeking, doer, goes_on_with, Item, Says, Chooses, Does, Serves, Grants, Decides, Ends_turn, Wants_again}
 
 -- the life that a label has given its thread
 pub life_then : (p : Program) (n : ℕ) (v : Spots) (l : Label) (t : Tid) (r : Spot) (u : Spots) → after_label p n l v ≡ u → u.threads ≡ update v.threads t r → ((after_label p n l v).threads t).life ≡ r.life
@@ -38,12 +38,11 @@ life_then p n v l t r u same threads = ap (λ (x : Spots). (x.threads t).life) s
 -- the lists of node n, once t's spot is r
 pub record Ties (n : ℕ) (v : Spots) (t : Tid) (r : Spot) (now : Local) (hand : List Busy) : Type 0 where
   pub threads : MapStandsFor is_tid (thread_part n) now.threads (update v.threads t r)
-  pub rows : StandsFor is_tid listed_name (row_part n) (map listed now.run_lists.rows) (update v.threads t r)
   pub busy : StandsFor is_tid busy_name (busy_part n) hand (update v.threads t r)
 
 -- a label of t that the event's node may say of the world v, and what it leaves as it was
 pub record IsMove (outset : Outset) (due ahead : List Item) (d : EventSoFar) (hand more : List Busy) (l : Label) (t : Tid) (r : Spot) (now : Local) (v : World) : Type 0 where
-  pub same : after_label outset.program outset.node l v.spots ≡ spots_with (update v.spots.threads t r) v.spots.slots v.spots.births v.spots.sems v.spots.halts (remote_after l v.spots.remote)
+  pub same : after_label outset.program outset.node l v.spots ≡ spots_with (update v.spots.threads t r) v.spots.slots v.spots.births v.spots.sems (forests_after outset.program outset.node l v.spots) v.spots.halts (remote_after l v.spots.remote)
   pub may : Allows outset.program (having_said d.labels outset.occasion) outset.node l v
   pub ties : Ties outset.node v.spots t r now more
   pub births : now.births ≡ d.node.births
@@ -53,7 +52,8 @@ pub record IsMove (outset : Outset) (due ahead : List Item) (d : EventSoFar) (ha
   pub next : Own outset.program outset.node l t v.spots due ahead hand more r.life
   pub after : IsAsBefore due ahead
   pub talk : now.talk ≡ d.node.talk
-  pub run_lists : now.run_lists ≡ run_lists_after l v.spots d.node.run_lists
+  pub forest : now.forest ≡ forests_after outset.program outset.node l v.spots outset.node
+  pub shifted : IsShifted outset.node l v.spots
   pub booted : now.booted ≡ d.node.booted
 
 -- what the label sends and prints, and what is on the links then
@@ -93,13 +93,13 @@ pub record IsSent (p : Program) (n : ℕ) (l : Label) (t : Tid) (r : Spot) (to :
 -- an item that says something whatever there is
 abbrev pub is_spoken : Item → Bool
 is_spoken (Says l) = true
-is_spoken (Runs t vp) = true
+is_spoken (Chooses vp) = true
 is_spoken (Does s) = true
 is_spoken _ = false
 
 spoken_front : (n : ℕ) (v : Spots) (i : Item) (is : List Item) → is_spoken i ≡ true → Speaks n v (i ∷ is)
 spoken_front n v (Says l) is e = λ sends talk. refl
-spoken_front n v (Runs t vp) is e = λ sends talk. refl
+spoken_front n v (Chooses vp) is e = λ sends talk. refl
 spoken_front n v (Does s) is e = λ sends talk. refl
 spoken_front n v (Serves t) is e = absurd (cc e)
 spoken_front n v Grants is e = absurd (cc e)
@@ -110,7 +110,7 @@ spoken_front n v Wants_again is e = absurd (cc e)
 -- of turns it says nothing, and serves nobody
 pub after_first : (i : Item) {ahead : List Item} → is_spoken i ≡ true → IsAsBefore (i ∷ ahead) ahead
 after_first (Says l) e = record { turns = refl; wants = refl; serves = refl }
-after_first (Runs t vp) e = record { turns = refl; wants = refl; serves = refl }
+after_first (Chooses vp) e = record { turns = refl; wants = refl; serves = refl }
 after_first (Does s) e = record { turns = refl; wants = refl; serves = refl }
 after_first (Serves t) e = absurd (cc e)
 after_first Grants e = absurd (cc e)
@@ -129,13 +129,13 @@ stands_as {p} {net} {n} {v} {M} {s} {hand} {due} {ahead} same o = record {
 }
 
 -- a label that is the first of what is ahead, after which the event is busy with its thread, or with none
-pub own_starts : {p : Program} {n : ℕ} {ahead : List Item} {i : Item} {v : Spots} {t : Tid} {l : Label} {new next : Life} → IsBy n l v i → is_spoken i ≡ true → goes_on_with p n l v ≡ Its t ∷ [] → is_busy n new ≡ true
+pub own_starts : {p : Program} {n : ℕ} {ahead : List Item} {i : Item} {v : Spots} {t : Tid} {l : Label} {new next : Life} → IsBy n l v i → is_spoken i ≡ true → goes_on_with p n l v ≡ Its t ∷ [] → GoesOnOnly p n l v → is_busy n new ≡ true
     → Own p n l t v (i ∷ ahead) ahead [] (busy t next ∷ []) new
-own_starts {n = n} {ahead} {i} {v} by spoken on busied = record { heir = on; front = spoken_front n v i ahead spoken; next = by; still = rw busied refl }
+own_starts {n = n} {ahead} {i} {v} by spoken on only busied = record { heir = on; only = only; front = spoken_front n v i ahead spoken; next = by; still = rw busied refl }
 
-pub own_alone : {p : Program} {n : ℕ} {ahead : List Item} {i : Item} {v : Spots} {t : Tid} {l : Label} {new : Life} → IsBy n l v i → is_spoken i ≡ true → goes_on_with p n l v ≡ Its t ∷ [] → is_busy n new ≡ false → is_seeking n new ≡ false
+pub own_alone : {p : Program} {n : ℕ} {ahead : List Item} {i : Item} {v : Spots} {t : Tid} {l : Label} {new : Life} → IsBy n l v i → is_spoken i ≡ true → goes_on_with p n l v ≡ Its t ∷ [] → GoesOnOnly p n l v → is_busy n new ≡ false → is_seeking n new ≡ false
     → Own p n l t v (i ∷ ahead) ahead [] [] new
-own_alone {n = n} {ahead} {i} {v} by spoken on idle rests = record { heir = on; front = spoken_front n v i ahead spoken; next = by; still = rw (idle, rests) refl }
+own_alone {n = n} {ahead} {i} {v} by spoken on only idle rests = record { heir = on; only = only; front = spoken_front n v i ahead spoken; next = by; still = rw (idle, rests) refl }
 
 -- the threads that seek slots, where one has a new spot that seeks none, before or after
 pub seekers_kept : (n : ℕ) {xs ys : List Tid} (w : Tid → Spot) (t : Tid) (r : Spot) → StandsFor is_tid itself (seeker_part n) xs w → ys ≡ xs → is_seeking n (w t).life ≡ false → is_seeking n r.life ≡ false
@@ -157,11 +157,11 @@ module _ {outset : Outset} {ahead : List Item} where
       → Then outset ahead M m.now l (record { node = now; labels = d.labels ++ l ∷ []; sends = sends; prints = prints }) more
   moved {due} {L} {d} {sends = sends} M more l t r now m move carried seen =
       let v : Spots = m.now.spots in
-      labelled M more l (spots_with (update v.threads t r) v.slots v.births v.sems v.halts (remote_after l v.remote)) now m move.same move.may carried.sent carried.shown
+      labelled M more l (spots_with (update v.threads t r) v.slots v.births v.sems (forests_after p n l v) v.halts (remote_after l v.remote)) now m move.same move.may carried.sent carried.shown
       (record {
         here = record {
           threads = move.ties.threads;
-          rows = move.ties.rows;
+          forest = move.forest;
           busy = move.ties.busy;
           seekers = seekers_kept n v.threads t r m.here.seekers (ap (λ (z : List Tid). z ++ now.talk.claims) move.after.serves ∙ ap (λ z. serving due ++ z.claims) move.talk) (seen.quiet.seeks n) (seen.whole.seeks n);
           births = move.births ∙ m.here.births;
@@ -169,12 +169,12 @@ module _ {outset : Outset} {ahead : List Item} where
           free = λ x. ap (λ (xs : List ℕ). has x xs) move.free ∙ m.here.free x;
           halted = move.halted ∙ m.here.halted;
         };
-        there = λ k e. here_kept k v t r (net.nodes k) [] [] (m.there k e) (seen.frame k e) refl refl (λ x. refl) refl;
+        there = λ k e. here_kept k v t r (net.nodes k) [] [] (m.there k e) (seen.frame k e) refl refl (forest_elsewhere p n l v k e) (λ x. refl) refl;
         links = carried.links;
         turns = in_turn_kept net n _ _ (under n L d.sends) (under n M sends) due ahead m.turns move.talk carried.turns move.after.turns move.after.wants;
         agrees = agrees_kept p v t r v.halts m.agrees seen.phase seen.quiet seen.holds (fits seen.whole) (λ j k. seen.whole.queues j k t) (λ k e. e);
       })
-      (beside move.next (life_then p n v l t r _ move.same refl) move.run_lists move.booted move.talk)
+      (beside move.next (life_then p n v l t r _ move.same refl) move.shifted move.booted move.talk)
 
   -- a label that leaves its thread on node n, and no packet
   pub home_step : {due : List Item} {L : Links} {d : EventSoFar} {hand : List Busy} (more : List Busy) (l : Label) (t : Tid) (r : Spot) (now : Local) (a b : Stage)
@@ -230,13 +230,13 @@ module _ {outset : Outset} {ahead : List Item} where
   own_next l m by = (by, (at_front m).1)
 
   -- a label of the thread in hand, which stays there, or is let go
-  pub own_stays : {L : Links} {d : EventSoFar} {t : Tid} {life : Life} {hs : List Busy} {l : Label} {new next : Life} → (m : Midst outset ahead L d (busy t life ∷ hs)) → doer l ≡ Some (Its t) → goes_on_with p n l m.now.spots ≡ Its t ∷ [] → is_busy n new ≡ true
+  pub own_stays : {L : Links} {d : EventSoFar} {t : Tid} {life : Life} {hs : List Busy} {l : Label} {new next : Life} → (m : Midst outset ahead L d (busy t life ∷ hs)) → doer l ≡ Some (Its t) → goes_on_with p n l m.now.spots ≡ Its t ∷ [] → GoesOnOnly p n l m.now.spots → is_busy n new ≡ true
       → Own p n l t m.now.spots ahead ahead (busy t life ∷ hs) (busy t next ∷ hs) new
-  own_stays m by on busied = record { heir = on; front = λ sends talk. refl; next = (by, (at_front m).1); still = rw busied refl }
+  own_stays m by on only busied = record { heir = on; only = only; front = λ sends talk. refl; next = (by, (at_front m).1); still = rw busied refl }
 
-  pub own_goes : {L : Links} {d : EventSoFar} {t : Tid} {life : Life} {hs : List Busy} {l : Label} {new : Life} → (m : Midst outset ahead L d (busy t life ∷ hs)) → doer l ≡ Some (Its t) → goes_on_with p n l m.now.spots ≡ Its t ∷ [] → is_busy n new ≡ false → is_seeking n new ≡ false
+  pub own_goes : {L : Links} {d : EventSoFar} {t : Tid} {life : Life} {hs : List Busy} {l : Label} {new : Life} → (m : Midst outset ahead L d (busy t life ∷ hs)) → doer l ≡ Some (Its t) → goes_on_with p n l m.now.spots ≡ Its t ∷ [] → GoesOnOnly p n l m.now.spots → is_busy n new ≡ false → is_seeking n new ≡ false
       → Own p n l t m.now.spots ahead ahead (busy t life ∷ hs) hs new
-  own_goes m by on idle rests = record { heir = on; front = λ sends talk. refl; next = (by, (at_front m).1); still = rw (idle, rests) refl }
+  own_goes m by on only idle rests = record { heir = on; only = only; front = λ sends talk. refl; next = (by, (at_front m).1); still = rw (idle, rests) refl }
 
   -- a step of the thread, as it is on the node
   pub at_ok : {due : List Item} {L : Links} (d : EventSoFar) {hand : List Busy} (more : List Busy) (t : Tid) (a : Stage) (step : Thread → EventSoFar → EventSoFar) → (m : Midst outset due L d hand) → (m.now.spots.threads t).life ≡ On n a

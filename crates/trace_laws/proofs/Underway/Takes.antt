@@ -1,5 +1,5 @@
 -- What a packet brings, on an event in its midst. L are the links before the packet is taken.
-use Rattle.std.proofs.Common.{◌≡◌, ℕ, List, [], ◌∷◌, Option, Some, None, Bool, true, false, eqb, cond, refl, sym, ap, ◌∙◌, subst, map}
+use Rattle.std.proofs.Common.{◌≡◌, ℕ, List, [], ◌∷◌, Option, Some, None, Bool, true, false, eqb, cond, refl, sym, ap, ◌∙◌, subst}
 use Rattle.std.specs.Prelude.{slice_get, nat_lt, not}
 use Rattle.std.specs.List.{list_all}
 use Rattle.std.specs.Map.{lookup}
@@ -22,17 +22,18 @@ use Rattle.run_trace.specs.Names.{is_tid, tid_cmp}
 use Rattle.run_trace.specs.Program.{nodes_of}
 use Rattle.run_trace.specs.Guests.{Guest, waits, told, guest_slots, packed}
 use Rattle.run_trace.specs.Local.{Local, EventSoFar, nothing}
-use Rattle.run_trace.specs.Steps.{say, put, print, arrive, keep, thread_in, comes, tell, tell_found, reply_by_link, shows, acknowledges, line_of}
+use Rattle.bubbles.specs.Forests.{enters, goes_on}
+use Rattle.run_trace.specs.Steps.{say, put, print, enter, arrive, keep, thread_in, comes, tell, tell_found, reply_by_link, shows, acknowledges, line_of}
 use Rattle.run_trace.specs.Machine.{may_come, lives_yet, are_away}
 use Rattle.run_trace.specs.Keyed.{AreDistinct}
-use Rattle.run_trace.specs.Spots.{Stage, Ready, Shows, Showing, Shown_there, Answers, Answered, On, Moving, Spot, Spots, Of_thread, is_free, update, shown_life, judged_life, judged_guest, told_stage, second_of}
+use Rattle.run_trace.specs.Spots.{Stage, Ready, Shows, Showing, Shown_there, Answers, Answered, On, Moving, Spot, Spots, Of_thread, is_free, update, shown_life, judged_life, judged_guest, told_stage, second_of, forests_after}
 use Rattle.run_trace.specs.Rules.{MayTell}
 use Rattle.run_trace.specs.Console.{asked_bytes}
-use Rattle.run_trace.specs.Stands.{Busy, busy, busy_name, busy_part, thread_part, thread_in_life, row_part, row_in_life, listed, listed_name, Word, Travels, Line, Line_shown, way, ways_of, phase_of, phase_at, During, held, slots_held, is_thread, words_about, AreInTurn}
+use Rattle.run_trace.specs.Stands.{Busy, busy, busy_name, busy_part, thread_part, thread_in_life, Word, Travels, Line, Line_shown, way, ways_of, phase_of, phase_at, During, held, slots_held, is_thread, words_about, AreInTurn}
 use Rattle.run_trace.proofs.Lemmas.{is-true, is-refl}
 use Rattle.trace_laws.proofs.Lists.KeyedLemmas.{kept, fronted, unfronted, map_kept, map_set, map_added}
-use Rattle.trace_laws.proofs.Underway.Midst.{talks_amid, to_do_amid, in_turn_kept, turn_words, none_under, take_turns, under, as_before, Outset, links_less, Links, Midst, quiet, plain, plain_quiet, keeps, LinkStands, spots_with, take_link, nothing_sent, nothing_sent_from}
-use Rattle.trace_laws.proofs.Lists.Parts.{both_idle, thread_holds, rows_arrived, away_thread, away_row, busy_none, thread_was, row_was}
+use Rattle.trace_laws.proofs.Underway.Midst.{talks_amid, to_do_amid, in_turn_kept, turn_words, none_under, take_turns, under, as_before, Outset, links_less, Links, Midst, quiet, plain, plain_quiet, keeps, LinkStands, spots_with, own_forest, take_link, nothing_sent, nothing_sent_from}
+use Rattle.trace_laws.proofs.Lists.Parts.{both_idle, thread_holds, away_thread, busy_none, thread_was}
 use Rattle.trace_laws.proofs.Lists.Stages.{StandsWaiting}
 use Rattle.trace_laws.proofs.Outcomes.Consequences.{OnNode, on_node_is}
 use Rattle.trace_laws.proofs.Underway.Steps.{after_first, own_goes, moved, send_step, in_hand, busy_in_hand}
@@ -97,11 +98,10 @@ module _ {outset : Outset} {ahead : List Item} {L : Links} where
       let here_busy : is_busy n (On from Showing) ≡ true = eq-eqb 0 n (sym zero) in
       (moved (links_less n L from t) (busy t (On from Showing) ∷ []) (Shown t) t r s m
       (record {
-        same = ap (λ z. spots_with (update m.now.spots.threads t (record o { life = shown_life z })) m.now.spots.slots m.now.spots.births m.now.spots.sems m.now.spots.halts m.now.spots.remote) x;
+        same = ap (λ z. spots_with (update m.now.spots.threads t (record o { life = shown_life z })) m.now.spots.slots m.now.spots.births m.now.spots.sems m.now.spots.forests m.now.spots.halts m.now.spots.remote) x;
         may = record { solo = tt; holders = tt; life = rw x zero; replies = tt; grants = tt };
         ties = record {
           threads = map_kept is_tid is-true is-refl (thread_part n) m.now.spots.threads t r s.threads m.here.threads (sym (ap (λ z. thread_in_life n z o.guest) x));
-          rows = kept is_tid is-true is-refl listed_name (row_part n) m.now.spots.threads t r (map listed s.run_lists.rows) m.here.rows (sym (ap (λ z. row_in_life n t z o.guest.priority) x));
           busy = fronted is_tid is-true is-refl busy_name (busy_part n) m.now.spots.threads t r [] (busy t (On from Showing)) m.here.busy refl (busy_none n t o (On from (Shows bytes)) x refl) (rw here_busy refl);
         };
         births = refl;
@@ -110,8 +110,9 @@ module _ {outset : Outset} {ahead : List Item} {L : Links} where
         halted = refl;
         after = after_first (Says (Shown t)) refl;
         talk = refl;
-        next = record { heir = refl; front = λ sends talk. refl; next = refl; still = rw here_busy refl };
-        run_lists = refl;
+        next = record { heir = refl; only = tt; front = λ sends talk. refl; next = refl; still = rw here_busy refl };
+        forest = m.here.forest;
+        shifted = tt;
         booted = refl;
       })
       (record {
@@ -123,7 +124,6 @@ module _ {outset : Outset} {ahead : List Item} {L : Links} where
       (record {
         frame = λ k e. record {
           thread = sym (ap (λ z. thread_in_life k z o.guest) x);
-          row = sym (ap (λ z. row_in_life k t z o.guest.priority) x);
           busy = busy_none k t r (On from Showing) refl (ap (λ z. eqb z k) (sym zero) ∙ e) ∙ sym (busy_none k t o (On from (Shows bytes)) x refl);
           seeker = both_idle k t o r (ap (is_seeking k) x) refl;
         };
@@ -147,11 +147,10 @@ module _ {outset : Outset} {ahead : List Item} {L : Links} where
       subst (λ f. Midst outset ahead (links_less n L from t) (tell_found t o.verdict.code (second_of o.verdict.extra) f (nothing s)) []) (sym (m.here.threads.shows t ∙ thread_was n t o a x ∙ still.thread))
       (moved (links_less n L from t) [] (Told t) t r _ m
       (record {
-        same = ap (λ z. spots_with (update m.now.spots.threads t (record o { life = On n z; guest = g })) m.now.spots.slots m.now.spots.births m.now.spots.sems m.now.spots.halts m.now.spots.remote) (ap told_stage x ∙ next);
+        same = ap (λ z. spots_with (update m.now.spots.threads t (record o { life = On n z; guest = g })) m.now.spots.slots m.now.spots.births m.now.spots.sems (forests_after p n (Told t) m.now.spots) m.now.spots.halts m.now.spots.remote) (ap told_stage x ∙ next);
         may = record { solo = tt; holders = tt; life = subst (λ z. MayTell n z) (sym x) may; replies = tt; grants = tt };
         ties = record {
           threads = map_set is_tid is-true is-refl (thread_part n) m.now.spots.threads t r s.threads (waits waiting o.guest) (waits wait.No g) m.here.threads (thread_was n t o a x ∙ still.thread) (thread_was n t r Ready refl);
-          rows = rows_arrived n m.now.spots.threads t r s.run_lists m.here.rows (row_was n t o a x ∙ still.row) (row_was n t r Ready refl);
           busy = kept is_tid is-true is-refl busy_name (busy_part n) m.now.spots.threads t r [] m.here.busy (busy_none n t r (On n Ready) refl refl ∙ sym (busy_none n t o (On n a) x (still.idle n)));
         };
         births = refl;
@@ -160,8 +159,9 @@ module _ {outset : Outset} {ahead : List Item} {L : Links} where
         halted = refl;
         after = after_first (Says (Told t)) refl;
         talk = refl;
-        next = record { heir = refl; front = λ sends talk. refl; next = refl; still = refl };
-        run_lists = refl;
+        next = record { heir = refl; only = tt; front = λ sends talk. refl; next = refl; still = refl };
+        forest = ap (goes_on t) m.here.forest ∙ own_forest m.now.spots.forests n (goes_on t (m.now.spots.forests n));
+        shifted = tt;
         booted = refl;
       })
       (record {
@@ -173,7 +173,6 @@ module _ {outset : Outset} {ahead : List Item} {L : Links} where
       (record {
         frame = λ k e. record {
           thread = away_thread n k t r Ready refl e ∙ sym (away_thread n k t o a x e);
-          row = away_row n k t r Ready refl e ∙ sym (away_row n k t o a x e);
           busy = busy_none k t r (On n Ready) refl refl ∙ sym (busy_none k t o (On n a) x (still.idle k));
           seeker = both_idle k t o r ((quiet x (plain_quiet n a still.plain)).seeks k) refl;
         };
@@ -195,11 +194,10 @@ module _ {outset : Outset} {ahead : List Item} {L : Links} where
       let r : Spot = record o { life = On at Shown_there; verdict = record { code = 0; extra = Nothing } } in
       (send_step hs (Judged t 0 Nothing) t r d.node at (ShowDone t) m
       (record {
-        same = ap (λ z. spots_with (update v.threads t (record { life = judged_life z; guest = judged_guest z o.guest; verdict = record { code = 0; extra = Nothing } })) v.slots v.births v.sems v.halts v.remote) x;
+        same = ap (λ z. spots_with (update v.threads t (record { life = judged_life z; guest = judged_guest z o.guest; verdict = record { code = 0; extra = Nothing } })) v.slots v.births v.sems v.forests v.halts v.remote) x;
         may = record { solo = tt; holders = tt; life = rw x (sym zero); replies = rw x (refl, refl); grants = tt };
         ties = record {
           threads = map_kept is_tid is-true is-refl (thread_part n) v.threads t r d.node.threads m.here.threads (sym (ap (λ z. thread_in_life n z o.guest) x));
-          rows = kept is_tid is-true is-refl listed_name (row_part n) v.threads t r (map listed d.node.run_lists.rows) m.here.rows (sym (ap (λ z. row_in_life n t z o.guest.priority) x));
           busy = unfronted is_tid is-true is-refl busy_name (busy_part n) v.threads t r hs (busy t (On at Showing)) m.here.busy refl refl;
         };
         births = refl;
@@ -208,8 +206,9 @@ module _ {outset : Outset} {ahead : List Item} {L : Links} where
         halted = refl;
         after = as_before;
         talk = refl;
-        next = own_goes m refl refl refl refl;
-        run_lists = refl;
+        next = own_goes m refl refl tt refl refl;
+        forest = m.here.forest;
+        shifted = tt;
         booted = refl;
       })
       (record {
@@ -222,7 +221,6 @@ module _ {outset : Outset} {ahead : List Item} {L : Links} where
       (record {
         frame = λ k e. record {
           thread = sym (ap (λ z. thread_in_life k z o.guest) x);
-          row = sym (ap (λ z. row_in_life k t z o.guest.priority) x);
           busy = sym (busy_none k t o (On at Showing) x (ap (λ z. eqb z k) zero ∙ e));
           seeker = both_idle k t o r (ap (is_seeking k) x) refl;
         };
@@ -241,11 +239,10 @@ module _ {outset : Outset} {ahead : List Item} {L : Links} where
       let r : Spot = record o { life = On at (Answered n); verdict = record { code = reply_code reply; extra = extra_of second } } in
       (send_step hs (Judged t (reply_code reply) (extra_of second)) t r d.node at (Answer t reply second) m
       (record {
-        same = ap (λ z. spots_with (update v.threads t (record { life = judged_life z; guest = judged_guest z o.guest; verdict = record { code = reply_code reply; extra = extra_of second } })) v.slots v.births v.sems v.halts v.remote) x;
+        same = ap (λ z. spots_with (update v.threads t (record { life = judged_life z; guest = judged_guest z o.guest; verdict = record { code = reply_code reply; extra = extra_of second } })) v.slots v.births v.sems v.forests v.halts v.remote) x;
         may = record { solo = tt; holders = tt; life = rw x refl; replies = rw x (refl, refl); grants = tt };
         ties = record {
           threads = map_kept is_tid is-true is-refl (thread_part n) v.threads t r d.node.threads m.here.threads (sym (ap (λ z. thread_in_life n z o.guest) x));
-          rows = kept is_tid is-true is-refl listed_name (row_part n) v.threads t r (map listed d.node.run_lists.rows) m.here.rows (sym (ap (λ z. row_in_life n t z o.guest.priority) x));
           busy = unfronted is_tid is-true is-refl busy_name (busy_part n) v.threads t r hs (busy t (On at (Answers n reply second))) m.here.busy refl refl;
         };
         births = refl;
@@ -254,8 +251,9 @@ module _ {outset : Outset} {ahead : List Item} {L : Links} where
         halted = refl;
         after = as_before;
         talk = refl;
-        next = own_goes m refl refl refl refl;
-        run_lists = refl;
+        next = own_goes m refl refl tt refl refl;
+        forest = m.here.forest;
+        shifted = tt;
         booted = refl;
       })
       (record {
@@ -268,7 +266,6 @@ module _ {outset : Outset} {ahead : List Item} {L : Links} where
       (record {
         frame = λ k e. record {
           thread = sym (ap (λ z. thread_in_life k z o.guest) x);
-          row = sym (ap (λ z. row_in_life k t z o.guest.priority) x);
           busy = sym (busy_none k t o (On at (Answers n reply second)) x e);
           seeker = both_idle k t o r (ap (is_seeking k) x) refl;
         };
@@ -315,7 +312,7 @@ module _ {outset : Outset} {ahead : List Item} {L : Links} where
       ] refl
 
   pub comes_ok : (s : Local) (from : ℕ) (t : Tid) → (m : Midst outset (Says (Came t) ∷ ahead) L (nothing s) []) → (m.now.spots.threads t).life ≡ Moving from n → Midst outset ahead (links_less n L from t) (comes (packed t (m.now.spots.threads t).guest) (nothing s)) []
-  unfolding comes arrive thread_in say
+  unfolding comes enter thread_in say
   comes_ok s from t m x =
       let o : Spot = m.now.spots.threads t in
       let r : Spot = record o { life = On n Ready } in
@@ -325,7 +322,6 @@ module _ {outset : Outset} {ahead : List Item} {L : Links} where
         may = record { solo = tt; holders = tt; life = rw x refl; replies = tt; grants = tt };
         ties = record {
           threads = map_added is_tid is-true is-refl tid_cmp (λ a b. refl) (thread_part n) m.now.spots.threads t r s.threads (waits wait.No o.guest) m.here.threads (ap (λ z. thread_in_life n z o.guest) x) (thread_was n t r Ready refl);
-          rows = rows_arrived n m.now.spots.threads t r s.run_lists m.here.rows (ap (λ z. row_in_life n t z o.guest.priority) x) (row_was n t r Ready refl);
           busy = kept is_tid is-true is-refl busy_name (busy_part n) m.now.spots.threads t r [] m.here.busy (busy_none n t r (On n Ready) refl refl ∙ sym (busy_none n t o (Moving from n) x refl));
         };
         births = refl;
@@ -334,8 +330,9 @@ module _ {outset : Outset} {ahead : List Item} {L : Links} where
         halted = refl;
         after = after_first (Says (Came t)) refl;
         talk = refl;
-        next = record { heir = refl; front = λ sends talk. refl; next = refl; still = refl };
-        run_lists = refl;
+        next = record { heir = refl; only = tt; front = λ sends talk. refl; next = refl; still = refl };
+        forest = ap (enters t o.guest.priority None) m.here.forest ∙ own_forest m.now.spots.forests n (enters t o.guest.priority None (m.now.spots.forests n));
+        shifted = tt;
         booted = refl;
       })
       (record {
@@ -347,7 +344,6 @@ module _ {outset : Outset} {ahead : List Item} {L : Links} where
       (record {
         frame = λ k e. record {
           thread = away_thread n k t r Ready refl e ∙ sym (ap (λ z. thread_in_life k z o.guest) x);
-          row = away_row n k t r Ready refl e ∙ sym (ap (λ z. row_in_life k t z o.guest.priority) x);
           busy = busy_none k t r (On n Ready) refl refl ∙ sym (busy_none k t o (Moving from n) x refl);
           seeker = both_idle k t o r (ap (is_seeking k) x) refl;
         };

@@ -18,7 +18,6 @@ use Rattle.run_trace.specs.Items.{Item, Serves, Grants, Decides, Ends_turn, Want
 use Rattle.run_trace.specs.Names.{is_tid}
 use Rattle.run_trace.specs.Program.{Program}
 use Rattle.run_trace.specs.Rules.{Occasion}
-use Rattle.run_trace.specs.RunLists.{IsRising}
 use Rattle.run_trace.specs.Cluster.{Net}
 use Rattle.run_trace.specs.Local.{EventSoFar, nothing}
 use Rattle.run_trace.specs.Steps.{speaks, thread_at}
@@ -26,7 +25,8 @@ use Rattle.run_trace.specs.Machine.{accepts, is_stray, has_run_for, claims, ends
 use Rattle.run_trace.specs.Spots.{Seeks, On, its_call, Spots}
 use Rattle.run_trace.specs.World.{World}
 use Rattle.run_trace.specs.Keyed.{StandsFor}
-use Rattle.run_trace.specs.Stands.{Busy, Here, Agrees, some_of, turns_among, wants_among, A_want, A_turn, An_over, Word, word_subject, word_of, words_about, itself, seeker_part, serving, AreInTurn}
+use Rattle.bubbles.specs.Covering.{AreCovered}
+use Rattle.run_trace.specs.Stands.{Busy, Here, Agrees, AreSeated, some_of, turns_among, wants_among, A_want, A_turn, An_over, Word, word_subject, word_of, words_about, itself, seeker_part, serving, AreInTurn}
 use Rattle.run_trace.proofs.Lemmas.{is-true, is-refl}
 use Rattle.trace_laws.proofs.Lists.KeyedLemmas.{rotated, raised}
 use Rattle.trace_laws.proofs.Lists.Subjects.{about-append, about-less_other, less_word}
@@ -132,7 +132,7 @@ module _ {outset : Outset} {due ahead : List Item} {L : Links} where
       prints = m.prints;
       here = record {
         threads = m.here.threads;
-        rows = m.here.rows;
+        forest = m.here.forest;
         busy = m.here.busy;
         seekers = seekers;
         births = m.here.births;
@@ -146,11 +146,11 @@ module _ {outset : Outset} {due ahead : List Item} {L : Links} where
           ∙ append-nil (words_about (under n L d.sends i j) (Thread t)) ∙ m.links i j t;
       turns = in_turn;
       agrees = m.agrees;
+      seated = m.seated;
+      covered = m.covered;
       aside = record {
-        run_lists = m.aside.run_lists;
         still = m.aside.still ∙ subst (λ (v : Spots). works_off n v due d.sends d.node.talk ≡ works_off n v ahead (d.sends ++ sends) kept) (ap (λ z. z.spots) m.told) works;
         next = m.aside.next;
-        rising = m.aside.rising;
         booted = m.aside.booted;
       };
     },
@@ -261,7 +261,8 @@ pub record StandsBefore (p : Program) (net : Net) (n : ℕ) (v : Spots) (L : Lin
   pub links : (i j : ℕ) → LinkStands i j (L i j) v.threads
   pub turns : AreInTurn (λ k. (net.nodes k).talk) (turn_words L) (λ k. [])
   pub agrees : Agrees p v
-  pub rising : IsRising (net.nodes n).run_lists
+  pub seated : (k : ℕ) → AreSeated p k v
+  pub covered : (k : ℕ) → AreCovered (v.forests k)
 
 module _ (p : Program) (net : Net) (q : Occasion) (n : ℕ) (w : World) (L : Links) (before : StandsBefore p net n w.spots L) where
   abbrev pub opened_with : List Send → List Item → Talk → Outset
@@ -279,7 +280,7 @@ module _ (p : Program) (net : Net) (q : Occasion) (n : ℕ) (w : World) (L : Lin
     prints = refl;
     here = record {
       threads = here.threads;
-      rows = here.rows;
+      forest = here.forest;
       busy = here.busy;
       seekers = subst (λ xs. StandsFor is_tid itself (seeker_part n) xs w.spots.threads) (sym (ap (λ xs. xs ++ kept.claims) served ∙ claims)) here.seekers;
       births = here.births;
@@ -293,7 +294,9 @@ module _ (p : Program) (net : Net) (q : Occasion) (n : ℕ) (w : World) (L : Lin
         ∙ append-nil (words_about (M i j) (Thread t)) ∙ took_threads from n L i j t ∙ before.links i j t;
     turns = in_turn;
     agrees = before.agrees;
-    aside = record { run_lists = refl; still = refl; next = tt; rising = before.rising; booted = λ h. h };
+    seated = before.seated;
+    covered = before.covered;
+    aside = record { still = refl; next = tt; booted = λ h. h };
   }
     where
       M : Links

@@ -1,6 +1,6 @@
 use Rattle.std.proofs.Common.{◌≡◌, ◌+◌, ◌∙◌, subst, sym, ap, arith, Some}
 use Rattle.std.specs.Prelude.{slice_get}
-use Rattle.std.proofs.lemmas.Option.{slice_get-get_or, slice_get_within}
+use Rattle.std.proofs.lemmas.Option.{slice_get-get_or}
 use Rattle.node_loop.specs.View.{NodeView}
 use Rattle.cluster.proofs.Picks.{HasCounted, counted_more, counted_all}
 use Rattle.cluster.proofs.choosing.count_all.Goals as goal
@@ -10,10 +10,7 @@ loop-node-preserved c =
     let x = c.node-item.result in
     let at : slice_get c.args.nodes.now c.loop-node.node-index ≡ Some x = slice_get-get_or c.args.nodes.now c.loop-node.node-index x c.loop-node-test.true ∙ ap (λ (v : NodeView). Some v) (sym c.node-item.is) in
     subst (λ total. HasCounted c.args.moves c.args.nodes.now (c.loop-node.node-index + 1) total) (sym c.saturating_add-total.ensures)
-    (counted_more c.args.moves c.args.nodes.now c.loop-node.node-index c.loop-node.total c.count_of.result x c.loop-node.invariant at c.count_of.ensures.count c.count_of.ensures.ordered)
+    (counted_more c.args.moves c.args.nodes.now c.loop-node.node-index c.loop-node.total c.count_of.result x c.loop-node.invariant at c.count_of.ensures)
 
-pub returns-clause-count : goal.returns-clause-count
-returns-clause-count c = counted_all c.args.moves c.args.nodes.now c.loop-node.node-index c.loop-node.total c.loop-node.invariant (omega arith)
-
-pub returns-clause-ordered : goal.returns-clause-ordered
-returns-clause-ordered c n v at = c.loop-node.invariant.ordered n v (let inside = slice_get_within c.args.nodes.now n v at in omega (arith, inside)) at
+pub returns : goal.returns
+returns c = counted_all c.args.moves c.args.nodes.now c.loop-node.node-index c.loop-node.total c.loop-node.invariant (omega arith)

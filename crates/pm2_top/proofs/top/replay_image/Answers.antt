@@ -17,7 +17,7 @@ returns-clause-replayed g c =
     subst (λ r. HasReplayed (chosen c.args.asked.now) r c.args.image c.args.wires (g.K.Sink.written c.args.out.now) (g.K.Sink.written c.replay.new.out) c.of_run.result) (sym c.in-Ok.ensures.reads)
     (inr (record {
       setup = c.args.asked.now.setup;
-      cluster = record { nodes = refl; slots = refl; quantum = refl };
+      cluster = record { nodes = refl; slots = refl; tree = refl; quantum = refl };
       run = c.replay.result;
       ran = subst (λ (acts : List Scheduled). Follows (program c.args.asked.now.setup c.args.image) acts c.replay.result) c.as_slice.ensures c.replay.ensures.replayed;
       shows = c.replay.ensures.shown;

@@ -1,5 +1,0 @@
-pub mod Lemmas
-pub mod Sorted
-pub mod OfRows
-pub mod Rows
-pub mod Tops

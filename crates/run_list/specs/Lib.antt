@@ -1,4 +1,0 @@
-pub mod Sorted
-pub mod Names
-pub mod Views
-pub mod Tops
